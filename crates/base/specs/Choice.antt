@@ -1,0 +1,70 @@
+-- Choice by a test.
+--   choose b x y   == x if the test b passed, y if not
+--   bit b          == 1 if the test b passed, 0 if not
+-- Each law is named choose-.., bit-.. after its definition. Assumes nothing.
+use Prim.Native.Nat.{ℕ, _≤_, _+_, _*_}
+use mathlib.Core.Bool.{Bool, true, false, not, _&&_, _||_}
+use mathlib.Core.Path.{_≡_, refl, sym, subst}
+use mathlib.Core.Logic.{_⊎_, inl, inr}
+use lib.Dec.{T, eqb, eqb→eq}
+use borrow.Author.Tests.{eqb-true, eqb-false}
+use native.Mathlib.Omega.{arith}
+
+module _ {ℓ} {A : Type ℓ} where
+  abbrev pub choose : Bool → A → A → A
+  choose true x y = x
+  choose false x y = y
+
+abbrev pub bit : Bool → ℕ
+bit true = 1
+bit false = 0
+
+pub bit-≤1 : (b : Bool) → bit b ≤ 1
+bit-≤1 true = omega arith
+bit-≤1 false = omega arith
+
+-- a test and its value, to be split by clauses in a helper
+pub data Tested (b : Bool) : Type 0 where
+  passed : b ≡ true → Tested b
+  failed : b ≡ false → Tested b
+
+pub tested : (b : Bool) → Tested b
+tested true = passed refl
+tested false = failed refl
+
+-- two numbers are equal or apart, with the test's value
+pub data Same (m n : ℕ) : Type 0 where
+  same : m ≡ n → eqb m n ≡ true → Same m n
+  apart : (m ≡ n → ⊥) → eqb m n ≡ false → Same m n
+
+sameBy : (m n : ℕ) (b : Bool) → eqb m n ≡ b → Same m n
+sameBy m n true e = same (eqb-true m n e) e
+sameBy m n false e = apart (eqb-false m n e) e
+
+pub same? : (m n : ℕ) → Same m n
+same? m n = sameBy m n (eqb m n) refl
+
+-- both of two tests, from their conjunction, and back
+pub and-left : (a b : Bool) → (a && b) ≡ true → a ≡ true
+and-left true b e = refl
+and-left false b e = e
+
+pub and-right : (a b : Bool) → (a && b) ≡ true → b ≡ true
+and-right true b e = e
+and-right false b e = elim b [ true ↦ refl | false ↦ e ]
+
+pub and-both : (a b : Bool) → a ≡ true → b ≡ true → (a && b) ≡ true
+and-both true b p q = q
+and-both false b p q = p
+
+pub or-cases : (a b : Bool) → (a || b) ≡ true → (a ≡ true) ⊎ (b ≡ true)
+or-cases true b e = inl refl
+or-cases false b e = inr e
+
+pub or-left : (a b : Bool) → a ≡ true → (a || b) ≡ true
+or-left true b p = refl
+or-left false b p = elim b [ true ↦ refl | false ↦ p ]
+
+pub or-right : (a b : Bool) → b ≡ true → (a || b) ≡ true
+or-right true b p = refl
+or-right false b p = p

@@ -1,0 +1,158 @@
+-- The flags where nothing waits, and the number of probes: what `Spread` says of the end.
+--   NoneWaits w r       == no message waits on a link between processes
+--   succ-most, prec-most   == at any time the flags are set on reachable and on reaching processes alone
+--   succ-end, prec-end, sub-end   == then the flags say who is reachable, who reaches the start, and who is an outsider
+--   outsiders-sum       == and as many are subordinate as there are outsiders
+--   dOf-sum             == D, by processes
+--   sends-most          == twice the probes sent are at most D
+--   sends-end           == and D where nothing waits
+--   dOf-most            == D is at most 2048
+--   knot-end            == a knot is a start with no outsider
+-- Assumes nothing.
+use Prim.Native.Nat.{ℕ, _+_, _*_, _≤_}
+use mathlib.Core.Bool.{Bool, true, false, not, _&&_, _||_, false≢true, and-true, and-false}
+use mathlib.Core.List.{[]}
+use mathlib.Core.Path.{_≡_, refl, ap, _∙_}
+use mathlib.Core.Logic.{_↔_, ⊎-elim}
+use native.Mathlib.Nat.{eq-zero-or-pos, add-le-add, mul-le-mul-left, mul-le-mul-right}
+use native.Mathlib.Omega.{arith}
+use lib.Dec.{eqb}
+use Rattle.base.specs.Choice.{choose, bit}
+use Rattle.base.specs.Sums.{sumTo, countTo, sumTo-cong, sumTo-add, sumTo-le, sumTo-zero, sumTo-parts, sumTo-swap, allTo-at, allTo-of}
+use Rattle.tables.specs.Waits.{Waits, Sound, outDegree, inDegree, arcCount}
+use Rattle.steps.specs.declared.Message.{Message}
+use Rattle.steps.specs.declared.Process.{Process}
+use Rattle.steps.specs.Step.{newSubordinate}
+use Rattle.checks.specs.Run.{Run}
+use Rattle.checks.specs.Reach.{reaches, inKnot, outsider, outsiders, dOf}
+use Rattle.checks.specs.Lists.{IsProcess}
+use Rattle.ending.specs.Weights.{load, sumOf, sends}
+use Rattle.ending.specs.Invariants.{Tidy, Spread}
+use Rattle.ending.specs.Reachable.{from-in, to-in, reaches-forward, reaches-backward, reaches-P}
+use Rattle.ending.specs.Spreading.{Side, suc-side, pre-side}
+
+abbrev pub NoneWaits : Waits → Run → Type 0
+NoneWaits w r = (a b : ℕ) → IsProcess w a → IsProcess w b → r .link a b ≡ []
+
+-- ---- flags
+
+-- a number that is at most a test, and is not 0 where it passes
+bit-exact : (f : ℕ) (b : Bool) → f ≤ bit b → (b ≡ true → 1 ≤ f) → f ≡ bit b
+bit-exact f true l h = omega (arith, h refl)
+bit-exact f false l h = omega arith
+
+module _ {w : Waits} {flag : Process → ℕ} {μ : Message → ℕ} {e : ℕ → ℕ → Bool} {R : ℕ → Type 0} {r : Run} (sd : Side w flag μ e R r) where
+  -- where nothing waits, whom e leads to has the flag
+  side-next : NoneWaits w r → (i j : ℕ) → IsProcess w i → IsProcess w j → e i j ≡ true → 1 ≤ flag (r .process i) → 1 ≤ flag (r .process j)
+  unfolding load
+  side-next none i j iIn jIn f l = omega (arith, rw (none i j iIn jIn, f) at (sd .kept i j iIn jIn))
+
+  -- a flag is at most the test that says who may have it
+  side-most : (i : ℕ) (b : Bool) → IsProcess w i → flag (r .process i) ≤ 1 → (R i → b ≡ true) → flag (r .process i) ≤ bit b
+  side-most i b iIn l h = ⊎-elim (λ z. omega arith) (λ p. rw (h (sd .may i iIn (omega arith))) l) (eq-zero-or-pos (flag (r .process i)))
+
+module _ {w : Waits} {s : ℕ} {r : Run} (ok : Sound w) (td : Tidy w s r) (sp : Spread w s r) where
+  pub succ-most : (i : ℕ) → IsProcess w i → r .process i .succeeding ≤ bit (reaches w s i)
+  succ-most i iIn = side-most (suc-side sp) i (reaches w s i) iIn (td .succ-bit i iIn) (reaches-P w ok s i (td .start-in) .1)
+
+  pub prec-most : (i : ℕ) → IsProcess w i → r .process i .preceding ≤ bit (reaches w i s)
+  prec-most i iIn = side-most (pre-side sp) i (reaches w i s) iIn (td .prec-bit i iIn) (reaches-P w ok i s iIn .1)
+
+  pub succ-end : NoneWaits w r → (i : ℕ) → IsProcess w i → r .process i .succeeding ≡ bit (reaches w s i)
+  succ-end none i iIn =
+      bit-exact (r .process i .succeeding) (reaches w s i) (succ-most i iIn)
+      (λ y. reaches-forward (λ x. 1 ≤ r .process x .succeeding) (λ a b e. side-next (suc-side sp) none a b (from-in ok a b e) (to-in ok a b e) e) (reaches-P w ok s i (td .start-in) .0 y) (omega arith))
+
+  pub prec-end : NoneWaits w r → (i : ℕ) → IsProcess w i → r .process i .preceding ≡ bit (reaches w i s)
+  prec-end none i iIn =
+      bit-exact (r .process i .preceding) (reaches w i s) (prec-most i iIn)
+      (λ y. reaches-backward (λ x. 1 ≤ r .process x .preceding) (λ a b e. side-next (pre-side sp) none b a (to-in ok a b e) (from-in ok a b e) e) (reaches-P w ok i s iIn .0 y) (omega arith))
+
+  pub sub-end : NoneWaits w r → (i : ℕ) → IsProcess w i → r .process i .subordinate ≡ bit (outsider w s i)
+  unfolding newSubordinate outsider
+  sub-end none i iIn = td .sub-is i iIn ∙ rw (succ-end none i iIn, prec-end none i iIn) (at (reaches w s i) (reaches w i s))
+    where
+      at : (x y : Bool) → choose (eqb (bit x) 1 && eqb (bit y) 0) 1 0 ≡ bit (x && not y)
+      at true true = refl
+      at true false = refl
+      at false true = refl
+      at false false = refl
+
+  pub outsiders-sum : NoneWaits w r → sumOf (w .n) (λ x. x .subordinate) r ≡ outsiders w s
+  unfolding sumOf outsiders countTo
+  outsiders-sum none = sumTo-cong (w .n) (λ i. r .process i .subordinate) (λ i. bit (outsider w s i)) (λ i l u. sub-end none i (l, u))
+
+-- ---- the number of probes
+
+-- a test that does not depend on what is counted is a factor
+count-and : (n : ℕ) (p : ℕ → Bool) (c : Bool) → countTo n (λ k. p k && c) ≡ bit c * countTo n p
+unfolding countTo
+count-and n p true = sumTo-cong n (λ k. bit (p k && true)) (λ k. bit (p k)) (λ k _ _. ap bit (and-true (p k))) ∙ omega arith
+count-and n p false = sumTo-zero n (λ k. bit (p k && false)) (λ k _ _. ap bit (and-false (p k))) ∙ omega arith
+
+-- the order of two counts may be exchanged
+count-swap : (n : ℕ) (p : ℕ → ℕ → Bool) → sumTo n (λ a. countTo n (λ b. p a b)) ≡ sumTo n (λ b. countTo n (λ a. p a b))
+unfolding countTo
+count-swap n p = sumTo-swap n n (λ a b. bit (p a b))
+
+module _ (w : Waits) (s : ℕ) where
+  pub dOf-sum : dOf w s ≡ 2 * sumTo (w .n) (λ i. bit (reaches w s i) * outDegree w i + bit (reaches w i s) * inDegree w i)
+  unfolding dOf outDegree inDegree
+  dOf-sum =
+      let n : ℕ = w .n in
+      let out : ℕ → ℕ = λ i. bit (reaches w s i) * countTo n (λ j. w .waits i j) in
+      let back : ℕ → ℕ = λ i. bit (reaches w i s) * countTo n (λ j. w .waits j i) in
+      let left : sumTo n (λ a. countTo n (λ b. w .waits a b && reaches w s a)) ≡ sumTo n out = sumTo-cong n _ out (λ a _ _. count-and n (λ b. w .waits a b) (reaches w s a)) in
+      let right : sumTo n (λ b. countTo n (λ a. w .waits a b && reaches w b s)) ≡ sumTo n back = sumTo-cong n _ back (λ b _ _. count-and n (λ a. w .waits a b) (reaches w b s)) in
+      omega (arith, count-swap n (λ a b. w .waits a b && reaches w b s), sumTo-add n out back)
+
+  in-sum : sumTo (w .n) (λ i. inDegree w i) ≡ arcCount w
+  unfolding arcCount outDegree inDegree
+  in-sum = count-swap (w .n) (λ i j. w .waits j i)
+
+  -- each of the two sums counts at most all arcs
+  pub dOf-most : Sound w → dOf w s ≤ 2048
+  unfolding arcCount
+  dOf-most ok =
+      let n : ℕ = w .n in
+      let both : ℕ → ℕ = λ i. outDegree w i + inDegree w i in
+      let part : sumTo n (λ i. bit (reaches w s i) * outDegree w i + bit (reaches w i s) * inDegree w i) ≤ sumTo n both = sumTo-le n _ both (λ i _ _. add-le-add (factor (reaches w s i) (outDegree w i)) (factor (reaches w i s) (inDegree w i))) in
+      omega (arith, dOf-sum, sumTo-add n (outDegree w) (inDegree w), in-sum, ok .arcs)
+    where
+      factor : (b : Bool) (v : ℕ) → bit b * v ≤ v
+      factor true v = omega arith
+      factor false v = omega arith
+
+module _ {w : Waits} {s : ℕ} {r : Run} (ok : Sound w) (td : Tidy w s r) (sp : Spread w s r) where
+  pub sends-most : 2 * sends w r ≤ dOf w s
+  unfolding sends
+  sends-most =
+      rw (dOf-sum w s)
+      (mul-le-mul-left 2
+      (sumTo-le (w .n) _ _ (λ i l u. add-le-add (mul-le-mul-right (outDegree w i) (succ-most ok td sp i (l, u))) (mul-le-mul-right (inDegree w i) (prec-most ok td sp i (l, u))))))
+
+  pub sends-end : NoneWaits w r → 2 * sends w r ≡ dOf w s
+  unfolding sends
+  sends-end none =
+      rw (dOf-sum w s)
+      (ap (λ (v : ℕ). 2 * v)
+      (sumTo-cong (w .n) _ _ (λ i l u. rw (succ-end ok td sp none i (l, u), prec-end ok td sp none i (l, u)))))
+
+-- ---- knots
+
+pub knot-end : (w : Waits) (s : ℕ) → (inKnot w s ≡ true) ↔ (outsiders w s ≡ 0)
+unfolding inKnot outsiders outsider countTo
+knot-end w s = (
+  λ k. sumTo-zero (w .n) _ (λ p l u. none (reaches w s p) (reaches w p s) (allTo-at (w .n) (λ p. not (reaches w s p) || reaches w p s) k p l u)),
+  λ z. allTo-of (w .n) _ (λ p l u. all (reaches w s p) (reaches w p s) (sumTo-parts (w .n) (λ p. bit (reaches w s p && not (reaches w p s))) z p l u)),
+)
+  where
+    none : (x y : Bool) → (not x || y) ≡ true → bit (x && not y) ≡ 0
+    none true true e = refl
+    none true false e = absurd (false≢true e)
+    none false y e = refl
+
+    all : (x y : Bool) → bit (x && not y) ≡ 0 → (not x || y) ≡ true
+    all true true e = refl
+    all true false e = absurd (omega arith)
+    all false y e = refl

@@ -1,0 +1,103 @@
+-- The rules of a step: what their callers need of them, and how they are put together.
+--   ranged, lent                == the parts of a record in range, and of what is lent in range
+--   rule1-num, rule1-addable    == rule 1 leaves num as it is, and a sum that can be added to
+--   setSucceeding-addable, setPreceding-addable   == so does rule 2
+--   acknowledgeable             == an acknowledgement in range finds a sum and a num that it can change
+--   rule3-made                  == a turn with the new subordinate and the sum that gained the difference is rule 3's
+--   settled-answer              == where num suffices, settled answers as 01 says: 22, or the step
+-- Assumes nothing.
+use Prim.Native.Nat.{ℕ, _^_, _≤_, _<_}
+use mathlib.Core.Bool.{Bool, true, false, not, _&&_}
+use mathlib.Core.Path.{_≡_, refl, _∙_}
+use lib.Dec.{eqb, leb}
+use lib.IntN.{ℤ}
+use lib.Signed.{mag}
+use mir.Syntax.{w32}
+use mir.Val.{toZ, ofZ}
+use borrow.Author.Tests.{leb-true}
+use Rattle.base.specs.Choice.{choose, Same, same, apart, same?, and-left, and-right}
+use Rattle.steps.specs.declared.Message.{Message}
+use Rattle.steps.specs.declared.Message.the-variants.{Ack}
+use Rattle.steps.specs.declared.Process.{Process}
+use Rattle.steps.specs.declared.Stepped.{Stepped}
+use Rattle.steps.specs.Step.{Turn, Addable, withSubordinate, withCs, small, inRange, countSmall, lentInRange, numSuffices, replyFits, fitting, answer, settled, newSubordinate, gained, rule1, setSucceeding, setPreceding, rule3}
+use Rattle.steps.proofs.Counts.{count-back}
+
+-- the parts of a conjunction of five
+and-five : (a b c d e : Bool) → (a && b && c && d && e) ≡ true → (a ≡ true) × (b ≡ true) × (c ≡ true) × (d ≡ true) × (e ≡ true)
+and-five a b c d e h =
+    let abcd : (a && b && c && d) ≡ true = and-left (a && b && c && d) e h in
+    let abc : (a && b && c) ≡ true = and-left (a && b && c) d abcd in
+    let ab : (a && b) ≡ true = and-left (a && b) c abc in
+    (and-left a b ab, and-right a b ab, and-right (a && b) c abc, and-right (a && b && c) d abcd, and-right (a && b && c && d) e h)
+
+pub record Ranged (x : Process) : Type 0 where
+  pub flag : x .subordinate ≤ 1
+  pub count : small (x .cs) ≡ true
+  pub few : x .num ≤ 256
+
+pub ranged : (x : Process) → inRange x ≡ true → Ranged x
+unfolding inRange
+ranged x e =
+    let h = and-five (leb (x .succeeding) 1) (leb (x .preceding) 1) (leb (x .subordinate) 1) (small (x .cs)) (leb (x .num) 256) e in
+    record { flag = leb-true (x .subordinate) 1 (h .2); count = h .3; few = leb-true (x .num) 256 (h .4) }
+
+pub record Lent (m : Message) (o i : ℕ) (x : Process) : Type 0 where
+  pub process : inRange x ≡ true
+  pub count : countSmall m ≡ true
+  pub out : o ≤ 128
+  pub into : i ≤ 128
+
+pub lent : (m : Message) (o i : ℕ) (x : Process) → lentInRange m o i x ≡ true → Lent m o i x
+unfolding lentInRange
+lent m o i x e =
+    let h = and-five (inRange x) (leb (x .father) 128) (countSmall m) (leb o 128) (leb i 128) e in
+    record { process = h .0; count = h .2; out = leb-true o 128 (h .3); into = leb-true i 128 (h .4) }
+
+pub rule1-num : (p : ℕ) (x : Process) → rule1 p x .process .num ≡ x .num
+unfolding rule1
+rule1-num p x = at (same? (x .num) 0)
+  where
+    at : Same (x .num) 0 → rule1 p x .process .num ≡ x .num
+    at (same _ f) = rw f
+    at (apart _ f) = rw f
+
+pub rule1-addable : (p : ℕ) (x : Process) → Ranged x → Addable (rule1 p x .process)
+unfolding rule1 small
+rule1-addable p x h = at (same? (x .num) 0)
+  where
+    at : Same (x .num) 0 → Addable (rule1 p x .process)
+    at (same _ f) = rw f (record { flag = h .flag; count = h .count })
+    at (apart _ f) = rw f (record { flag = h .flag; count = refl })
+
+pub setSucceeding-addable : (o : ℕ) (t : Turn) → Addable (t .process) → Addable (setSucceeding o t .process)
+unfolding setSucceeding
+setSucceeding-addable o t h = at (same? (t .process .succeeding) 0)
+  where
+    at : Same (t .process .succeeding) 0 → Addable (setSucceeding o t .process)
+    at (same _ f) = rw f (record { flag = h .flag; count = h .count })
+    at (apart _ f) = rw f h
+
+pub setPreceding-addable : (i : ℕ) (t : Turn) → Addable (t .process) → Addable (setPreceding i t .process)
+unfolding setPreceding
+setPreceding-addable i t h = at (same? (t .process .preceding) 0)
+  where
+    at : Same (t .process .preceding) 0 → Addable (setPreceding i t .process)
+    at (same _ f) = rw f (record { flag = h .flag; count = h .count })
+    at (apart _ f) = rw f h
+
+-- what an acknowledgement asks of the record and of its count, which is read back
+pub acknowledgeable : (m : Message) (c : ℤ) (x : Process) → m ≡ Ack c → mag c < 2 ^ 31 → inRange x ≡ true → countSmall m ≡ true → numSuffices m x ≡ true → (small (toZ w32 (ofZ w32 c)) ≡ true) × ((small (x .cs) ≡ true) × (1 ≤ x .num))
+unfolding countSmall numSuffices
+acknowledgeable m c x e h r s n =
+    let few : leb 1 (x .num) ≡ true = rw e at n in
+    let count : small c ≡ true = rw e at s in
+    (rw (count-back c h) count, (ranged x r .count, leb-true 1 (x .num) few))
+
+pub rule3-made : (t : Turn) (v : ℕ) (z : ℤ) → v ≡ newSubordinate (t .process) → z ≡ gained v (t .process) → (record { process = withSubordinate v (withCs z (t .process)); probes = t .probes; reply = t .reply }) ≡ rule3 t
+unfolding rule3
+rule3-made t v z p q = rw (q, p)
+
+pub settled-answer : (m : Message) (x : Process) (t : Turn) {u : Turn} {r : Stepped} → r ≡ settled u → u ≡ t → numSuffices m x ≡ true → r ≡ answer (choose (not (fitting m x t)) 22 0) t
+unfolding settled fitting
+settled-answer m x t p q e = p ∙ rw (q, e)

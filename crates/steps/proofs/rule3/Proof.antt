@@ -1,0 +1,40 @@
+-- `steps::rule3` meets its contract: new and old subordinate are flags, so their difference is a count in range, and so is the sum it is added to.
+-- Assumes nothing.
+use mathlib.Core.Bool.{true}
+use mathlib.Core.Path.{_≡_, ap₂, _∙_}
+use lib.IntN.{_+ℤ_}
+use borrow.Author.Needs.{needs}
+use Rattle.steps.specs.Step.{small, gained}
+use Rattle.steps.proofs.Counts.{count-back, small-fits, small-change, newSubordinate-flag}
+use Rattle.steps.proofs.Rules.{rule3-made}
+use Rattle.steps.proofs.rule3.Statement.{statement}
+use Rattle.steps.proofs.rule3.Tie as tie
+
+change-requires : tie.Need-change-requires
+change-requires c κs = (rw (c .new-subordinate .ensures) (newSubordinate-flag (c .before .before .args .turn .process)), c .before .before .pre .flag)
+
+-- the difference of the two flags is in range
+changed : (c : tie.After-change) → small (c .change .result) ≡ true
+changed c =
+    let x = c .before .before .before .args .turn .process in
+    let v = c .before .new-subordinate .result in
+    rw (c .change .ensures) (small-change v (x .subordinate) (change-requires (c .before) (c .change .lifetimes) .0) (c .before .before .before .pre .flag))
+
+sum-requires : tie.Need-sum-requires
+sum-requires c κs =
+    let start = c .before .before .before .before in
+    let x = start .args .turn .process in
+    (rw (count-back (x .cs) (small-fits (x .cs) (start .pre .count))) (start .pre .count), rw (count-back (c .before .change .result) (c .before .change .ok)) (changed (c .before)))
+
+returns : tie.Need-returns
+unfolding gained
+returns c =
+    let start = c .before .before .before .before .before in
+    let x = start .args .turn .process in
+    let v = c .before .before .before .new-subordinate in
+    let d = c .before .before .change in
+    rule3-made (start .args .turn) (v .result) _ (v .ensures)
+    (count-back (c .sum .result) (c .sum .ok) ∙ c .sum .ensures ∙ ap₂ _+ℤ_ (count-back (x .cs) (small-fits (x .cs) (start .pre .count))) (count-back (d .result) (d .ok) ∙ d .ensures))
+
+pub rule3-spec : {M : Type 1} → statement M
+rule3-spec = tie.close (tie.spec (λ c κs. search needs) change-requires sum-requires returns)

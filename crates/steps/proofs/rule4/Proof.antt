@@ -1,0 +1,20 @@
+-- `steps::rule4` meets its contract: the test is rule 4's, and the sum comes back from its bits as it was.
+-- Assumes nothing.
+use borrow.Author.Tests.{eq-eqb, ne-eqb}
+use Rattle.steps.specs.Step.{rule4}
+use Rattle.steps.proofs.Counts.{count-back}
+use Rattle.steps.proofs.rule4.Statement.{statement}
+use Rattle.steps.proofs.rule4.Tie as tie
+
+returns : tie.Need-returns
+unfolding rule4
+returns c = rw (ne-eqb (c .before .before .before .args .turn .process .num) 0 (c .if1 .taken))
+
+returns-2 : tie.Need-returns-2
+unfolding rule4
+returns-2 c =
+    let x = c .before .before .before .before .args .turn .process in
+    rw (count-back (x .cs) (c .struct-told .given .1 .1 .1 .0 .1), eq-eqb (x .num) 0 (c .before .if1 .left))
+
+pub rule4-spec : {M : Type 1} → statement M
+rule4-spec = tie.close (tie.spec returns returns-2)

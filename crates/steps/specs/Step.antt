@@ -1,0 +1,176 @@
+-- The step of one process, in the words and order of 01, "Steps (002, section 3.3)".
+--   inRange x           == "succeeding, preceding, subordinate (0 or 1 each), cs (−128 to 128), num (0 to 256)"
+--   small z             == "The count may be negative (−128 to 128)": z is in that range
+--   idle                == "All values 0"
+--   Turn                == what a step leaves: the record, the probes it broadcasts, the acknowledgement it sends
+--   rule1, setSucceeding, setPreceding, rule3, rule4   == the four rules of "Another process i receives a probe from p"
+--   turn m o i p x      == the step of a process other than the start, with o successors and i predecessors, on message m from p
+--   startTurn m p x     == the step of the start process
+--   fitting m x t       == the step takes no value out of its range and acknowledges to no father 0 (22 is met if not)
+--   stepNumber, stepped == "One process's step checks 21, 25, 22": the number (0 if taken), and the answer
+--   startStepped m p x  == the same for the start's step, which only 22 can refuse
+-- Assumes nothing.
+use Prim.Native.Nat.{ℕ, zero, suc, _+_, _-_, _*_, _≤_}
+use mathlib.Core.Bool.{Bool, true, false, not, _&&_, _||_}
+use mathlib.Core.Path.{_≡_}
+use lib.Dec.{eqb, leb, ltb}
+use lib.IntN.{ℤ, pos, negsuc, _+ℤ_, _-ℤ_, natAbs}
+use Rattle.base.specs.Choice.{choose}
+use Rattle.steps.specs.declared.Message.{Message}
+use Rattle.steps.specs.declared.Message.the-variants.{Suc, Pre, Ack}
+use Rattle.steps.specs.declared.Process.{Process}
+use Rattle.steps.specs.declared.Probes.{Probes}
+use Rattle.steps.specs.declared.Probes.the-variants.{Sucs, Pres}
+use Rattle.steps.specs.declared.Reply.{Reply}
+use Rattle.steps.specs.declared.Reply.the-variants.{To}
+use Rattle.steps.specs.declared.Stepped.{Stepped}
+use Rattle.steps.specs.declared.Stepped.the-variants.{Taken, Refused}
+
+-- "The count may be negative (−128 to 128)": the range of counts and of cs
+unfoldable pub small : ℤ → Bool
+small z = leb (natAbs z) 128
+
+-- "succeeding, preceding, subordinate (0 or 1 each), cs (−128 to 128), num (0 to 256)"
+unfoldable pub inRange : Process → Bool
+inRange x = leb (x .succeeding) 1 && leb (x .preceding) 1 && leb (x .subordinate) 1 && small (x .cs) && leb (x .num) 256
+
+-- "an acknowledgement with its count": a probe has none to be out of range
+unfoldable pub countSmall : Message → Bool
+countSmall Suc = true
+countSmall Pre = true
+countSmall (Ack c) = small c
+
+-- "All values 0"
+abbrev pub idle : Process
+idle = record { succeeding = 0; preceding = 0; subordinate = 0; cs = pos 0; num = 0; father = 0 }
+
+-- a record with one value replaced
+abbrev pub withSucceeding : ℕ → Process → Process
+withSucceeding v x = record { succeeding = v; preceding = x .preceding; subordinate = x .subordinate; cs = x .cs; num = x .num; father = x .father }
+
+abbrev pub withPreceding : ℕ → Process → Process
+withPreceding v x = record { succeeding = x .succeeding; preceding = v; subordinate = x .subordinate; cs = x .cs; num = x .num; father = x .father }
+
+abbrev pub withSubordinate : ℕ → Process → Process
+withSubordinate v x = record { succeeding = x .succeeding; preceding = x .preceding; subordinate = v; cs = x .cs; num = x .num; father = x .father }
+
+abbrev pub withCs : ℤ → Process → Process
+withCs v x = record { succeeding = x .succeeding; preceding = x .preceding; subordinate = x .subordinate; cs = v; num = x .num; father = x .father }
+
+abbrev pub withNum : ℕ → Process → Process
+withNum v x = record { succeeding = x .succeeding; preceding = x .preceding; subordinate = x .subordinate; cs = x .cs; num = v; father = x .father }
+
+abbrev pub withFather : ℕ → Process → Process
+withFather v x = record { succeeding = x .succeeding; preceding = x .preceding; subordinate = x .subordinate; cs = x .cs; num = x .num; father = v }
+
+-- what a step leaves
+abbrev pub Turn : Type 0
+Turn = Rattle.steps.specs.declared.Turn.Turn
+
+-- "If num is 0, father becomes p. Otherwise it acknowledges to p with cs, and cs becomes 0."
+unfoldable pub rule1 : ℕ → Process → Turn
+rule1 p x =
+    choose (eqb (x .num) 0)
+    (record { process = withFather p x; probes = Probes.Nothing; reply = Reply.Nothing })
+    (record { process = withCs (pos 0) x; probes = Probes.Nothing; reply = To p (x .cs) })
+
+-- "A suc probe when not succeeding sets it, sends suc to all successors and adds their number to num."
+unfoldable pub setSucceeding : ℕ → Turn → Turn
+setSucceeding o t =
+    choose (eqb (t .process .succeeding) 0)
+    (record { process = withNum (t .process .num + o) (withSucceeding 1 (t .process)); probes = Sucs; reply = t .reply })
+    t
+
+-- "A pre probe does the same with preceding and predecessors."
+unfoldable pub setPreceding : ℕ → Turn → Turn
+setPreceding i t =
+    choose (eqb (t .process .preceding) 0)
+    (record { process = withNum (t .process .num + i) (withPreceding 1 (t .process)); probes = Pres; reply = t .reply })
+    t
+
+-- "1 if succeeding and not preceding, else 0"
+unfoldable pub newSubordinate : Process → ℕ
+newSubordinate x = choose (eqb (x .succeeding) 1 && eqb (x .preceding) 0) 1 0
+
+-- "cs gains new minus old": the sum of a process whose subordinate becomes v
+unfoldable pub gained : ℕ → Process → ℤ
+gained v x = x .cs +ℤ (pos v -ℤ pos (x .subordinate))
+
+-- "The new subordinate is 1 if succeeding and not preceding, else 0. cs gains new minus old."
+unfoldable pub rule3 : Turn → Turn
+rule3 t =
+    let v : ℕ = newSubordinate (t .process) in
+    record { process = withSubordinate v (withCs (gained v (t .process)) (t .process)); probes = t .probes; reply = t .reply }
+
+-- what rule 3 needs of a record for a sum that fits
+pub record Addable (x : Process) : Type 0 where
+  pub flag : x .subordinate ≤ 1
+  pub count : small (x .cs) ≡ true
+
+-- "If num is 0 it acknowledges to father with cs, and cs becomes 0."
+unfoldable pub rule4 : Turn → Turn
+rule4 t =
+    choose (eqb (t .process .num) 0)
+    (record { process = withCs (pos 0) (t .process); probes = t .probes; reply = To (t .process .father) (t .process .cs) })
+    t
+
+-- "cs gains c, num loses 1"
+unfoldable pub acknowledged : ℤ → Process → Turn
+acknowledged c x =
+    record { process = withNum (x .num - 1) (withCs (x .cs +ℤ c) x); probes = Probes.Nothing; reply = Reply.Nothing }
+
+-- "Another process i receives a probe from p" (rules 1 to 4); "i receives acknowledgement c: cs gains c, num loses 1, then rule 4"
+unfoldable pub turn : Message → ℕ → ℕ → ℕ → Process → Turn
+turn Suc o i p x = rule4 (rule3 (setSucceeding o (rule1 p x)))
+turn Pre o i p x = rule4 (rule3 (setPreceding i (rule1 p x)))
+turn (Ack c) o i p x = rule4 (acknowledged c x)
+
+-- "s receives a probe: it acknowledges with 0"; "s receives acknowledgement c: cs gains c, num loses 1"
+unfoldable pub startTurn : Message → ℕ → Process → Turn
+startTurn Suc p x = record { process = x; probes = Probes.Nothing; reply = To p (pos 0) }
+startTurn Pre p x = record { process = x; probes = Probes.Nothing; reply = To p (pos 0) }
+startTurn (Ack c) p x = acknowledged c x
+
+-- "num loses 1" takes num out of its range if it is 0
+unfoldable pub numSuffices : Message → Process → Bool
+numSuffices Suc x = true
+numSuffices Pre x = true
+numSuffices (Ack c) x = leb 1 (x .num)
+
+-- the count sent is in range, and nobody acknowledges to father 0
+unfoldable pub replyFits : Reply → Bool
+replyFits Reply.Nothing = true
+replyFits (To p c) = leb 1 p && small c
+
+-- 22, "the step would take a value out of its range, .. or acknowledge to father 0", is met if not
+unfoldable pub fitting : Message → Process → Turn → Bool
+fitting m x t = numSuffices m x && inRange (t .process) && replyFits (t .reply)
+
+-- "record or count out of range, father over 128 or a degree over 128"
+unfoldable pub lentInRange : Message → ℕ → ℕ → Process → Bool
+lentInRange m o i x = inRange x && leb (x .father) 128 && countSmall m && leb o 128 && leb i 128
+
+-- "One process's step checks 21, 25, 22": the first that is met, or 0
+unfoldable pub stepNumber : Message → ℕ → ℕ → ℕ → Process → ℕ
+stepNumber m o i p x =
+    choose (not (lentInRange m o i x)) 21
+    (choose (eqb p 0 || ltb 128 p) 25
+    (choose (not (fitting m x (turn m o i p x))) 22
+    0))
+
+-- the answer with 01's number and values: 0 is the step itself, every other number a refusal
+unfoldable pub answer : ℕ → Turn → Stepped
+answer zero t = Taken (t .process) (t .probes) (t .reply)
+answer (suc n) t = Refused (suc n)
+
+-- one process's step by itself
+unfoldable pub stepped : Message → ℕ → ℕ → ℕ → Process → Stepped
+stepped m o i p x = answer (stepNumber m o i p x) (turn m o i p x)
+
+-- a step whose num suffices: taken, unless 22 is met
+unfoldable pub settled : Turn → Stepped
+settled t = answer (choose (not (inRange (t .process) && replyFits (t .reply))) 22 0) t
+
+-- the start's step: it names no degrees, and refuses only by 22
+unfoldable pub startStepped : Message → ℕ → Process → Stepped
+startStepped m p x = answer (choose (not (fitting m x (startTurn m p x))) 22 0) (startTurn m p x)

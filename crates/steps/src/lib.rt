@@ -1,0 +1,428 @@
+// Messages, process records, and one process's step (01, section "Steps"), by value.
+ghost use mathlib.Core.Path.{_≡_};
+ghost use mathlib.Core.Bool.{true, _&&_};
+ghost use Prim.Native.Nat.{_≤_};
+ghost use lib.IntN.{pos, _+ℤ_, _-ℤ_};
+ghost use Rattle.steps.specs.Step.{small, inRange, countSmall, lentInRange, numSuffices, replyFits, newSubordinate};
+ghost use Rattle.steps.specs.Step.{rule1, setSucceeding, setPreceding, rule3, rule4, acknowledged, turn, stepped};
+ghost use Rattle.steps.specs.Step.{Addable, startTurn, settled, startStepped};
+
+pub enum Message {
+    Suc,
+    Pre,
+    Ack(i32),
+}
+
+pub struct Process {
+    pub succeeding: u32,
+    pub preceding: u32,
+    pub subordinate: u32,
+    pub cs: i32,
+    pub num: u32,
+    pub father: u32,
+}
+
+// The probes that a step broadcasts: suc to all successors, pre to all predecessors, or none.
+pub enum Probes {
+    Nothing,
+    Sucs,
+    Pres,
+}
+
+// The acknowledgement that a step sends: to whom and with which count, or none.
+pub enum Reply {
+    Nothing,
+    To { process: u32, count: i32 },
+}
+
+// What a step leaves: the process's new record and what it sends.
+pub struct Turn {
+    pub process: Process,
+    pub probes: Probes,
+    pub reply: Reply,
+}
+
+// The answer of one process's step: its new record and what it sends, or the number of the refusal.
+pub enum Stepped {
+    Taken {
+        process: Process,
+        probes: Probes,
+        reply: Reply,
+    },
+    Refused(u32),
+}
+
+// "The count may be negative (−128 to 128)"
+fn is_small(count: i32) -> bool
+    ensures { λ r. ⌜ r ≡ small count ⌝ }
+{
+    if count < -128 {
+        return false;
+    }
+    count <= 128
+}
+
+// The sum of two counts in range.
+fn sum(a: i32, b: i32) -> i32
+    requires { ⌜ small a ≡ true ⌝ }
+    requires { ⌜ small b ≡ true ⌝ }
+    ensures { λ r. ⌜ r ≡ a +ℤ b ⌝ }
+{
+    a + b
+}
+
+// New minus old, of two flags.
+fn change(new: u32, old: u32) -> i32
+    requires { ⌜ new ≤ 1 ⌝ }
+    requires { ⌜ old ≤ 1 ⌝ }
+    ensures { λ r. ⌜ r ≡ pos new -ℤ pos old ⌝ }
+{
+    new as i32 - old as i32
+}
+
+// "succeeding, preceding, subordinate (0 or 1 each), cs (−128 to 128), num (0 to 256)"
+pub fn is_in_range(process: Process) -> bool
+    ensures { λ r. ⌜ r ≡ inRange process ⌝ }
+{
+    if process.succeeding > 1 {
+        return false;
+    }
+    if process.preceding > 1 {
+        return false;
+    }
+    if process.subordinate > 1 {
+        return false;
+    }
+    if !is_small(process.cs) {
+        return false;
+    }
+    process.num <= 256
+}
+
+// A probe has no count to be out of range.
+fn is_count_small(message: Message) -> bool
+    ensures { λ r. ⌜ r ≡ countSmall message ⌝ }
+{
+    match message {
+        Message::Suc => true,
+        Message::Pre => true,
+        Message::Ack(count) => is_small(count),
+    }
+}
+
+// "record or count out of range, father over 128 or a degree over 128" is not met.
+fn is_lent_in_range(process: Process, message: Message, out_degree: u32, in_degree: u32) -> bool
+    ensures { λ r. ⌜ r ≡ lentInRange message «out_degree» «in_degree» process ⌝ }
+{
+    if !is_in_range(process) {
+        return false;
+    }
+    if process.father > 128 {
+        return false;
+    }
+    if !is_count_small(message) {
+        return false;
+    }
+    if out_degree > 128 {
+        return false;
+    }
+    in_degree <= 128
+}
+
+// Rule 1: "If num is 0, father becomes p. Otherwise it acknowledges to p with cs, and cs becomes 0."
+fn rule1(sender: u32, process: Process) -> Turn
+    ensures { λ r. ⌜ r ≡ rule1 sender process ⌝ }
+{
+    if process.num == 0 {
+        Turn {
+            process: Process {
+                succeeding: process.succeeding,
+                preceding: process.preceding,
+                subordinate: process.subordinate,
+                cs: process.cs,
+                num: process.num,
+                father: sender,
+            },
+            probes: Probes::Nothing,
+            reply: Reply::Nothing, // the father hears by rule 4, once the probes are counted
+        }
+    } else {
+        Turn {
+            process: Process {
+                succeeding: process.succeeding,
+                preceding: process.preceding,
+                subordinate: process.subordinate,
+                cs: 0,
+                num: process.num,
+                father: process.father, // stays while num is above 0
+            },
+            probes: Probes::Nothing,
+            reply: Reply::To {
+                process: sender,
+                count: process.cs,
+            },
+        }
+    }
+}
+
+// Rule 2: "A suc probe when not succeeding sets it, sends suc to all successors and adds their number to num."
+fn set_succeeding(out_degree: u32, turn: Turn) -> Turn
+    requires { ⌜ «out_degree» ≤ 128 ⌝ }
+    requires { ⌜ turn .process .num ≤ 256 ⌝ }
+    ensures { λ r. ⌜ r ≡ setSucceeding «out_degree» turn ⌝ }
+{
+    let process = turn.process;
+    let reply = turn.reply;
+    if process.succeeding == 0 {
+        Turn {
+            process: Process {
+                succeeding: 1,
+                preceding: process.preceding,
+                subordinate: process.subordinate,
+                cs: process.cs,
+                num: process.num + out_degree,
+                father: process.father,
+            },
+            probes: Probes::Sucs,
+            reply,
+        }
+    } else {
+        turn
+    }
+}
+
+// Rule 2: "A pre probe does the same with preceding and predecessors."
+fn set_preceding(in_degree: u32, turn: Turn) -> Turn
+    requires { ⌜ «in_degree» ≤ 128 ⌝ }
+    requires { ⌜ turn .process .num ≤ 256 ⌝ }
+    ensures { λ r. ⌜ r ≡ setPreceding «in_degree» turn ⌝ }
+{
+    let process = turn.process;
+    let reply = turn.reply;
+    if process.preceding == 0 {
+        Turn {
+            process: Process {
+                succeeding: process.succeeding,
+                preceding: 1,
+                subordinate: process.subordinate,
+                cs: process.cs,
+                num: process.num + in_degree,
+                father: process.father,
+            },
+            probes: Probes::Pres,
+            reply,
+        }
+    } else {
+        turn
+    }
+}
+
+// "The new subordinate is 1 if succeeding and not preceding, else 0."
+fn new_subordinate(process: Process) -> u32
+    ensures { λ r. ⌜ r ≡ newSubordinate process ⌝ }
+{
+    if process.succeeding != 1 {
+        return 0;
+    }
+    if process.preceding == 0 { 1 } else { 0 }
+}
+
+// Rule 3: the new subordinate, and "cs gains new minus old".
+fn rule3(turn: Turn) -> Turn
+    requires { ⌜ Addable (turn .process) ⌝ }
+    ensures { λ r. ⌜ r ≡ rule3 turn ⌝ }
+{
+    let process = turn.process;
+    let probes = turn.probes;
+    let reply = turn.reply;
+    let new = new_subordinate(process);
+    Turn {
+        process: Process {
+            succeeding: process.succeeding,
+            preceding: process.preceding,
+            subordinate: new,
+            cs: sum(process.cs, change(new, process.subordinate)),
+            num: process.num,
+            father: process.father,
+        },
+        probes,
+        reply,
+    }
+}
+
+// Rule 4: "If num is 0 it acknowledges to father with cs, and cs becomes 0."
+fn rule4(turn: Turn) -> Turn
+    ensures { λ r. ⌜ r ≡ rule4 turn ⌝ }
+{
+    let process = turn.process;
+    let probes = turn.probes;
+    if process.num != 0 {
+        return turn;
+    }
+    Turn {
+        process: Process {
+            succeeding: process.succeeding,
+            preceding: process.preceding,
+            subordinate: process.subordinate,
+            cs: 0,
+            num: process.num,
+            father: process.father,
+        },
+        probes,
+        reply: Reply::To {
+            process: process.father,
+            count: process.cs,
+        },
+    }
+}
+
+// "cs gains c, num loses 1"
+fn acknowledged(count: i32, process: Process) -> Turn
+    requires { ⌜ small count ≡ true ⌝ }
+    requires { ⌜ small (process .cs) ≡ true ⌝ }
+    requires { ⌜ 1 ≤ process .num ⌝ }
+    ensures { λ r. ⌜ r ≡ acknowledged count process ⌝ }
+{
+    Turn {
+        process: Process {
+            succeeding: process.succeeding,
+            preceding: process.preceding,
+            subordinate: process.subordinate,
+            cs: sum(process.cs, count),
+            num: process.num - 1,
+            father: process.father,
+        },
+        probes: Probes::Nothing,
+        reply: Reply::Nothing,
+    }
+}
+
+// "num loses 1" asks for a num of at least 1.
+fn is_num_sufficient(message: Message, process: Process) -> bool
+    ensures { λ r. ⌜ r ≡ numSuffices message process ⌝ }
+{
+    match message {
+        Message::Suc => true,
+        Message::Pre => true,
+        Message::Ack(_) => 1 <= process.num,
+    }
+}
+
+// "acknowledge to father 0", or with a count out of range, is refused.
+fn is_reply_fitting(reply: Reply) -> bool
+    ensures { λ r. ⌜ r ≡ replyFits reply ⌝ }
+{
+    match reply {
+        Reply::Nothing => true,
+        Reply::To { process, count } => {
+            if process < 1 {
+                return false;
+            }
+            is_small(count)
+        }
+    }
+}
+
+// The step of a process other than the start, where no value can leave 32 bits.
+fn take_turn(
+    process: Process,
+    message: Message,
+    out_degree: u32,
+    in_degree: u32,
+    sender: u32,
+) -> Turn
+    requires { ⌜ lentInRange message «out_degree» «in_degree» process ≡ true ⌝ }
+    requires { ⌜ numSuffices message process ≡ true ⌝ }
+    ensures { λ r. ⌜ r ≡ turn message «out_degree» «in_degree» sender process ⌝ }
+{
+    match message {
+        Message::Suc => rule4(rule3(set_succeeding(out_degree, rule1(sender, process)))),
+        Message::Pre => rule4(rule3(set_preceding(in_degree, rule1(sender, process)))),
+        Message::Ack(count) => rule4(acknowledged(count, process)),
+    }
+}
+
+// "s receives a probe: it acknowledges with 0."
+fn greeted(process: Process, sender: u32) -> Turn
+    ensures { λ r. ⌜ r ≡ startTurn Message.Suc sender process ⌝ }
+{
+    Turn {
+        process,
+        probes: Probes::Nothing,
+        reply: Reply::To {
+            process: sender,
+            count: 0,
+        },
+    }
+}
+
+// "s receives a probe: it acknowledges with 0"; "s receives acknowledgement c: cs gains c, num loses 1"
+fn take_start_turn(process: Process, message: Message, sender: u32) -> Turn
+    requires { ⌜ inRange process ≡ true ⌝ }
+    requires { ⌜ countSmall message ≡ true ⌝ }
+    requires { ⌜ numSuffices message process ≡ true ⌝ }
+    ensures { λ r. ⌜ r ≡ startTurn message sender process ⌝ }
+{
+    match message {
+        Message::Suc => greeted(process, sender),
+        Message::Pre => greeted(process, sender),
+        Message::Ack(count) => acknowledged(count, process),
+    }
+}
+
+// The answer to a step whose num suffices: 22 if it leaves a value out of range or acknowledges to father 0.
+fn settled(turn: Turn) -> Stepped
+    ensures { λ r. ⌜ r ≡ settled turn ⌝ }
+{
+    let process = turn.process;
+    let probes = turn.probes;
+    let reply = turn.reply;
+    if !is_in_range(process) {
+        return Stepped::Refused(22);
+    }
+    if !is_reply_fitting(reply) {
+        return Stepped::Refused(22);
+    }
+    Stepped::Taken {
+        process,
+        probes,
+        reply,
+    }
+}
+
+// One process's step by itself: it checks 21, 25, 22, whatever it is given.
+pub fn step(
+    process: Process,
+    message: Message,
+    out_degree: u32,
+    in_degree: u32,
+    sender: u32,
+) -> Stepped
+    ensures { λ r. ⌜ r ≡ stepped message «out_degree» «in_degree» sender process ⌝ }
+{
+    if !is_lent_in_range(process, message, out_degree, in_degree) {
+        return Stepped::Refused(21);
+    }
+    if sender == 0 {
+        return Stepped::Refused(25);
+    }
+    if sender > 128 {
+        return Stepped::Refused(25);
+    }
+    if !is_num_sufficient(message, process) {
+        return Stepped::Refused(22);
+    }
+    settled(take_turn(process, message, out_degree, in_degree, sender))
+}
+
+// The start's step, in a run whose records and counts are in range: it checks 22.
+pub fn start_step(process: Process, message: Message, sender: u32) -> Stepped
+    requires { ⌜ inRange process ≡ true ⌝ }
+    requires { ⌜ countSmall message ≡ true ⌝ }
+    ensures { λ r. ⌜ r ≡ startStepped message sender process ⌝ }
+{
+    if !is_num_sufficient(message, process) {
+        return Stepped::Refused(22);
+    }
+    settled(take_start_turn(process, message, sender))
+}

@@ -1,0 +1,54 @@
+-- Laws on the numbers of refusals, one for each way that the code goes.
+--   yes, no          == a test's value, from the code's answer
+--   fieldsNumber-..  == checks 4 to 7, by the first that fails
+-- Assumes nothing.
+use Prim.Native.Nat.{ℕ}
+use mathlib.Core.Bool.{Bool, true, false, not}
+use mathlib.Core.Path.{_≡_, sym, _∙_}
+use borrow.Author.Tests.{not-true, not-false}
+use Rattle.base.specs.Sums.{allTo}
+use Rattle.tables.specs.declared.Chain.the-variants.{Out, In}
+use Rattle.tables.specs.Table.{Fields, nOf, mOf}
+use Rattle.tables.specs.Reading.{endsRight, firstsRight, nextsRight, chainsRight, unlikeBefore, fieldsNumber}
+
+pub yes : {b x : Bool} → b ≡ x → not b ≡ false → x ≡ true
+yes {b} {x} e h = sym e ∙ not-false b h
+
+pub no : {b x : Bool} → b ≡ x → not b ≡ true → x ≡ false
+no {b} {x} e h = sym e ∙ not-true b h
+
+-- ---- checks 4 to 7
+
+module _ (t : Fields) (n m : ℕ) (en : n ≡ nOf t) (em : m ≡ mOf t) where
+  pub fieldsNumber-ends : allTo m (endsRight t) ≡ false → 4 ≡ fieldsNumber t
+  unfolding fieldsNumber
+  fieldsNumber-ends e4 = rw (← em, e4)
+
+  module _ (e4 : allTo m (endsRight t) ≡ true) where
+    pub fieldsNumber-firsts : allTo n (firstsRight t) ≡ false → 5 ≡ fieldsNumber t
+    unfolding fieldsNumber
+    fieldsNumber-firsts e5 = rw (← en, ← em, e4, e5)
+
+    module _ (e5 : allTo n (firstsRight t) ≡ true) where
+      pub fieldsNumber-nexts : allTo m (nextsRight t) ≡ false → 5 ≡ fieldsNumber t
+      unfolding fieldsNumber
+      fieldsNumber-nexts e5′ = rw (← en, ← em, e4, e5, e5′)
+
+      module _ (e5′ : allTo m (nextsRight t) ≡ true) where
+        pub fieldsNumber-out : chainsRight Out t ≡ false → 6 ≡ fieldsNumber t
+        unfolding fieldsNumber
+        fieldsNumber-out e6 = rw (← en, ← em, e4, e5, e5′, e6)
+
+        module _ (e6 : chainsRight Out t ≡ true) where
+          pub fieldsNumber-in : chainsRight In t ≡ false → 6 ≡ fieldsNumber t
+          unfolding fieldsNumber
+          fieldsNumber-in e6′ = rw (← en, ← em, e4, e5, e5′, e6, e6′)
+
+          module _ (e6′ : chainsRight In t ≡ true) where
+            pub fieldsNumber-alike : allTo m (unlikeBefore t) ≡ false → 7 ≡ fieldsNumber t
+            unfolding fieldsNumber
+            fieldsNumber-alike e7 = rw (← en, ← em, e4, e5, e5′, e6, e6′, e7)
+
+            pub fieldsNumber-none : allTo m (unlikeBefore t) ≡ true → 0 ≡ fieldsNumber t
+            unfolding fieldsNumber
+            fieldsNumber-none e7 = rw (← en, ← em, e4, e5, e5′, e6, e6′, e7)
