@@ -6,7 +6,7 @@
 use Prim.Native.Nat.{ℕ, zero, suc, _+_, _-_, _*_, _≤_}
 use mathlib.Core.Bool.{Bool, true, false, _&&_, false≢true, true≢false}
 use mathlib.Core.Logic.{_⊎_, inl, inr}
-use mathlib.Core.Path.{_≡_, refl, sym, ap, _∙_}
+use mathlib.Core.Path.{_≡_, refl, ap}
 use native.Mathlib.Nat.{mul-le-mul}
 use native.Mathlib.Omega.{arith}
 use lib.Dec.{eqb}
@@ -18,14 +18,14 @@ use Rattle.steps.specs.declared.Message.{Message}
 use Rattle.steps.specs.declared.Message.the-variants.{Suc, Pre, Ack}
 use Rattle.steps.specs.declared.Process.{Process}
 use Rattle.steps.specs.declared.Probes.{Probes}
-use Rattle.steps.specs.declared.Probes.the-variants.{Sucs, Pres}
 use Rattle.steps.specs.declared.Reply.{Reply}
 use Rattle.steps.specs.declared.Reply.the-variants.{To}
-use Rattle.steps.specs.Step.{Turn, newSubordinate, gained, rule1, setSucceeding, setPreceding, rule3, rule4, acknowledged, turn, startTurn}
+use Rattle.steps.specs.Step.{Turn, newSubordinate, gained, rule1, rule3, rule4, acknowledged, turn, startTurn}
 use Rattle.checks.specs.Run.{Run, turnAt, replyTo}
-use Rattle.ending.specs.Weights.{load, isSuc, isPre, isProbe, isAck, countOf, above, below, heirOf, both, replyCount, sucsOf, presOf}
+use Rattle.ending.specs.Weights.{load, isSuc, isPre, isProbe, isAck, countOf, above, below, heirOf, both, replyCount}
 use Rattle.ending.specs.Sent.{reply-load}
 use Rattle.ending.specs.Effect.{Known, Effect}
+use Rattle.ending.specs.Asked.{Asked, first, busy, Marked, rule1-asked, rule1-plain, setSucceeding-asked, setPreceding-asked, setSucceeding-marked, setPreceding-marked}
 use Rattle.ending.specs.Parts.{parts-sum, parts-sum-below, parts-diff, parts-diff-below}
 
 -- ---- flags
@@ -48,7 +48,7 @@ heir-none : (x : Process) (q : ℕ) → x .num ≡ 0 → heirOf false x q ≡ 0
 unfolding heirOf
 heir-none x q e = at (same? (x .num) 0)
   where
-    at : Same (x .num) 0 → choose (eqb (x .num) 0) 0 (bit (eqb q (x .father))) ≡ 0
+    at : Same (x .num) 0 → heirOf false x q ≡ 0
     at (same _ f) = rw f
     at (apart n f) = absurd (n e)
 
@@ -60,98 +60,12 @@ heir-some x q n = at (same? (x .num) 0)
     flag true = refl
     flag false = refl
 
-    at : Same (x .num) 0 → choose (eqb (x .num) 0) 0 (bit (eqb q (x .father))) ≡ choose (eqb q (x .father)) 1 0
+    at : Same (x .num) 0 → heirOf false x q ≡ spot (x .father) 1 q
     at (same e f) = absurd (n e)
     at (apart _ f) = rw f (flag (eqb q (x .father)))
 
 unanswered : (p : ℕ) (c : ℤ) → Reply.Nothing ≡ To p c → ⊥
 unanswered p c r = let clash : _≡_ {A = ℕ} 0 1 = cc in omega arith
-
--- ---- a probe: rules 1 and 2
-
--- what rules 1 and 2 leave of the flags and of num
-record Marked (m : Message) (o i : ℕ) (x : Process) (t : Turn) : Type 0 where
-  succeeding : t .process .succeeding ≡ x .succeeding + sucsOf t
-  preceding : t .process .preceding ≡ x .preceding + presOf t
-  succ-bit : t .process .succeeding ≤ 1
-  prec-bit : t .process .preceding ≤ 1
-  suc-sets : isSuc m ≤ t .process .succeeding
-  pre-sets : isPre m ≤ t .process .preceding
-  suc-alone : sucsOf t ≤ isSuc m
-  pre-alone : presOf t ≤ isPre m
-  subordinate : t .process .subordinate ≡ x .subordinate
-  num : t .process .num ≡ x .num + (sucsOf t * o + presOf t * i)
-
--- rule 1 at a process with num 0, and at one that waits for acknowledgements
-data Asked (a : ℕ) (x : Process) (t : Turn) : Type 0 where
-  first : x .num ≡ 0 → t .process .father ≡ a → t .process .cs ≡ x .cs → t .reply ≡ Reply.Nothing → Asked a x t
-  busy : (x .num ≡ 0 → ⊥) → t .process .father ≡ x .father → t .process .cs ≡ pos 0 → t .reply ≡ To a (x .cs) → Asked a x t
-
-rule1-asked : (a : ℕ) (x : Process) → Asked a x (rule1 a x)
-unfolding rule1
-rule1-asked a x = at (same? (x .num) 0)
-  where
-    at : Same (x .num) 0 → Asked a x (rule1 a x)
-    at (same e f) = rw f (first e refl refl refl)
-    at (apart n f) = rw f (busy n refl refl refl)
-
--- rule 1 touches neither flags nor num, and sends no probe
-record Plain (x : Process) (t : Turn) : Type 0 where
-  succeeding : t .process .succeeding ≡ x .succeeding
-  preceding : t .process .preceding ≡ x .preceding
-  subordinate : t .process .subordinate ≡ x .subordinate
-  num : t .process .num ≡ x .num
-  sucs : sucsOf t ≡ 0
-  pres : presOf t ≡ 0
-
-rule1-plain : (a : ℕ) (x : Process) → Plain x (rule1 a x)
-unfolding rule1
-rule1-plain a x = at (same? (x .num) 0)
-  where
-    at : Same (x .num) 0 → Plain x (rule1 a x)
-    at (same _ f) = rw f (omega arith)
-    at (apart _ f) = rw f (omega arith)
-
-module _ {a : ℕ} {x : Process} {t : Turn} where
-  setSucceeding-asked : (o : ℕ) → Asked a x t → Asked a x (setSucceeding o t)
-  unfolding setSucceeding
-  setSucceeding-asked o h = at (same? (t .process .succeeding) 0) h
-    where
-      at : Same (t .process .succeeding) 0 → Asked a x t → Asked a x (setSucceeding o t)
-      at (same _ f) (first n d c y) = rw f (first n d c y)
-      at (same _ f) (busy n d c y) = rw f (busy n d c y)
-      at (apart _ f) h = rw f h
-
-  setPreceding-asked : (i : ℕ) → Asked a x t → Asked a x (setPreceding i t)
-  unfolding setPreceding
-  setPreceding-asked i h = at (same? (t .process .preceding) 0) h
-    where
-      at : Same (t .process .preceding) 0 → Asked a x t → Asked a x (setPreceding i t)
-      at (same _ f) (first n d c y) = rw f (first n d c y)
-      at (same _ f) (busy n d c y) = rw f (busy n d c y)
-      at (apart _ f) h = rw f h
-
-setSucceeding-marked : (o i : ℕ) (x : Process) (t : Turn) → Known false Suc x → Plain x t → Marked Suc o i x (setSucceeding o t)
-unfolding setSucceeding
-setSucceeding-marked o i x t k p = at (same? (t .process .succeeding) 0)
-  where
-    none : x .num ≡ x .num + (sucsOf t * o + presOf t * i)
-    none = rw (p .sucs, p .pres) (omega arith)
-
-    at : Same (t .process .succeeding) 0 → Marked Suc o i x (setSucceeding o t)
-    at (same e f) = rw f (omega arith)
-    at (apart n f) = rw f (omega (arith, none))
-
-setPreceding-marked : (o i : ℕ) (x : Process) (t : Turn) → Known false Pre x → Plain x t → Marked Pre o i x (setPreceding i t)
-unfolding setPreceding
-setPreceding-marked o i x t k p = at (same? (t .process .preceding) 0)
-  where
-    none : x .num ≡ x .num + (sucsOf t * o + presOf t * i)
-    none = rw (p .sucs, p .pres) (omega arith)
-
-    at : Same (t .process .preceding) 0 → Marked Pre o i x (setPreceding i t)
-    at (same e f) = rw f (omega arith)
-    at (apart n f) = rw f (omega (arith, none))
 
 -- ---- a probe: rules 3 and 4
 

@@ -6,6 +6,7 @@ pub mod Moved
 pub mod Sent
 pub mod Effect
 pub mod Parts
+pub mod Asked
 pub mod EffectLaws
 pub mod Invariants
 pub mod Counting

@@ -7,9 +7,9 @@
 --   settled-answer              == where num suffices, settled answers as 01 says: 22, or the step
 -- Assumes nothing.
 use Prim.Native.Nat.{ℕ, _^_, _≤_, _<_}
-use mathlib.Core.Bool.{Bool, true, false, not, _&&_}
+use mathlib.Core.Bool.{Bool, true, not, _&&_}
 use mathlib.Core.Path.{_≡_, refl, _∙_}
-use lib.Dec.{eqb, leb}
+use lib.Dec.{leb}
 use lib.IntN.{ℤ}
 use lib.Signed.{mag}
 use mir.Syntax.{w32}
@@ -20,7 +20,8 @@ use Rattle.steps.specs.declared.Message.{Message}
 use Rattle.steps.specs.declared.Message.the-variants.{Ack}
 use Rattle.steps.specs.declared.Process.{Process}
 use Rattle.steps.specs.declared.Stepped.{Stepped}
-use Rattle.steps.specs.Step.{Turn, Addable, withSubordinate, withCs, small, inRange, countSmall, lentInRange, numSuffices, replyFits, fitting, answer, settled, newSubordinate, gained, rule1, setSucceeding, setPreceding, rule3}
+use Rattle.steps.specs.Step.{Turn, withSubordinate, withCs, small, inRange, countSmall, lentInRange, numSuffices, fitting, answer, newSubordinate, gained, rule1, setSucceeding, setPreceding, rule3}
+use Rattle.steps.specs.Within.{Addable, settled}
 use Rattle.steps.proofs.Counts.{count-back}
 
 -- the parts of a conjunction of five

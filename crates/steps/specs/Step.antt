@@ -10,9 +10,8 @@
 --   stepNumber, stepped == "One process's step checks 21, 25, 22": the number (0 if taken), and the answer
 --   startStepped m p x  == the same for the start's step, which only 22 can refuse
 -- Assumes nothing.
-use Prim.Native.Nat.{ℕ, zero, suc, _+_, _-_, _*_, _≤_}
+use Prim.Native.Nat.{ℕ, zero, suc, _+_, _-_, _*_}
 use mathlib.Core.Bool.{Bool, true, false, not, _&&_, _||_}
-use mathlib.Core.Path.{_≡_}
 use lib.Dec.{eqb, leb, ltb}
 use lib.IntN.{ℤ, pos, negsuc, _+ℤ_, _-ℤ_, natAbs}
 use Rattle.base.specs.Choice.{choose}
@@ -102,11 +101,6 @@ rule3 t =
     let v : ℕ = newSubordinate (t .process) in
     record { process = withSubordinate v (withCs (gained v (t .process)) (t .process)); probes = t .probes; reply = t .reply }
 
--- what rule 3 needs of a record for a sum that fits
-pub record Addable (x : Process) : Type 0 where
-  pub flag : x .subordinate ≤ 1
-  pub count : small (x .cs) ≡ true
-
 -- "If num is 0 it acknowledges to father with cs, and cs becomes 0."
 unfoldable pub rule4 : Turn → Turn
 rule4 t =
@@ -166,10 +160,6 @@ answer (suc n) t = Refused (suc n)
 -- one process's step by itself
 unfoldable pub stepped : Message → ℕ → ℕ → ℕ → Process → Stepped
 stepped m o i p x = answer (stepNumber m o i p x) (turn m o i p x)
-
--- a step whose num suffices: taken, unless 22 is met
-unfoldable pub settled : Turn → Stepped
-settled t = answer (choose (not (inRange (t .process) && replyFits (t .reply))) 22 0) t
 
 -- the start's step: it names no degrees, and refuses only by 22
 unfoldable pub startStepped : Message → ℕ → Process → Stepped

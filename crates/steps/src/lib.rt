@@ -1,11 +1,13 @@
-// Messages, process records, and one process's step (01, section "Steps"), by value.
+// Messages, process records, and one process's step (01, section "Steps"), by value: a function for each rule.
+// step takes any values whatever and refuses with 21, 25 or 22; start_step refuses with 22. No sum wraps. It stands on base alone.
 ghost use mathlib.Core.Path.{_≡_};
-ghost use mathlib.Core.Bool.{true, _&&_};
+ghost use mathlib.Core.Bool.{true};
 ghost use Prim.Native.Nat.{_≤_};
 ghost use lib.IntN.{pos, _+ℤ_, _-ℤ_};
 ghost use Rattle.steps.specs.Step.{small, inRange, countSmall, lentInRange, numSuffices, replyFits, newSubordinate};
 ghost use Rattle.steps.specs.Step.{rule1, setSucceeding, setPreceding, rule3, rule4, acknowledged, turn, stepped};
-ghost use Rattle.steps.specs.Step.{Addable, startTurn, settled, startStepped};
+ghost use Rattle.steps.specs.Step.{startTurn, startStepped};
+ghost use Rattle.steps.specs.Within.{Addable, settled};
 
 pub enum Message {
     Suc,
@@ -100,7 +102,7 @@ pub fn is_in_range(process: Process) -> bool
 }
 
 // A probe has no count to be out of range.
-fn is_count_small(message: Message) -> bool
+pub fn is_count_small(message: Message) -> bool
     ensures { λ r. ⌜ r ≡ countSmall message ⌝ }
 {
     match message {
@@ -133,13 +135,14 @@ fn is_lent_in_range(process: Process, message: Message, out_degree: u32, in_degr
 fn rule1(sender: u32, process: Process) -> Turn
     ensures { λ r. ⌜ r ≡ rule1 sender process ⌝ }
 {
+    let cs = process.cs;
     if process.num == 0 {
         Turn {
             process: Process {
                 succeeding: process.succeeding,
                 preceding: process.preceding,
                 subordinate: process.subordinate,
-                cs: process.cs,
+                cs,
                 num: process.num,
                 father: sender,
             },
@@ -159,7 +162,7 @@ fn rule1(sender: u32, process: Process) -> Turn
             probes: Probes::Nothing,
             reply: Reply::To {
                 process: sender,
-                count: process.cs,
+                count: cs,
             },
         }
     }
@@ -256,7 +259,9 @@ fn rule4(turn: Turn) -> Turn
 {
     let process = turn.process;
     let probes = turn.probes;
-    if process.num != 0 {
+    let num = process.num;
+    let cs = process.cs;
+    if num != 0 {
         return turn;
     }
     Turn {
@@ -265,13 +270,13 @@ fn rule4(turn: Turn) -> Turn
             preceding: process.preceding,
             subordinate: process.subordinate,
             cs: 0,
-            num: process.num,
+            num,
             father: process.father,
         },
         probes,
         reply: Reply::To {
             process: process.father,
-            count: process.cs,
+            count: cs,
         },
     }
 }

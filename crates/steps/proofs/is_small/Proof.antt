@@ -1,10 +1,6 @@
 -- `steps::is_small` meets its contract. The count comes back from its bits as it was, and the two tests are those of the range.
 -- Assumes nothing.
-use mathlib.Core.Path.{_≡_, sym}
-use lib.Signed.{ltZ, leZ}
-use lib.IntN.{ℤ, pos, negsuc}
-use mir.Syntax.{w32}
-use mir.Val.{toZ, ofZ}
+use mathlib.Core.Path.{sym}
 use Rattle.steps.proofs.Counts.{count-back, small-below, small-test}
 use Rattle.steps.proofs.is_small.Statement.{statement}
 use Rattle.steps.proofs.is_small.Tie as tie

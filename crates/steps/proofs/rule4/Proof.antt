@@ -13,8 +13,8 @@ returns c = rw (ne-eqb (c .before .before .before .args .turn .process .num) 0 (
 returns-2 : tie.Need-returns-2
 unfolding rule4
 returns-2 c =
-    let x = c .before .before .before .before .args .turn .process in
-    rw (count-back (x .cs) (c .struct-told .given .1 .1 .1 .0 .1), eq-eqb (x .num) 0 (c .before .if1 .left))
+    let x = c .before .before .before .args .turn .process in
+    rw (count-back (x .cs) (c .before .struct-told .given .1 .1 .1 .0 .1), eq-eqb (x .num) 0 (c .if1 .left))
 
 pub rule4-spec : {M : Type 1} → statement M
 rule4-spec = tie.close (tie.spec returns returns-2)

@@ -1,7 +1,8 @@
 -- `steps::settled` meets its contract: its two tests are those of the definition.
 -- Assumes nothing.
 use borrow.Author.Needs.{needs}
-use Rattle.steps.specs.Step.{answer, settled}
+use Rattle.steps.specs.Step.{answer}
+use Rattle.steps.specs.Within.{settled}
 use Rattle.steps.proofs.Flags.{value-not, value-yes}
 use Rattle.steps.proofs.settled.Statement.{statement}
 use Rattle.steps.proofs.settled.Tie as tie

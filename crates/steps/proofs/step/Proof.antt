@@ -3,6 +3,7 @@
 use borrow.Author.Needs.{needs}
 use borrow.Author.Tests.{eq-eqb, ne-eqb, lt-ltb, le-ltb}
 use Rattle.steps.specs.Step.{fitting, answer, turn, stepNumber, stepped}
+use Rattle.steps.specs.Within.{stepped-inside}
 use Rattle.steps.proofs.Flags.{value-not, value-yes}
 use Rattle.steps.proofs.Rules.{settled-answer}
 use Rattle.steps.proofs.step.Statement.{statement}
@@ -34,12 +35,11 @@ take-turn-requires c κs =
     (value-yes (b .before .is-lent-in-range .ensures) (b .if1 .left), value-yes (c .before .is-num-sufficient .ensures) (c .if4 .left))
 
 returns-5 : tie.Need-returns-5
-unfolding stepped stepNumber
 returns-5 c =
     let d = c .before .before in
     let b = d .before .before .before .before in
     let a = b .before .before .args in
-    rw (value-yes (b .before .is-lent-in-range .ensures) (b .if1 .left), ne-eqb _ _ (d .before .before .before .if2 .left), le-ltb _ _ (d .before .before .if3 .left))
+    rw (stepped-inside (a .message) (a .out-degree) (a .in-degree) (a .sender) (a .process) (value-yes (b .before .is-lent-in-range .ensures) (b .if1 .left)) (d .before .before .before .if2 .left) (d .before .before .if3 .left))
     (settled-answer (a .message) (a .process) (turn (a .message) (a .out-degree) (a .in-degree) (a .sender) (a .process)) (c .settled .ensures) (c .before .take-turn .ensures) (value-yes (d .before .is-num-sufficient .ensures) (d .if4 .left)))
 
 pub step-spec : {M : Type 1} → statement M

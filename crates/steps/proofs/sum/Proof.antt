@@ -1,8 +1,7 @@
 -- `steps::sum` meets its contract: both counts come back from their bits as they were, and so does their sum, which fits.
 -- Assumes nothing.
-use mathlib.Core.Path.{_≡_}
 use lib.IntN.{_+ℤ_}
-use Rattle.steps.proofs.Counts.{count-back, small-fits, small-sum}
+use Rattle.steps.proofs.Counts.{count-back, small-sum}
 use Rattle.steps.proofs.sum.Statement.{statement}
 use Rattle.steps.proofs.sum.Tie as tie
 

@@ -1,6 +1,7 @@
 -- `steps::take_turn` meets its contract: each rule gets what the one before it left, and what is lent in range keeps every sum within 32 bits.
 -- Assumes nothing.
 use borrow.Author.Needs.{needs}
+use native.Mathlib.Omega.{arith}
 use mathlib.Core.Path.{ap, _∙_}
 use Rattle.steps.specs.Step.{rule1, setSucceeding, setPreceding, rule3, rule4, turn}
 use Rattle.steps.proofs.Counts.{count-back}
@@ -13,28 +14,28 @@ set-succeeding-requires c κs =
     let start = c .before .before .before in
     let x = start .args .process in
     let h = lent (start .args .message) (start .args .out-degree) (start .args .in-degree) x (start .pre .0) in
-    (h .out, rw (c .rule1 .ensures, rule1-num (start .args .sender) x) (ranged x (h .process) .few))
+    (omega arith, rw (c .rule1 .ensures, rule1-num (start .args .sender) x) (ranged x (h .process) .few))
 
 rule3-requires : tie.Need-rule3-requires
 rule3-requires c κs =
     let start = c .before .before .before .before in
     let x = start .args .process in
     let h = lent (start .args .message) (start .args .out-degree) (start .args .in-degree) x (start .pre .0) in
-    rw (c .set-succeeding .ensures, c .before .rule1 .ensures) (setSucceeding-addable (start .args .out-degree) (rule1 (start .args .sender) x) (rule1-addable (start .args .sender) x (ranged x (h .process))))
+    rw (c .set-succeeding .ensures, c .before .rule1 .ensures) (setSucceeding-addable _ (rule1 (start .args .sender) x) (rule1-addable (start .args .sender) x (ranged x (h .process))))
 
 set-preceding-requires : tie.Need-set-preceding-requires
 set-preceding-requires c κs =
     let start = c .before .before .before in
     let x = start .args .process in
     let h = lent (start .args .message) (start .args .out-degree) (start .args .in-degree) x (start .pre .0) in
-    (h .into, rw (c .rule12 .ensures, rule1-num (start .args .sender) x) (ranged x (h .process) .few))
+    (omega arith, rw (c .rule12 .ensures, rule1-num (start .args .sender) x) (ranged x (h .process) .few))
 
 rule3-requires-2 : tie.Need-rule3-requires-2
 rule3-requires-2 c κs =
     let start = c .before .before .before .before in
     let x = start .args .process in
     let h = lent (start .args .message) (start .args .out-degree) (start .args .in-degree) x (start .pre .0) in
-    rw (c .set-preceding .ensures, c .before .rule12 .ensures) (setPreceding-addable (start .args .in-degree) (rule1 (start .args .sender) x) (rule1-addable (start .args .sender) x (ranged x (h .process))))
+    rw (c .set-preceding .ensures, c .before .rule12 .ensures) (setPreceding-addable _ (rule1 (start .args .sender) x) (rule1-addable (start .args .sender) x (ranged x (h .process))))
 
 acknowledged-requires : tie.Need-acknowledged-requires
 acknowledged-requires c κs =
