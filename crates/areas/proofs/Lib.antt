@@ -1,0 +1,5 @@
+pub mod Signs
+pub mod Records
+pub mod Ways
+pub mod Loading
+pub mod Whole

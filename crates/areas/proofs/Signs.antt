@@ -1,0 +1,64 @@
+-- Words as signed 32-bit numbers: what the machine's bits say of them.
+--   word-back                == a signed local read back is the word that was put there
+--   word-read                == what a call says of a word that was read back, it says of the word
+--   word-number              == a number below 2 to the 31 is itself as a word
+--   word-is                  == the bits of a number are the bits of no other word
+--   word-not                 == other bits are those of another word
+--   word-same                == two words have the same bits exactly if they are the same
+--   word-high, word-low, word-low-number   == a word that is not below 0, and one that is
+-- Assumes nothing.
+use Prim.Native.Nat.{ℕ, suc, _+_, _-_, _^_, _<_}
+use mathlib.Core.Bool.{true, false, false≢true}
+use mathlib.Core.Path.{_≡_, refl, sym, ap, _∙_}
+use native.Mathlib.Omega.{arith}
+use lib.Dec.{T, eqb, leb·zero}
+use lib.IntN.{ℤ, pos, negsuc, _-ℤ_, natAbs}
+use lib.Signed.{mag, leZ, nonNeg}
+use mir.Syntax.{w32}
+use mir.Val.{toZ, ofZ}
+use mir.Facts.{toZ-ofZ}
+use borrow.Author.Tests.{eq-eqb, ne-eqb, le-ltb}
+use Rattle.base.specs.Choice.{Same, same, apart, same?}
+use Rattle.areas.specs.Area.{sameWord}
+
+pub word-back : (z : ℤ) → mag z < 2 ^ 31 → toZ w32 (ofZ w32 z) ≡ z
+word-back z h = toZ-ofZ {w = w32} {z = z} (record { sfits = h })
+
+pub word-read : {A : Type 0} {r : A} (f : ℤ → A) (z : ℤ) → mag z < 2 ^ 31 → r ≡ f (toZ w32 (ofZ w32 z)) → r ≡ f z
+word-read f z h e = e ∙ ap f (word-back z h)
+
+pub word-number : (n : ℕ) → n < 2 ^ 31 → toZ w32 n ≡ pos n
+word-number n h = word-back (pos n) h
+
+pub word-is : (z : ℤ) (n : ℕ) → mag z < 2 ^ 31 → n < 2 ^ 31 → ofZ w32 z ≡ n → z ≡ pos n
+word-is (pos a) n h k e = ap pos e
+word-is (negsuc a) n h k e = absurd (omega arith)
+
+pub word-not : (z : ℤ) (n : ℕ) → (ofZ w32 z ≡ n → ⊥) → sameWord z (pos n) ≡ false
+unfolding sameWord
+word-not (pos a) n h = ne-eqb a n h
+word-not (negsuc a) n h = refl
+
+pub word-same : (x y : ℤ) → mag x < 2 ^ 31 → mag y < 2 ^ 31 → eqb (ofZ w32 x) (ofZ w32 y) ≡ sameWord x y
+unfolding sameWord
+word-same (pos a) (pos b) h k = refl
+word-same (pos a) (negsuc b) h k = ne-eqb a (2 ^ 32 - suc b) (λ e. omega arith)
+word-same (negsuc a) (pos b) h k = ne-eqb (2 ^ 32 - suc a) b (λ e. omega arith)
+word-same (negsuc a) (negsuc b) h k = at (same? a b)
+  where
+    at : Same a b → eqb (2 ^ 32 - suc a) (2 ^ 32 - suc b) ≡ eqb a b
+    at (same e q) = rw e (eq-eqb (2 ^ 32 - suc b) (2 ^ 32 - suc b) refl ∙ sym (eq-eqb b b refl))
+    at (apart e q) = rw q (ne-eqb (2 ^ 32 - suc a) (2 ^ 32 - suc b) (λ p. e (omega arith)))
+
+pub word-high : (z : ℤ) → leZ (pos 0) z ≡ true → T (nonNeg z)
+word-high (pos n) e = tt
+word-high (negsuc n) e = absurd (false≢true e)
+
+-- a word below 0 is -1 less a number
+pub word-low : (z : ℤ) → leZ (pos 0) z ≡ false → negsuc 0 -ℤ z ≡ pos (mag z)
+word-low (pos n) e = absurd (false≢true (sym e ∙ leb·zero n))
+word-low (negsuc n) e = rw (le-ltb (suc n) 1 (omega arith)) (ap pos (omega arith))
+
+pub word-low-number : (z : ℤ) → leZ (pos 0) z ≡ false → natAbs z ≡ mag z + 1
+word-low-number (pos n) e = absurd (false≢true (sym e ∙ leb·zero n))
+word-low-number (negsuc n) e = omega arith

@@ -1,0 +1,201 @@
+-- The tests of an area's regions in the parts that the code makes: a way out of the code that fails a part fails the test, and the last way
+-- out passes all parts but one.
+--   tells-no                      == a test fails where what it says does not hold
+--   tells-last                    == where a test says what its last part says, it is that part
+--   failing                       == a call that gave false, where its test was to pass
+--   HeadParts, headTest-parts     == the head
+--   flags-parts                   == the flags' word is the flags packed again exactly if it is a number of at most 7
+--   fatherRight-none, fatherRight-over, fatherRight-joined   == father 0, father over N, and any other by the square
+--   RecordParts, recordTest-parts == a record
+--   arcTest-no, arcTest-back, arcTest-free   == an arc's two links
+--   AreaParts, areaTests-parts    == an area
+-- Assumes nothing.
+use Prim.Native.Nat.{ℕ, zero, suc, _+_, _-_, _*_, _/_, _%_, _≤_, _<_}
+use mathlib.Core.Bool.{Bool, true, false, not, _&&_, false≢true}
+use mathlib.Core.List.{List}
+use mathlib.Core.Path.{_≡_, refl, sym, ap, _∙_}
+use native.Mathlib.Omega.{arith}
+use borrow.Author.Tests.{eq-eqb, ne-eqb}
+use lib.IntN.{ℤ, pos}
+use lib.ListN.{getD}
+use Rattle.base.specs.Choice.{Tested, passed, failed, tested, and-left, and-right, and-both}
+use Rattle.base.specs.Sums.{allTo}
+use Rattle.tables.specs.Table.{nOf, mOf, arcAt}
+use Rattle.tables.specs.Layout.{Right}
+use Rattle.tables.specs.Reading.{fieldsNumber}
+use Rattle.tables.specs.Waits.{waitsOf, neighbours}
+use Rattle.steps.specs.declared.Process.{Process}
+use Rattle.steps.specs.Step.{inRange}
+use Rattle.checks.specs.Run.{fatherRight}
+use Rattle.areas.specs.Area.{fieldCount, recordPlace, linkPlace, arcOf, knotCheck, flagsOf, hasBack, numberAt, fieldsIn, recordAt, sameWord}
+use Rattle.areas.specs.AreaTests.{sizesTest, fieldTest, counts, isFree, headTest, recordTest, linkTest, arcTest, areaTests}
+use Rattle.areas.specs.Arcs.{neighbours-between}
+use Rattle.areas.specs.Tells.{Tells, tells-map, tells-le, tells-eq, tells-id, tells-both, tells-same}
+use Rattle.areas.specs.WordTests.{sameWord-P, counts-of}
+use Rattle.areas.specs.Squares.{joinedBy, Square}
+use Rattle.areas.specs.SquareLaws.{joinedBy-is}
+
+pub tells-no : {b : Bool} {P : Type 0} → Tells b P → (P → ⊥) → b ≡ false
+tells-no {b} h never = at (tested b)
+  where
+    at : Tested b → b ≡ false
+    at (passed e) = absurd (never (h .0 e))
+    at (failed e) = e
+
+pub tells-last : {b r : Bool} {P : Type 0} → Tells b P → (r ≡ true → P) → (P → r ≡ true) → r ≡ b
+tells-last {b} {r} h f g = tells-same r b (f, g) h
+
+-- a call gave false, and its test passes: both cannot be
+pub failing : {b t : Bool} → b ≡ t → not b ≡ true → t ≡ true → ⊥
+failing {b} {t} e h p = false≢true (sym (ap not (e ∙ p)) ∙ h)
+
+allTo-cong : (n : ℕ) (p q : ℕ → Bool) → ((k : ℕ) → 1 ≤ k → k ≤ n → p k ≡ q k) → allTo n p ≡ allTo n q
+unfolding allTo
+allTo-cong zero p q h = refl
+allTo-cong (suc n) p q h = rw (allTo-cong n p q (λ k l u. h k l (omega arith)), h (suc n) (omega arith) (omega arith))
+
+-- ---- the head
+
+pub record HeadParts (w : List ℤ) : Type 0 where
+  pub check : sameWord (getD w 0 (pos 0)) knotCheck ≡ true
+  pub start : counts w 1 ≡ true
+  pub low : 1 ≤ numberAt w 1
+  pub high : numberAt w 1 ≤ numberAt w 14
+  pub count : counts w 2 ≡ true
+  pub few : numberAt w 2 ≤ 2048
+  pub free : allTo 11 (λ j. isFree w (3 + (j - 1))) ≡ true
+
+pub headTest-parts : (w : List ℤ) → Tells (headTest w) (HeadParts w)
+unfolding headTest
+headTest-parts w =
+    tells-map (λ s. record { check = s .0 .0 .0 .0 .0 .0; start = s .0 .0 .0 .0 .0 .1; low = s .0 .0 .0 .0 .1; high = s .0 .0 .0 .1; count = s .0 .0 .1; few = s .0 .1; free = zeros ∙ s .1 }) (λ s. ((((((s .check, s .start), s .low), s .high), s .count), s .few), sym zeros ∙ s .free))
+    (tells-both (tells-both (tells-both (tells-both (tells-both (tells-both (tells-id (sameWord (getD w 0 (pos 0)) knotCheck)) (tells-id (counts w 1))) (tells-le 1 (numberAt w 1))) (tells-le (numberAt w 1) (numberAt w 14))) (tells-id (counts w 2))) (tells-le (numberAt w 2) 2048)) (tells-id (allTo 11 (λ k. isFree w (k + 2)))))
+  where
+    zeros : allTo 11 (λ j. isFree w (3 + (j - 1))) ≡ allTo 11 (λ k. isFree w (k + 2))
+    zeros =
+        allTo-cong 11 (λ j. isFree w (3 + (j - 1))) (λ k. isFree w (k + 2)) (λ k l u. let e : 3 + (k - 1) ≡ k + 2 = omega arith in rw e)
+
+-- ---- a record
+
+-- a number of at most 7 is its three bits
+bits : (n : ℕ) → n ≤ 7 → n ≡ n % 2 + 2 * (n / 2 % 2) + 4 * (n / 4 % 2)
+bits n h =
+    let q : n / 2 / 2 ≡ n / 4 = omega arith in
+    let r : n / 4 % 2 ≡ n / 4 = omega arith in
+    omega arith
+
+pub flags-parts : (w : List ℤ) (k : ℕ) → Tells (sameWord (getD w k (pos 0)) (pos (flagsOf (recordAt w k)))) ((counts w k ≡ true) × (numberAt w k ≤ 7))
+unfolding flagsOf
+flags-parts w k = tells-map to from (sameWord-P (getD w k (pos 0)) (pos (flagsOf (recordAt w k))))
+  where
+    to : getD w k (pos 0) ≡ pos (flagsOf (recordAt w k)) → (counts w k ≡ true) × (numberAt w k ≤ 7)
+    to e =
+        let n : numberAt w k ≡ flagsOf (recordAt w k) = ap lib.IntN.natAbs e in
+        (sameWord-P (getD w k (pos 0)) (pos (numberAt w k)) .1 (counts-of w k (flagsOf (recordAt w k)) e), omega arith)
+
+    from : (counts w k ≡ true) × (numberAt w k ≤ 7) → getD w k (pos 0) ≡ pos (flagsOf (recordAt w k))
+    from s = sameWord-P (getD w k (pos 0)) (pos (numberAt w k)) .0 (s .0) ∙ ap pos (bits (numberAt w k) (s .1))
+
+-- the father of p, by the square
+module _ (w : List ℤ) (sq : List ℕ) (right : Right (fieldsIn w)) (square : Square (fieldsIn w) sq) (p : ℕ) (x : Process) where
+  pub fatherRight-none : x .father ≡ 0 → fatherRight (waitsOf (fieldsIn w)) p x ≡ true
+  unfolding fatherRight
+  fatherRight-none e = rw (eq-eqb (x .father) 0 e)
+
+  pub fatherRight-over : nOf (fieldsIn w) < x .father → fatherRight (waitsOf (fieldsIn w)) p x ≡ false
+  unfolding fatherRight
+  fatherRight-over h = rw (ne-eqb (x .father) 0 (λ e. omega arith)) (at (tested (neighbours (waitsOf (fieldsIn w)) p (x .father))))
+    where
+      at : Tested (neighbours (waitsOf (fieldsIn w)) p (x .father)) → neighbours (waitsOf (fieldsIn w)) p (x .father) ≡ false
+      at (passed e) = absurd (omega (arith, neighbours-between (fieldsIn w) right p (x .father) e .high-to))
+      at (failed e) = e
+
+  pub fatherRight-joined : {b : Bool} → (x .father ≡ 0 → ⊥) → p ≤ 128 → x .father ≤ 128 → b ≡ joinedBy sq p (x .father) → b ≡ fatherRight (waitsOf (fieldsIn w)) p x
+  unfolding fatherRight
+  fatherRight-joined d l u e = rw (ne-eqb (x .father) 0 d) (e ∙ joinedBy-is (fieldsIn w) sq square p (x .father) l u)
+
+pub record RecordParts (w : List ℤ) (p k : ℕ) (x : Process) : Type 0 where
+  pub values : inRange x ≡ true
+  pub father : fatherRight (waitsOf (fieldsIn w)) p x ≡ true
+  pub flags : counts w k ≡ true
+  pub bits : numberAt w k ≤ 7
+  pub num-word : counts w (k + 2) ≡ true
+  pub father-word : counts w (k + 3) ≡ true
+  pub free : allTo 2 (λ j. isFree w (k + 4 + (j - 1))) ≡ true
+
+recordTest-at : (w : List ℤ) (p : ℕ) → Tells (recordTest w p) (RecordParts w p (recordPlace (fieldsIn w) p) (recordAt w (recordPlace (fieldsIn w) p)))
+unfolding recordTest allTo
+recordTest-at w p =
+    tells-map to from
+    (tells-both (tells-both (tells-both (tells-both (tells-both (tells-both (tells-id (inRange x)) (tells-id (fatherRight (waitsOf (fieldsIn w)) p x))) (flags-parts w k)) (tells-id (counts w (k + 2)))) (tells-id (counts w (k + 3)))) (tells-id (isFree w (k + 4)))) (tells-id (isFree w (k + 5))))
+  where
+    k : ℕ
+    k = recordPlace (fieldsIn w) p
+
+    x : Process
+    x = recordAt w k
+
+    Said : Type 0
+    Said =
+        ((((((inRange x ≡ true) × (fatherRight (waitsOf (fieldsIn w)) p x ≡ true)) × ((counts w k ≡ true) × (numberAt w k ≤ 7))) × (counts w (k + 2) ≡ true)) × (counts w (k + 3) ≡ true)) × (isFree w (k + 4) ≡ true)) × (isFree w (k + 5) ≡ true)
+
+    zeros : allTo 2 (λ j. isFree w (k + 4 + (j - 1))) ≡ (isFree w (k + 4) && isFree w (k + 5))
+    zeros =
+        let a : k + 4 + (1 - 1) ≡ k + 4 = omega arith in
+        let b : k + 4 + (2 - 1) ≡ k + 5 = omega arith in
+        rw (a, b)
+
+    to : Said → RecordParts w p k x
+    to s =
+        record {
+          values = s .0 .0 .0 .0 .0 .0;
+          father = s .0 .0 .0 .0 .0 .1;
+          flags = s .0 .0 .0 .0 .1 .0;
+          bits = s .0 .0 .0 .0 .1 .1;
+          num-word = s .0 .0 .0 .1;
+          father-word = s .0 .0 .1;
+          free = zeros ∙ and-both (isFree w (k + 4)) (isFree w (k + 5)) (s .0 .1) (s .1);
+        }
+
+    from : RecordParts w p k x → Said
+    from s =
+        let z = sym zeros ∙ s .free in
+        ((((((s .values, s .father), (s .flags, s .bits)), s .num-word), s .father-word), and-left (isFree w (k + 4)) (isFree w (k + 5)) z), and-right (isFree w (k + 4)) (isFree w (k + 5)) z)
+
+-- the record stands at word k, and x was read there
+pub recordTest-parts : (w : List ℤ) (p k : ℕ) (x : Process) → k ≡ recordPlace (fieldsIn w) p → x ≡ recordAt w k → Tells (recordTest w p) (RecordParts w p k x)
+recordTest-parts w p k x ek ex = rw (ex, ek) (recordTest-at w p)
+
+-- ---- an arc
+
+module _ (w : List ℤ) (k i : ℕ) (e : i ≡ linkPlace (fieldsIn w) k) where
+  pub arcTest-no : linkTest w i ≡ false → arcTest w k ≡ false
+  unfolding arcTest
+  arcTest-no h = rw (← e, h)
+
+  -- the link back is there exactly if no arc leads back
+  pub arcTest-back : {b : Bool} → linkTest w i ≡ true → arcOf (fieldsIn w) (arcAt (fieldsIn w) k .to) (arcAt (fieldsIn w) k .from) ≡ 0 → b ≡ linkTest w (i + 8) → b ≡ arcTest w k
+  unfolding arcTest hasBack
+  arcTest-back h o q = rw (← e, h, o) q
+
+  pub arcTest-free : {b : Bool} → linkTest w i ≡ true → (arcOf (fieldsIn w) (arcAt (fieldsIn w) k .to) (arcAt (fieldsIn w) k .from) ≡ 0 → ⊥) → b ≡ allTo 8 (λ j. isFree w (i + 8 + (j - 1))) → b ≡ arcTest w k
+  unfolding arcTest hasBack
+  arcTest-free h o q =
+      rw (← e, h, ne-eqb (arcOf (fieldsIn w) (arcAt (fieldsIn w) k .to) (arcAt (fieldsIn w) k .from)) 0 o)
+      (q ∙ allTo-cong 8 (λ j. isFree w (i + 8 + (j - 1))) (λ j. isFree w (i + (7 + j))) (λ j l u. let r : i + 8 + (j - 1) ≡ i + (7 + j) = omega arith in rw r))
+
+-- ---- an area
+
+pub record AreaParts (w : List ℤ) : Type 0 where
+  pub sizes : sizesTest w ≡ true
+  pub fields : allTo (fieldCount (fieldsIn w)) (λ j. fieldTest w (j - 1)) ≡ true
+  pub table : fieldsNumber (fieldsIn w) ≡ 0
+  pub head : headTest w ≡ true
+  pub records : allTo (nOf (fieldsIn w)) (recordTest w) ≡ true
+  pub arcs : allTo (mOf (fieldsIn w)) (arcTest w) ≡ true
+
+pub areaTests-parts : (w : List ℤ) → Tells (areaTests w) (AreaParts w)
+unfolding areaTests
+areaTests-parts w =
+    tells-map (λ s. record { sizes = s .0 .0 .0 .0 .0; fields = s .0 .0 .0 .0 .1; table = s .0 .0 .0 .1; head = s .0 .0 .1; records = s .0 .1; arcs = s .1 }) (λ s. (((((s .sizes, s .fields), s .table), s .head), s .records), s .arcs))
+    (tells-both (tells-both (tells-both (tells-both (tells-both (tells-id (sizesTest w)) (tells-id (allTo (fieldCount (fieldsIn w)) (λ j. fieldTest w (j - 1))))) (tells-eq (fieldsNumber (fieldsIn w)) 0)) (tells-id (headTest w))) (tells-id (allTo (nOf (fieldsIn w)) (recordTest w)))) (tells-id (allTo (mOf (fieldsIn w)) (arcTest w))))

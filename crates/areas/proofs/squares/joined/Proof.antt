@@ -1,0 +1,15 @@
+-- `areas::squares::joined` meets its contract: one of the two passes exactly if the first does, or the second.
+-- Assumes nothing.
+use mathlib.Core.Path.{sym, _∙_}
+use borrow.Author.Needs.{needs}
+use Rattle.areas.proofs.squares.joined.Statement.{statement}
+use Rattle.areas.proofs.squares.joined.Tie as tie
+
+returns : tie.Need-returns
+returns c = rw (sym (c .before .joins .ensures) ∙ c .if1 .taken)
+
+returns-2 : tie.Need-returns-2
+returns-2 c = rw (sym (c .before .before .joins .ensures) ∙ c .before .if1 .left) (c .joins2 .ensures)
+
+pub joined-spec : {M : Type 1} → statement M
+joined-spec = tie.close (tie.spec (λ c κs. search needs) returns (λ c κs. search needs) returns-2)

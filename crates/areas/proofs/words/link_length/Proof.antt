@@ -1,0 +1,77 @@
+-- `areas::words::link_length` meets its contract. The loop's invariant: as many messages as the link has are the `l` passed and those from there on.
+-- The measure is what is left of the four words.
+-- Assumes nothing.
+use Prim.Native.Nat.{ℕ, suc, _+_, _-_, _^_, _≤_, _<_}
+use mathlib.Core.List.{List}
+use mathlib.Core.Path.{_≡_, ap}
+use native.Mathlib.Omega.{arith}
+use lib.IntN.{ℤ, pos, negsuc, natAbs}
+use lib.ListN.{length, getD}
+use lib.Signed.{mag}
+use mir.Syntax.{w32}
+use mir.Val.{ofZ}
+use Rattle.areas.specs.Area.{messagesAt}
+use Rattle.areas.specs.LinkLaws.{messagesAt-stop, messagesAt-more, messagesAt-length}
+use Rattle.areas.proofs.Signs.{word-is}
+use Rattle.areas.proofs.words.link_length.Statement.{statement}
+use Rattle.areas.proofs.words.link_length.Tie as tie
+
+abbrev Inv-loop : tie.InvT-loop
+Inv-loop area i l₀ l = (l ≤ 4) × (length (messagesAt area i 4) ≡ l + length (messagesAt area (i + l) (4 - l)))
+
+abbrev μ-loop : tie.MeasureT-loop
+μ-loop area i l₀ l = 4 - l
+
+loop-holds : tie.Need-loop-holds Inv-loop μ-loop
+loop-holds c =
+    let q : c .args .i + 0 ≡ c .args .i = omega arith in
+    (omega arith, rw q (omega arith))
+
+module _ (w : List ℤ) (i l : ℕ) (u : l < 4) where
+  left : 4 - l ≡ suc (4 - (l + 1))
+  left = omega arith
+
+  stop : mag (getD w (i + l) (pos 0)) < 2 ^ 31 → ofZ w32 (getD w (i + l) (pos 0)) ≡ 0 → length (messagesAt w (i + l) (4 - l)) ≡ 0
+  stop h e = rw (left, messagesAt-stop w (i + l) (4 - (l + 1)) (ap natAbs (word-is (getD w (i + l) (pos 0)) 0 h (omega arith) e)))
+
+  more : (ofZ w32 (getD w (i + l) (pos 0)) ≡ 0 → ⊥) → length (messagesAt w (i + l) (4 - l)) ≡ suc (length (messagesAt w (i + (l + 1)) (4 - (l + 1))))
+  more h =
+      let q : i + (l + 1) ≡ suc (i + l) = omega arith in
+      rw (left, q, messagesAt-more w (i + l) (4 - (l + 1)) (λ e. h (zero-bits (getD w (i + l) (pos 0)) e)))
+    where
+      zero-bits : (z : ℤ) → natAbs z ≡ 0 → ofZ w32 z ≡ 0
+      zero-bits (pos n) e = e
+      zero-bits (negsuc n) e = absurd (omega arith)
+
+returns : tie.Need-returns Inv-loop μ-loop
+returns c =
+    let a = c .before .before .before .before .args in
+    let l = c .before .before .before .loop .l in
+    omega (arith, c .before .before .before .loop .inv .1, stop (a .area .now) (a .i) l (c .before .before .loop-test .taken) (c .before .if12 .given) (c .if1 .taken))
+
+loop-again : tie.Need-loop-again Inv-loop μ-loop
+loop-again c =
+    let a = c .before .before .before .before .args in
+    let l = c .before .before .before .loop .l in
+    (omega arith, omega (arith, c .before .before .before .loop .inv .1, more (a .area .now) (a .i) l (c .before .before .loop-test .taken) (c .if1 .left)))
+
+returns-2 : tie.Need-returns-2 Inv-loop μ-loop
+returns-2 c =
+    let a = c .before .before .args in
+    omega (arith, c .before .loop .inv .1, messagesAt-length (a .area .now) (a .i + c .before .loop .l) (4 - c .before .loop .l))
+
+pub link-length-spec : {M : Type 1} → statement M
+link-length-spec =
+    tie.close
+    (tie.spec
+    Inv-loop
+    μ-loop
+    loop-holds
+    (λ c. omega arith)
+    (λ c. omega arith)
+    (λ c. omega arith)
+    returns
+    (λ c. omega arith)
+    (λ c. omega arith)
+    loop-again
+    returns-2)

@@ -1,0 +1,45 @@
+-- `areas::words::put_record` meets its contract: each value is in its range, so that it is itself as a word, and the four stores are one after another.
+-- Assumes nothing.
+use native.Mathlib.Numerals.{add-one, add-two, add-three}
+use native.Mathlib.Omega.{arith}
+use borrow.Author.Needs.{needs}
+use lib.ListN.{length-set}
+use Rattle.areas.proofs.Signs.{word-back, word-number}
+use Rattle.areas.proofs.Records.{inRange-P}
+use Rattle.areas.proofs.words.put_record.Statement.{statement}
+use Rattle.areas.proofs.words.put_record.Tie as tie
+
+cast-num : tie.Need-cast-num
+cast-num c =
+    let start = c .before .before .before in
+    let h = inRange-P (start .args .x) (start .pre .1 .0) in
+    omega arith
+
+returns : tie.Need-returns
+returns c =
+    let start = c .before .before .before .before in
+    let x = start .args .x in
+    let h = inRange-P x (start .pre .1 .0) in
+    let flags = c .before .before .before .flags-of in
+    rw (word-back (flags .result) (flags .ok), flags .ensures, word-back (x .cs) (h .cs), word-number (x .num) (omega arith), word-number (x .father) (omega arith), add-one, add-two, add-three)
+
+pub put-record-spec : {M : Type 1} → statement M
+put-record-spec =
+    tie.close
+    (tie.spec
+    (λ c κs. search needs)
+    cast-num
+    (λ c. search needs)
+    (λ c. search needs)
+    (λ c. search needs)
+    (λ c. search needs)
+    (λ c. search needs)
+    (λ c. simp length-set (omega arith))
+    (λ c. search needs)
+    (λ c. search needs)
+    (λ c. simp length-set (omega arith))
+    (λ c. search needs)
+    (λ c. search needs)
+    (λ c. simp length-set (omega arith))
+    (λ c. search needs)
+    returns)

@@ -1,0 +1,47 @@
+-- `areas::words::record_at` meets its contract: each word comes back from its bits, and `number` says what it is without its sign.
+-- Assumes nothing.
+use Prim.Native.Nat.{ℕ, _+_, _^_, _<_}
+use mathlib.Core.List.{List}
+use mathlib.Core.Path.{_≡_}
+use borrow.Author.Needs.{needs}
+use lib.IntN.{ℤ, pos, natAbs}
+use lib.ListN.{getD}
+use lib.Signed.{mag}
+use mir.Syntax.{w32}
+use mir.Val.{toZ, ofZ}
+use Rattle.areas.specs.Area.{numberAt}
+use Rattle.areas.proofs.Signs.{word-back}
+use Rattle.areas.proofs.words.record_at.Statement.{statement}
+use Rattle.areas.proofs.words.record_at.Tie as tie
+
+-- what `number` says of a word that was read back
+numbered : {r : ℕ} (w : List ℤ) (k : ℕ) → mag (getD w k (pos 0)) < 2 ^ 31 → r ≡ natAbs (toZ w32 (ofZ w32 (getD w k (pos 0)))) → r ≡ numberAt w k
+numbered w k h e = rw (word-back (getD w k (pos 0)) h) at e
+
+returns : tie.Need-returns
+returns c =
+    let read = c .before .before .before .before in
+    let a = read .before .before .before .args in
+    let w = a .area .now in
+    let k = a .k in
+    rw (numbered w k (read .before .before .number-arg .given) (read .before .number .ensures), word-back (getD w (k + 1) (pos 0)) (read .t6 .given), numbered w (k + 2) (c .before .before .before .number-arg2 .given) (c .before .before .number2 .ensures), numbered w (k + 3) (c .before .number-arg3 .given) (c .number3 .ensures))
+
+pub record-at-spec : {M : Type 1} → statement M
+record-at-spec =
+    tie.close
+    (tie.spec
+    (λ c. search needs)
+    (λ c. search needs)
+    (λ c κs. search needs)
+    (λ c. search needs)
+    (λ c. search needs)
+    (λ c. search needs)
+    (λ c. search needs)
+    (λ c. search needs)
+    (λ c. search needs)
+    (λ c κs. search needs)
+    (λ c. search needs)
+    (λ c. search needs)
+    (λ c. search needs)
+    (λ c κs. search needs)
+    returns)

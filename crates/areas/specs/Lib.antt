@@ -1,0 +1,24 @@
+-- What a reader must believe of the run area: Area (its layout, docs/LAYOUT.md, and which areas are well formed). AreaTests is its test
+pub mod Area
+pub mod Held
+pub mod Words
+pub mod Arcs
+pub mod HeldLaws
+pub mod RunLaws
+pub mod WordLaws
+pub mod StoredLaws
+pub mod WriteLaws
+pub mod ReadLaws
+pub mod AreaLaws
+pub mod ArcNumbers
+pub mod Places
+pub mod Tells
+pub mod WordTests
+pub mod Reads
+pub mod AreaTests
+pub mod RegionTests
+pub mod AreaTestsLaws
+pub mod Squares
+pub mod SquareLaws
+pub mod LinkLaws
+pub mod Testing

@@ -1,0 +1,79 @@
+-- What is read from an area, value by value.
+--   fieldsIn-n, fieldsIn-m, fieldsIn-at, fieldsIn-shut   == the fields of the copied table
+--   runIn-n, runIn-process, runIn-forth, runIn-back, runIn-held   == the run: its records, the two links of an arc, and nothing besides
+-- Assumes nothing.
+use Prim.Native.Nat.{ℕ, _+_, _≤_, _<_}
+use mathlib.Core.Bool.{true}
+use mathlib.Core.List.{List}
+use mathlib.Core.Path.{_≡_, refl, ap, _∙_}
+use lib.IntN.{ℤ}
+use borrow.Author.Tests.{lt-ltb, le-ltb, le-leb}
+use native.Mathlib.Omega.{arith}
+use Rattle.tables.specs.Table.{Fields, nOf, mOf, arcAt}
+use Rattle.tables.specs.Layout.{Process, IsArc, Right}
+use Rattle.tables.specs.Waits.{waitsOf, neighbours}
+use Rattle.areas.specs.Area.{fieldPlace, fieldCount, recordPlace, linkPlace, linkOf, hasBack, cut, numberAt, fieldsIn, recordAt, messagesAt, runIn}
+use Rattle.areas.specs.Held.{Shut, Held}
+use Rattle.areas.specs.ArcNumbers.{linkOf-arc, linkOf-back, neighbours-arc, neighbours-swap}
+
+-- ---- cut
+
+pub cut-n : (t : Fields) → nOf (cut t) ≡ nOf t
+unfolding cut
+cut-n t = rw (lt-ltb 0 (fieldCount t) (omega arith))
+
+pub cut-m : (t : Fields) → mOf (cut t) ≡ mOf t
+unfolding cut
+cut-m t = rw (lt-ltb 1 (fieldCount t) (omega arith))
+
+pub cut-at : (t : Fields) (j : ℕ) → j < fieldCount t → cut t j ≡ t j
+unfolding cut
+cut-at t j h = rw (lt-ltb j (fieldCount t) h)
+
+pub cut-past : (t : Fields) (j : ℕ) → fieldCount t ≤ j → cut t j ≡ 0
+unfolding cut
+cut-past t j h = rw (le-ltb j (fieldCount t) h)
+
+-- ---- fieldsIn
+
+pub fieldsIn-n : (w : List ℤ) → nOf (fieldsIn w) ≡ numberAt w 14
+unfolding fieldsIn
+fieldsIn-n w = cut-n (λ j. numberAt w (fieldPlace j))
+
+pub fieldsIn-m : (w : List ℤ) → mOf (fieldsIn w) ≡ numberAt w 15
+unfolding fieldsIn
+fieldsIn-m w = cut-m (λ j. numberAt w (fieldPlace j))
+
+pub fieldsIn-at : (w : List ℤ) (j : ℕ) → j < fieldCount (fieldsIn w) → fieldsIn w j ≡ numberAt w (fieldPlace j)
+unfolding fieldsIn
+fieldsIn-at w j h = cut-at (λ i. numberAt w (fieldPlace i)) j (omega (arith, cut-n (λ i. numberAt w (fieldPlace i)), cut-m (λ i. numberAt w (fieldPlace i))))
+
+pub fieldsIn-shut : (w : List ℤ) → Shut (fieldsIn w)
+unfolding fieldsIn
+fieldsIn-shut w j h = cut-past (λ i. numberAt w (fieldPlace i)) j (omega (arith, cut-n (λ i. numberAt w (fieldPlace i)), cut-m (λ i. numberAt w (fieldPlace i))))
+
+-- ---- runIn
+
+pub runIn-process : (w : List ℤ) (p : ℕ) → Process (fieldsIn w) p → runIn w .process p ≡ recordAt w (recordPlace (fieldsIn w) p)
+unfolding runIn
+runIn-process w p h = rw (le-leb 1 p (h .0), le-leb p (nOf (fieldsIn w)) (h .1))
+
+pub runIn-n : (w : List ℤ) → runIn w .waits .n ≡ nOf (fieldsIn w)
+unfolding runIn waitsOf
+runIn-n w = refl
+
+pub runIn-link : (w : List ℤ) (a b : ℕ) → neighbours (waitsOf (fieldsIn w)) a b ≡ true → runIn w .link a b ≡ messagesAt w (linkOf (fieldsIn w) a b) 4
+unfolding runIn
+runIn-link w a b h = rw h
+
+pub runIn-held : (w : List ℤ) → Held (fieldsIn w) (runIn w)
+unfolding runIn
+runIn-held w = record { waits = refl; processes = λ p h. rw h; links = λ a b h. rw h }
+
+-- the first link of an arc, and the second where there is one
+pub runIn-forth : (w : List ℤ) → Right (fieldsIn w) → (k : ℕ) → IsArc (fieldsIn w) k → runIn w .link (arcAt (fieldsIn w) k .from) (arcAt (fieldsIn w) k .to) ≡ messagesAt w (linkPlace (fieldsIn w) k) 4
+runIn-forth w g k r = runIn-link w _ _ (neighbours-arc (fieldsIn w) k r) ∙ ap (λ (i : ℕ). messagesAt w i 4) (linkOf-arc (fieldsIn w) g k r)
+
+pub runIn-back : (w : List ℤ) → Right (fieldsIn w) → (k : ℕ) → IsArc (fieldsIn w) k → hasBack (fieldsIn w) k ≡ true → runIn w .link (arcAt (fieldsIn w) k .to) (arcAt (fieldsIn w) k .from) ≡ messagesAt w (linkPlace (fieldsIn w) k + 8) 4
+runIn-back w g k r h =
+    runIn-link w _ _ (neighbours-swap (fieldsIn w) _ _ ∙ neighbours-arc (fieldsIn w) k r) ∙ ap (λ (i : ℕ). messagesAt w i 4) (linkOf-back (fieldsIn w) g k r h)

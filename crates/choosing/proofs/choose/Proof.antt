@@ -1,0 +1,154 @@
+-- `choosing::choose` meets its contract. The outer loop's invariant: no sender before a has a message waiting; the inner one's: none waits from a to a receiver before b.
+-- Until the loops are left by label `from` is 0. The measures are what is left.
+-- Assumes nothing.
+use Prim.Native.Nat.{ℕ, _-_, _≤_}
+use mathlib.Core.Path.{_≡_, refl, sym, _∙_}
+use mathlib.Core.Logic.{⊎-elim}
+use native.Mathlib.Omega.{arith}
+use lib.ListN.{length}
+use Rattle.checks.specs.Run.{Run}
+use Rattle.checks.specs.Calls.{nobody, pair, lowestReceiver, lowestSender, lowest}
+use Rattle.areas.specs.Area.{runIn}
+use Rattle.choosing.specs.declared.Chosen.the-variants.{Nobody, Link}
+use Rattle.choosing.specs.Loads.{chosenOf}
+use Rattle.choosing.specs.ReadyLaws.{ready-n, ready-sizes}
+use Rattle.choosing.specs.OrderLaws.{lowestReceiver-start, lowestReceiver-pass, lowestReceiver-hit, lowestReceiver-none, lowestSender-start, lowestSender-pass, lowest-hit, lowest-miss}
+use Rattle.choosing.proofs.choose.Statement.{statement}
+use Rattle.choosing.proofs.choose.Tie as tie
+
+abbrev Inv-loop : tie.InvT-loop
+Inv-loop area square n m loads end from₀ to₀ a b₀ from to b =
+    (1 ≤ b) × (b ≤ end) × (from ≡ 0) × (lowestReceiver (runIn area) a (b - 1) ≡ nobody)
+
+abbrev μ-loop : tie.MeasureT-loop
+μ-loop area square n m loads end from₀ to₀ a b₀ from to b = end - b
+
+abbrev Inv-scan : tie.InvT-scan
+Inv-scan area square n m loads end from₀ to₀ a₀ from to a =
+    (1 ≤ a) × (a ≤ end) × (from ≡ 0) × (lowestSender (runIn area) (a - 1) ≡ nobody)
+
+abbrev μ-scan : tie.MeasureT-scan
+μ-scan area square n m loads end from₀ to₀ a₀ from to a = end - a
+
+-- ---- what the loops find
+
+data Found (r : Run) (from to : ℕ) : Type 0 where
+  none : from ≡ 0 → lowest r ≡ nobody → Found r from to
+  some : 1 ≤ from → lowest r ≡ pair from to → Found r from to
+
+-- every sender passed
+found-none : {r : Run} {from to : ℕ} (k : ℕ) → from ≡ 0 → k ≡ r .waits .n → lowestSender r k ≡ nobody → Found r from to
+found-none {r} k z q e = none z (lowest-miss r (rw q at e))
+
+-- every receiver passed
+receiver-none : (r : Run) (a k : ℕ) → k ≡ r .waits .n → lowestReceiver r a k ≡ nobody → lowestReceiver r a (r .waits .n) ≡ nobody
+receiver-none r a k q e = rw q at e
+
+-- n messages wait from a to b, and nothing before them in the order
+found-some : {r : Run} {from to a b : ℕ} (n : ℕ) → 1 ≤ a → a ≤ r .waits .n → 1 ≤ b → b ≤ r .waits .n → lowestSender r (a - 1) ≡ nobody → lowestReceiver r a (b - 1) ≡ nobody → n ≡ length (r .link a b) → (n ≡ 0 → ⊥) → from ≡ a → to ≡ b → Found r from to
+found-some {r} {from} {to} {a} {b} n la ua lb ub ea eb l z f t =
+    some (omega arith) (rw (f, t) (lowest-hit r a la ua ea (lowestReceiver-hit r a b (r .waits .n) lb ub eb (λ e. z (l ∙ e)))))
+
+answer-nobody : {r : Run} {from to : ℕ} → Found r from to → from ≡ 0 → Nobody ≡ chosenOf (lowest r)
+answer-nobody (none z e) t = rw e
+answer-nobody (some l e) t = absurd (omega arith)
+
+answer-link : {r : Run} {from to : ℕ} → Found r from to → (from ≡ 0 → ⊥) → Link from to ≡ chosenOf (lowest r)
+answer-link (none z e) t = absurd (t z)
+answer-link (some l e) t = rw e
+
+-- ---- the needs
+
+add-end : tie.Need-add-end Inv-loop μ-loop Inv-scan μ-scan
+add-end c = omega (arith, ready-sizes (c .pre .0) .0)
+
+scan-holds : tie.Need-scan-holds Inv-loop μ-loop Inv-scan μ-scan
+scan-holds c = (omega arith, omega arith, refl, lowestSender-start (runIn (c .args .area .now)))
+
+mul-if1 : tie.Need-mul-if1 Inv-loop μ-loop Inv-scan μ-scan
+mul-if1 c = omega (arith, ready-sizes (c .before .before .pre .0) .0)
+
+element-copy-out-if1 : tie.Need-element-copy-out-if1 Inv-loop μ-loop Inv-scan μ-scan
+element-copy-out-if1 c = omega (arith, ready-sizes (c .before .before .pre .0) .0)
+
+loop-holds : tie.Need-loop-holds Inv-loop μ-loop Inv-scan μ-scan
+loop-holds c =
+    let scan = c .before .before .before .scan in
+    let start = c .before .before .before .before in
+    (omega arith, omega arith, scan .inv .2, lowestReceiver-start (runIn (start .args .area .now)) (scan .a))
+
+waiting-requires : tie.Need-waiting-requires Inv-loop μ-loop Inv-scan μ-scan
+waiting-requires c κs =
+    (c .before .before .before .before .before .before .pre .0, (omega arith, omega arith))
+
+add-b : tie.Need-add-b Inv-loop μ-loop Inv-scan μ-scan
+add-b c = omega (arith, ready-sizes (c .before .before .before .before .before .before .before .before .pre .0) .0)
+
+loop-again : tie.Need-loop-again Inv-loop μ-loop Inv-scan μ-scan
+loop-again c =
+    let loop = c .before .before .before .loop in
+    let scan = c .before .before .before .before .before .before .before .scan in
+    let start = c .before .before .before .before .before .before .before .before in
+    let r = runIn (start .args .area .now) in
+    (omega arith, omega arith, loop .inv .2, lowestReceiver-pass r (scan .a) (loop .b) (omega arith) (loop .inv .3) (sym (c .before .waiting .ensures) ∙ c .if2 .left))
+
+add-a : tie.Need-add-a Inv-loop μ-loop Inv-scan μ-scan
+add-a c = omega (arith, ready-sizes (c .before .before .before .before .pre .0) .0)
+
+-- a sender has nothing waiting: by its load, or receiver by receiver
+passed : (c : tie.Joined1 Inv-loop μ-loop Inv-scan μ-scan) → (c .if1 .from ≡ 0) × (lowestReceiver (runIn (c .before .before .before .before .args .area .now)) (c .before .before .before .scan .a) (runIn (c .before .before .before .before .args .area .now) .waits .n) ≡ nobody)
+passed c =
+    let scan = c .before .before .before .scan in
+    let start = c .before .before .before .before in
+    let r = runIn (start .args .area .now) in
+    let few = ready-n (start .pre .0) in
+    ⊎-elim
+    (λ w. (w .3 ∙ w .1 .inv .2, receiver-none r (scan .a) (w .1 .b - 1) (omega (arith, few)) (w .1 .inv .3)))
+    (λ w. (w .1 ∙ scan .inv .2, lowestReceiver-none r (scan .a) (sym (start .pre .1 .loads (scan .a) (omega arith) (omega (arith, few))) ∙ w .0 .left)))
+    (c .if1 .came)
+
+scan-again : tie.Need-scan-again Inv-loop μ-loop Inv-scan μ-scan
+scan-again c =
+    let scan = c .before .before .before .scan in
+    let start = c .before .before .before .before in
+    let r = runIn (start .args .area .now) in
+    (omega arith, omega arith, passed c .0, lowestSender-pass r (scan .a) (omega arith) (scan .inv .3) (passed c .1))
+
+found : (c : tie.Left-scan Inv-loop μ-loop Inv-scan μ-scan) → Found (runIn (c .before .before .args .area .now)) (c .scan-test .from) (c .scan-test .to)
+found c =
+    let scan = c .before .scan in
+    let start = c .before .before in
+    let few = ready-n (start .pre .0) in
+    ⊎-elim
+    (λ w. found-none (scan .a - 1) (w .1 ∙ scan .inv .2) (omega (arith, few)) (scan .inv .3))
+    (λ w. found-some (w .5 .result) (omega arith) (omega (arith, few)) (omega arith) (omega (arith, few)) (scan .inv .3) (w .3 .inv .3) (w .5 .ensures) (w .6 .taken) (w .7) (w .8))
+    (c .scan-test .came)
+
+returns : tie.Need-returns Inv-loop μ-loop Inv-scan μ-scan
+returns c = answer-nobody (found (c .before)) (c .if3 .taken)
+
+returns-2 : tie.Need-returns-2 Inv-loop μ-loop Inv-scan μ-scan
+returns-2 c = answer-link (found (c .before)) (c .if3 .left)
+
+pub choose-spec : {M : Type 1} → statement M
+choose-spec =
+    tie.close
+    (tie.spec
+    Inv-loop
+    μ-loop
+    Inv-scan
+    μ-scan
+    add-end
+    scan-holds
+    mul-if1
+    element-copy-out-if1
+    loop-holds
+    waiting-requires
+    add-b
+    (λ c. omega arith)
+    loop-again
+    add-a
+    (λ c. omega arith)
+    scan-again
+    returns
+    returns-2)

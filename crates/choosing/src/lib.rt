@@ -1,0 +1,109 @@
+// The fixed order of running on: "lowest sender first and then lowest receiver among links with a message". It stands alone so that another
+// order is another function beside it.
+use areas::squares;
+use areas::words;
+ghost use mathlib.Core.Path.{_≡_};
+ghost use Prim.Native.Nat.{_≤_};
+ghost use lib.ListN.{length};
+ghost use Rattle.areas.specs.Area.{runIn};
+ghost use Rattle.checks.specs.Calls.{lowest};
+ghost use Rattle.moves.specs.Ready.{Ready};
+ghost use Rattle.choosing.specs.Loads.{loadOf, Loaded, LoadedBut, chosenOf};
+
+// A link with a message, or none.
+pub enum Chosen {
+    Link { from: usize, to: usize },
+    Nobody,
+}
+
+// How many messages wait on the link from a to b; 0 if there is no link.
+pub fn waiting(area: &[i32], square: &[u16; 16641], n: usize, m: usize, a: usize, b: usize) -> usize
+    requires { ⌜ Ready (now area) (now square) n m ⌝ }
+    requires { ⌜ (1 ≤ a) × (a ≤ n) ⌝ }
+    requires { ⌜ (1 ≤ b) × (b ≤ n) ⌝ }
+    ensures { λ r. ⌜ r ≡ length (runIn (now (area .entry)) .link a b) ⌝ }
+{
+    if !squares::joined(square, a, b) {
+        return 0;
+    }
+    words::link_length(area, squares::place(square, n, m, a, b))
+}
+
+// How many messages wait on all links from a.
+pub fn load_of(area: &[i32], square: &[u16; 16641], n: usize, m: usize, a: usize) -> usize
+    requires { ⌜ Ready (now area) (now square) n m ⌝ }
+    requires { ⌜ (1 ≤ a) × (a ≤ n) ⌝ }
+    ensures { λ r. ⌜ r ≡ loadOf (runIn (now (area .entry))) a ⌝ }
+    ensures { λ r. ⌜ r ≤ 512 ⌝ }
+{
+    let end = n + 1;
+    let mut l = 0;
+    for b in 1..end {
+        l += waiting(area, square, n, m, a, b);
+    }
+    l
+}
+
+// The load of each sender.
+pub fn fill_loads(area: &[i32], square: &[u16; 16641], n: usize, m: usize, loads: &mut [usize; 129])
+    requires { ⌜ Ready (now area) (now square) n m ⌝ }
+    requires { ⌜ length (now loads) ≡ 129 ⌝ }
+    ensures { λ _. ⌜ Loaded (runIn (now (area .entry))) (now (loads .exit)) ⌝ }
+{
+    let end = n + 1;
+    for a in 1..end {
+        loads[a] = load_of(area, square, n, m, a);
+    }
+}
+
+// The loads of a and b anew: after a delivery from a to b those of the others stand.
+pub fn refresh(
+    area: &[i32],
+    square: &[u16; 16641],
+    n: usize,
+    m: usize,
+    a: usize,
+    b: usize,
+    loads: &mut [usize; 129],
+)
+    requires { ⌜ Ready (now area) (now square) n m ⌝ }
+    requires { ⌜ (1 ≤ a) × (a ≤ n) ⌝ }
+    requires { ⌜ (1 ≤ b) × (b ≤ n) ⌝ }
+    requires { ⌜ LoadedBut (runIn (now area)) (now loads) a b ⌝ }
+    ensures { λ _. ⌜ Loaded (runIn (now (area .entry))) (now (loads .exit)) ⌝ }
+{
+    loads[a] = load_of(area, square, n, m, a);
+    loads[b] = load_of(area, square, n, m, b);
+}
+
+// The first link with a message, in the fixed order: a sender with none is passed over by its load.
+pub fn choose(
+    area: &[i32],
+    square: &[u16; 16641],
+    n: usize,
+    m: usize,
+    loads: &[usize; 129],
+) -> Chosen
+    requires { ⌜ Ready (now area) (now square) n m ⌝ }
+    requires { ⌜ Loaded (runIn (now area)) (now loads) ⌝ }
+    ensures { λ r. ⌜ r ≡ chosenOf (lowest (runIn (now (area .entry)))) ⌝ }
+{
+    let end = n + 1;
+    let mut from = 0;
+    let mut to = 0;
+    'scan: for a in 1..end {
+        if loads[a] != 0 {
+            for b in 1..end {
+                if waiting(area, square, n, m, a, b) != 0 {
+                    from = a;
+                    to = b;
+                    break 'scan;
+                }
+            }
+        }
+    }
+    if from == 0 {
+        return Chosen::Nobody;
+    }
+    Chosen::Link { from, to }
+}

@@ -1,0 +1,227 @@
+-- What the answer of the receiver's step says of a delivery in a well-formed run.
+--   steppedAt-is          == the receiver's step is refused only by 22, and is else its turn
+--   Taking r a b m x y z  == x, y and z are what the receiver's turn leaves, and it meets no 22
+--   steppedAt-taken, steppedAt-refused   == what an answer of the step says
+--   roomy r a b y z       == no link from b would hold a fifth message
+--   accepts-is            == the delivery of a step that is taken meets no 22 exactly if the count and the links have room
+--   accepts-of, accepts-refused, accepts-full, accepts-crowded   == it meets no 22, or 22 for one of its three reasons
+--   carried-of            == what makes the changes of an accepted delivery possible
+--   message-small         == the count of a waiting message is in range
+--   deliver-empty, deliver-refused, deliver-answer, deliver-run   == what a delivery answers, and the run that it leaves
+-- Assumes nothing.
+use Prim.Native.Nat.{ℕ, _+_, _≤_, _<_}
+use mathlib.Core.Bool.{Bool, true, false, not, _&&_}
+use mathlib.Core.List.{List, [], _∷_}
+use mathlib.Core.Path.{_≡_, refl, sym, ap, _∙_, fun-ext}
+use mathlib.Core.Logic.{⊎-elim}
+use native.Mathlib.Omega.{arith}
+use borrow.Author.Tests.{eqb-true, ne-eqb, leb-true, le-leb, lt-leb, le-ltb}
+use lib.Dec.{eqb, leb}
+use lib.ListN.{length}
+use Rattle.base.specs.Choice.{choose, bit, bit-≤1, Tested, passed, failed, tested, and-both, and-left, or-cases}
+use Rattle.base.specs.Sums.{countTo, sumTo-most, allTo, allTo-at}
+use Rattle.tables.specs.Table.{Fields}
+use Rattle.tables.specs.Waits.{Waits, Sound, outDegree, inDegree, neighbours}
+use Rattle.steps.specs.declared.Message.{Message}
+use Rattle.steps.specs.declared.Process.{Process}
+use Rattle.steps.specs.declared.Probes.{Probes}
+use Rattle.steps.specs.declared.Reply.{Reply}
+use Rattle.steps.specs.declared.Stepped.{Stepped}
+use Rattle.steps.specs.declared.Stepped.the-variants.{Taken}
+use Rattle.steps.specs.Step.{inRange, countSmall, fitting, lentInRange, stepNumber, stepped, startStepped, answer, turn}
+use Rattle.checks.specs.declared.Delivery.the-variants.{Delivered}
+use Rattle.checks.specs.Run.{Run, wellFormed, fatherRight, countsSmall, turnAt, after, accepts}
+use Rattle.checks.specs.Calls.{refused, delivered, deliver}
+use Rattle.areas.specs.Held.{Held}
+use Rattle.moves.specs.Formed.{parts-of, new-range, new-reply, new-father, replied}
+use Rattle.moves.specs.Rooms.{loadAfter}
+use Rattle.moves.specs.Delivering.{steppedAt, carriedOut, Carried}
+use Rattle.moves.specs.ChangeLaws.{neighbours-ends}
+use Rattle.moves.specs.DeliveryLaws.{carriedOut-is, loadAfter-is}
+
+-- ---- degrees
+
+countTo-most : (n : ℕ) (p : ℕ → Bool) → countTo n p ≤ n
+unfolding countTo
+countTo-most n p = omega (arith, sumTo-most n 1 (λ k. bit (p k)) (λ k l u. bit-≤1 (p k)))
+
+outDegree-most : (w : Waits) (p : ℕ) → outDegree w p ≤ w .n
+unfolding outDegree
+outDegree-most w p = countTo-most (w .n) (λ q. w .waits p q)
+
+inDegree-most : (w : Waits) (p : ℕ) → inDegree w p ≤ w .n
+unfolding inDegree
+inDegree-most w p = countTo-most (w .n) (λ q. w .waits q p)
+
+-- ---- the receiver's step
+
+-- the step of a process other than the start, where what it is lent is in range
+stepped-lent : (m : Message) (o i p : ℕ) (x : Process) → lentInRange m o i x ≡ true → 1 ≤ p → p ≤ 128 → stepped m o i p x ≡ answer (choose (not (fitting m x (turn m o i p x))) 22 0) (turn m o i p x)
+unfolding stepped stepNumber
+stepped-lent m o i p x e l u = rw (e, ne-eqb p 0 (λ q. omega arith), le-ltb 128 p u)
+
+-- x, y and z are what the receiver's turn leaves, and it meets no 22
+pub record Taking (r : Run) (a b : ℕ) (m : Message) (x : Process) (y : Probes) (z : Reply) : Type 0 where
+  pub fits : fitting m (r .process b) (turnAt r a b m) ≡ true
+  pub process : x ≡ turnAt r a b m .process
+  pub probes : y ≡ turnAt r a b m .probes
+  pub reply : z ≡ turnAt r a b m .reply
+
+module _ (r : Run) (h : wellFormed r ≡ true) (sd : Sound (r .waits)) (a b : ℕ) (j : neighbours (r .waits) a b ≡ true) (m : Message) (c : countSmall m ≡ true) where
+  -- the father of a process is at most N
+  father-high : r .process b .father ≤ 128
+  unfolding fatherRight
+  father-high =
+      let e = neighbours-ends (r .waits) sd a b j in
+      ⊎-elim
+      (λ (f : eqb (r .process b .father) 0 ≡ true). omega (arith, eqb-true (r .process b .father) 0 f))
+      (λ (f : neighbours (r .waits) b (r .process b .father) ≡ true). omega (arith, neighbours-ends (r .waits) sd b (r .process b .father) f .3, sd .few))
+      (or-cases (eqb (r .process b .father) 0) (neighbours (r .waits) b (r .process b .father)) (parts-of r h .father b (e .2) (e .3)))
+
+  lent : lentInRange m (outDegree (r .waits) b) (inDegree (r .waits) b) (r .process b) ≡ true
+  unfolding lentInRange
+  lent =
+      let e = neighbours-ends (r .waits) sd a b j in
+      let x = r .process b in
+      let o = outDegree (r .waits) b in
+      let i = inDegree (r .waits) b in
+      and-both (inRange x && leb (x .father) 128 && countSmall m && leb o 128) (leb i 128)
+      (and-both (inRange x && leb (x .father) 128 && countSmall m) (leb o 128)
+      (and-both (inRange x && leb (x .father) 128) (countSmall m)
+      (and-both (inRange x) (leb (x .father) 128) (parts-of r h .range b (e .2) (e .3)) (le-leb (x .father) 128 father-high))
+      c)
+      (le-leb o 128 (omega (arith, outDegree-most (r .waits) b, sd .few))))
+      (le-leb i 128 (omega (arith, inDegree-most (r .waits) b, sd .few)))
+
+  pub steppedAt-is : steppedAt r a b m ≡ answer (choose (not (fitting m (r .process b) (turnAt r a b m))) 22 0) (turnAt r a b m)
+  unfolding turnAt startStepped
+  steppedAt-is = at (tested (eqb b (r .start)))
+    where
+      at : Tested (eqb b (r .start)) → steppedAt r a b m ≡ answer (choose (not (fitting m (r .process b) (turnAt r a b m))) 22 0) (turnAt r a b m)
+      at (passed e) = rw e
+      at (failed e) =
+          let k = neighbours-ends (r .waits) sd a b j in
+          rw e (stepped-lent m (outDegree (r .waits) b) (inDegree (r .waits) b) a (r .process b) lent (k .0) (omega (arith, k .1, sd .few)))
+
+  pub steppedAt-taken : (x : Process) (y : Probes) (z : Reply) → steppedAt r a b m ≡ Taken x y z → Taking r a b m x y z
+  unfolding answer
+  steppedAt-taken x y z e = at (tested (fitting m (r .process b) (turnAt r a b m)))
+    where
+      at : Tested (fitting m (r .process b) (turnAt r a b m)) → Taking r a b m x y z
+      at (passed f) =
+          let k : Taken (turnAt r a b m .process) (turnAt r a b m .probes) (turnAt r a b m .reply) ≡ Taken x y z = rw f at (sym steppedAt-is ∙ e) in
+          record { fits = f; process = cc; probes = cc; reply = cc }
+      at (failed f) =
+          let k : Stepped.Refused 22 ≡ Taken x y z = rw f at (sym steppedAt-is ∙ e) in
+          let n : _≡_ {A = ℕ} 0 1 = cc in
+          absurd (omega arith)
+
+  pub steppedAt-refused : (n : ℕ) → steppedAt r a b m ≡ Stepped.Refused n → fitting m (r .process b) (turnAt r a b m) ≡ false
+  unfolding answer
+  steppedAt-refused n e = at (tested (fitting m (r .process b) (turnAt r a b m)))
+    where
+      at : Tested (fitting m (r .process b) (turnAt r a b m)) → fitting m (r .process b) (turnAt r a b m) ≡ false
+      at (passed f) =
+          let k : Taken (turnAt r a b m .process) (turnAt r a b m .probes) (turnAt r a b m .reply) ≡ Stepped.Refused n = rw f at (sym steppedAt-is ∙ e) in
+          let o : _≡_ {A = ℕ} 0 1 = cc in
+          absurd (omega arith)
+      at (failed f) = f
+
+-- ---- a delivery
+
+-- no link from b holds a fifth message
+abbrev pub roomy : Run → ℕ → ℕ → Probes → Reply → Bool
+roomy r a b y z = allTo (r .waits .n) (λ q. leb (loadAfter r a b y z q) 4)
+
+not-first : (a b c : Bool) → a ≡ false → (a && b && c) ≡ false
+not-first a b c e = rw e
+
+not-second : (a b c : Bool) → b ≡ false → (a && b && c) ≡ false
+not-second true b c e = rw e
+not-second false b c e = refl
+
+not-right : (a b : Bool) → b ≡ false → (a && b) ≡ false
+not-right true b e = e
+not-right false b e = refl
+
+and-true : (a b : Bool) → (a && true && b) ≡ (a && b)
+and-true true b = refl
+and-true false b = refl
+
+module _ (r : Run) (h : wellFormed r ≡ true) (sd : Sound (r .waits)) (a b : ℕ) (j : neighbours (r .waits) a b ≡ true) (m : Message) (rest : List Message) (l : r .link a b ≡ m ∷ rest) where
+  -- the counts of waiting messages are in range
+  pub message-small : countSmall m ≡ true
+  unfolding countsSmall
+  message-small =
+      let e = neighbours-ends (r .waits) sd a b j in
+      let k : countsSmall (m ∷ rest) ≡ true = rw l at (parts-of r h .counts a b (e .0) (e .1) (e .2) (e .3)) in
+      and-left (countSmall m) (countsSmall rest) k
+
+  abbrev counted : Bool
+  counted = leb (r .count + 1) 2048
+
+  abbrev fits : Bool
+  fits = fitting m (r .process b) (turnAt r a b m)
+
+  abbrev held : Bool
+  held = allTo (r .waits .n) (λ q. leb (length (after r a b m rest .link b q)) 4)
+
+  -- the room that a promise asks for is the room that is counted
+  pub roomy-is : held ≡ roomy r a b (turnAt r a b m .probes) (turnAt r a b m .reply)
+  roomy-is = ap (allTo (r .waits .n)) (fun-ext (λ q. ap (λ (k : ℕ). leb k 4) (loadAfter-is r sd a b m rest l q)))
+
+  pub accepts-refused : (n : ℕ) → steppedAt r a b m ≡ Stepped.Refused n → accepts r a b m rest ≡ false
+  unfolding accepts
+  accepts-refused n e = not-second counted fits held (steppedAt-refused r h sd a b j m message-small n e)
+
+  pub accepts-full : 2048 ≤ r .count → accepts r a b m rest ≡ false
+  unfolding accepts
+  accepts-full u = not-first counted fits held (lt-leb (r .count + 1) 2048 (omega arith))
+
+  module _ (x : Process) (y : Probes) (z : Reply) (e : steppedAt r a b m ≡ Taken x y z) where
+    taking : Taking r a b m x y z
+    taking = steppedAt-taken r h sd a b j m message-small x y z e
+
+    roomy-taken : held ≡ roomy r a b y z
+    roomy-taken = rw (taking .probes, taking .reply) roomy-is
+
+    -- the delivery of a step that is taken meets no 22 exactly if the count and the links have room
+    pub accepts-is : accepts r a b m rest ≡ (leb (r .count + 1) 2048 && roomy r a b y z)
+    unfolding accepts
+    accepts-is = rw (taking .fits, roomy-taken) (and-true counted (roomy r a b y z))
+
+    pub accepts-crowded : roomy r a b y z ≡ false → accepts r a b m rest ≡ false
+    accepts-crowded f = accepts-is ∙ not-right counted (roomy r a b y z) f
+
+    module _ (few : r .count < 2048) (free : roomy r a b y z ≡ true) where
+      pub accepts-of : accepts r a b m rest ≡ true
+      accepts-of = accepts-is ∙ and-both counted (roomy r a b y z) (le-leb (r .count + 1) 2048 (omega arith)) free
+
+      pub carried-of : (t : Fields) → Held t r → Carried r a b x y z
+      carried-of t hd =
+          record {
+            joined = j;
+            waits = rw l;
+            range = rw (taking .process) (new-range r h sd a b j m rest l accepts-of);
+            father = rw (taking .process) (new-father r h sd a b j m rest l accepts-of);
+            replies = rw (taking .reply) (new-reply r h sd a b j m rest l accepts-of);
+            replied = λ p c f. replied t r hd h sd a b j m rest l accepts-of p c (sym (taking .reply) ∙ f);
+            count = omega arith;
+            room = λ q u v. leb-true (loadAfter r a b y z q) 4 (allTo-at (r .waits .n) (λ q. leb (loadAfter r a b y z q) 4) free q u v);
+          }
+
+      pub deliver-answer : deliver r a b (r .link a b) .answer ≡ Delivered m
+      unfolding deliver delivered
+      deliver-answer = rw (l, accepts-of)
+
+      pub deliver-run : deliver r a b (r .link a b) .run ≡ carriedOut r a b x y z
+      unfolding deliver delivered
+      deliver-run = rw (l, accepts-of, taking .process, taking .probes, taking .reply) (sym (carriedOut-is r sd a b m rest l))
+
+  pub deliver-refused : accepts r a b m rest ≡ false → deliver r a b (r .link a b) ≡ refused 22 r
+  unfolding deliver delivered
+  deliver-refused e = rw (l, e)
+
+pub deliver-empty : (r : Run) (a b : ℕ) → r .link a b ≡ [] → deliver r a b (r .link a b) ≡ refused 24 r
+unfolding deliver
+deliver-empty r a b e = rw e

@@ -1,0 +1,229 @@
+-- Each change that code makes of a run keeps it within its area and well formed; and how the probes of a broadcast go out one by one.
+--   fit-process, fit-link, fit-push, fit-take, fit-count   == one record, one link or the count replaced
+--   fit-spreadTo, fit-spread, fit-answered   == probes sent to some, to all, and an acknowledgement sent
+--   joins-low, joins-high, joins-neighbours  == whom a chain leads to is a process and a neighbour
+--   neighbours-ends, father-few   == neighbours are processes; a father is at most 128
+--   fit-size, probe-small   == the run's N is its table's; a probe has no count out of range
+--   link-right           == every link of such a run holds at most 4 messages, with counts in range
+--   spreadTo-none        == nothing is sent to those of 1 to 0
+--   spreadTo-sent, spreadTo-passed   == one process more, to whom the probe goes or does not go
+--   spreadTo-link        == the links to those further on are as they were
+-- Assumes nothing.
+use Prim.Native.Nat.{ℕ, zero, suc, _≤_, _<_}
+use mathlib.Core.Bool.{Bool, true, false, _&&_}
+use mathlib.Core.List.{List, [], _∷_, _++_, append-nil}
+use mathlib.Core.Path.{_≡_, refl, sym, ap, _∙_, subst, fun-ext}
+use mathlib.Core.Logic.{⊎-elim}
+use native.Mathlib.Omega.{arith}
+use borrow.Author.Tests.{eqb-true, eq-eqb, leb-true, leb-false, le-leb, lt-leb}
+use lib.Dec.{eqb, leb}
+use lib.ListN.{length, length-append}
+use lib.IntN.{ℤ}
+use Rattle.base.specs.Choice.{choose, and-both, and-right, or-left, or-right, or-cases, Same, same, apart, same?, Tested, passed, failed, tested}
+use Rattle.tables.specs.declared.Chain.{Chain}
+use Rattle.tables.specs.declared.Chain.the-variants.{Out, In}
+use Rattle.tables.specs.Table.{Fields, nOf}
+use Rattle.tables.specs.Waits.{Waits, Sound, waitsOf, neighbours}
+use Rattle.tables.specs.Chains.{joins}
+use Rattle.steps.specs.declared.Message.{Message}
+use Rattle.steps.specs.declared.Message.the-variants.{Ack}
+use Rattle.steps.specs.declared.Process.{Process}
+use Rattle.steps.specs.declared.Reply.{Reply}
+use Rattle.steps.specs.declared.Reply.the-variants.{To}
+use Rattle.steps.specs.Step.{inRange, small, countSmall, replyFits}
+use Rattle.checks.specs.Run.{Run, fatherRight, countsSmall, one}
+use Rattle.areas.specs.Held.{putProcess, putLink, putCount}
+use Rattle.areas.specs.HeldLaws.{held-process, held-link, held-count}
+use Rattle.moves.specs.Changes.{probeOf, spreadTo, spread, answered, tailOf}
+use Rattle.moves.specs.Formed.{counts-append, parts-of, formed-of}
+use Rattle.moves.specs.Fit.{Fit}
+
+-- ---- whom a chain leads to
+
+pub joins-low : (c : Chain) (w : Waits) → Sound w → (b q : ℕ) → joins c w b q ≡ true → 1 ≤ q
+joins-low Out w s b q e = s .to-low b q e
+joins-low In w s b q e = s .from-low q b e
+
+pub joins-high : (c : Chain) (w : Waits) → Sound w → (b q : ℕ) → joins c w b q ≡ true → q ≤ w .n
+joins-high Out w s b q e = s .to-high b q e
+joins-high In w s b q e = s .from-high q b e
+
+pub joins-neighbours : (c : Chain) (w : Waits) (b q : ℕ) → joins c w b q ≡ true → neighbours w b q ≡ true
+unfolding neighbours
+joins-neighbours Out w b q e = or-left (w .waits b q) (w .waits q b) e
+joins-neighbours In w b q e = or-right (w .waits b q) (w .waits q b) e
+
+-- neighbours are processes
+pub neighbours-ends : (w : Waits) → Sound w → (a b : ℕ) → neighbours w a b ≡ true → (1 ≤ a) × (a ≤ w .n) × (1 ≤ b) × (b ≤ w .n)
+unfolding neighbours
+neighbours-ends w s a b j =
+    ⊎-elim
+    (λ (e : w .waits a b ≡ true). (s .from-low a b e, s .from-high a b e, s .to-low a b e, s .to-high a b e))
+    (λ (e : w .waits b a ≡ true). (s .to-low b a e, s .to-high b a e, s .from-low b a e, s .from-high b a e))
+    (or-cases (w .waits a b) (w .waits b a) j)
+
+-- a father is at most 128
+pub father-few : (w : Waits) → Sound w → (p : ℕ) (x : Process) → fatherRight w p x ≡ true → x .father ≤ 128
+unfolding fatherRight
+father-few w s p x h =
+    ⊎-elim
+    (λ (e : eqb (x .father) 0 ≡ true). omega (arith, eqb-true (x .father) 0 e))
+    (λ (e : neighbours w p (x .father) ≡ true). omega (arith, neighbours-ends w s p (x .father) e .3, s .few))
+    (or-cases (eqb (x .father) 0) (neighbours w p (x .father)) h)
+
+-- ---- lists of messages
+
+-- one message more, with its count in range
+counts-push : (ms : List Message) (m : Message) → countsSmall ms ≡ true → countSmall m ≡ true → countsSmall (ms ++ (m ∷ [])) ≡ true
+unfolding countsSmall
+counts-push ms m p q = counts-append ms (m ∷ []) p (and-both (countSmall m) true q refl)
+
+tail-short : (ms : List Message) → length ms ≤ 4 → length (tailOf ms) ≤ 4
+tail-short [] h = h
+tail-short (m ∷ ms) h = omega arith
+
+tail-counts : (ms : List Message) → countsSmall ms ≡ true → countsSmall (tailOf ms) ≡ true
+unfolding countsSmall
+tail-counts [] h = h
+tail-counts (m ∷ ms) h = and-right (countSmall m) (countsSmall ms) h
+
+pub probe-small : (c : Chain) → countSmall (probeOf c) ≡ true
+unfolding countSmall
+probe-small Out = refl
+probe-small In = refl
+
+-- ---- one change
+
+module _ (t : Fields) (r : Run) (f : Fit t r) where
+  pub fit-size : r .waits .n ≡ nOf t
+  unfolding waitsOf
+  fit-size = ap (λ (w : Waits). w .n) (f .held .waits)
+
+  pub fit-count : (c : ℕ) → c ≤ 2048 → Fit t (putCount r c)
+  unfolding putCount
+  fit-count c u =
+      let g = parts-of r (f .formed) in
+      record {
+        held = held-count t r c (f .held);
+        formed = formed-of (putCount r c) (record { start-low = g .start-low; start-high = g .start-high; count = u; range = g .range; father = g .father; short = g .short; counts = g .counts });
+        sound = f .sound;
+      }
+
+  pub fit-process : (p : ℕ) (x : Process) → 1 ≤ p → p ≤ nOf t → inRange x ≡ true → fatherRight (r .waits) p x ≡ true → Fit t (putProcess r p x)
+  unfolding putProcess
+  fit-process p x l u i y =
+      let g = parts-of r (f .formed) in
+      record {
+        held = held-process t r p x l u (f .held);
+        formed = formed-of (putProcess r p x) (record { start-low = g .start-low; start-high = g .start-high; count = g .count; range = λ q a b. range q a b (same? q p); father = λ q a b. father q a b (same? q p); short = g .short; counts = g .counts });
+        sound = f .sound;
+      }
+    where
+      range : (q : ℕ) → 1 ≤ q → q ≤ r .waits .n → Same q p → inRange (choose (eqb q p) x (r .process q)) ≡ true
+      range q a b (same e v) = rw v i
+      range q a b (apart e v) = rw v (parts-of r (f .formed) .range q a b)
+
+      father : (q : ℕ) → 1 ≤ q → q ≤ r .waits .n → Same q p → fatherRight (r .waits) q (choose (eqb q p) x (r .process q)) ≡ true
+      father q a b (same e v) = rw (v, e) y
+      father q a b (apart e v) = rw v (parts-of r (f .formed) .father q a b)
+
+  pub fit-link : (a b : ℕ) (ms : List Message) → neighbours (r .waits) a b ≡ true → length ms ≤ 4 → countsSmall ms ≡ true → Fit t (putLink r a b ms)
+  unfolding putLink
+  fit-link a b ms j s k =
+      let g = parts-of r (f .formed) in
+      record {
+        held = held-link t r a b ms (subst (λ (w : Waits). neighbours w a b ≡ true) (f .held .waits) j) (f .held);
+        formed = formed-of (putLink r a b ms) (record { start-low = g .start-low; start-high = g .start-high; count = g .count; range = g .range; father = g .father; short = λ x y lx ux ly uy. either (λ l. length l ≤ 4) s (eqb x a && eqb y b) (r .link x y) (g .short x y lx ux ly uy); counts = λ x y lx ux ly uy. either (λ l. countsSmall l ≡ true) k (eqb x a && eqb y b) (r .link x y) (g .counts x y lx ux ly uy) });
+        sound = f .sound;
+      }
+    where
+      either : (P : List Message → Type 0) → P ms → (c : Bool) (l : List Message) → P l → P (choose c ms l)
+      either P p true l q = p
+      either P p false l q = q
+
+  -- every link is in range: both ends of a link between neighbours are processes, and no other link holds a message
+  pub link-right : (a b : ℕ) → (length (r .link a b) ≤ 4) × (countsSmall (r .link a b) ≡ true)
+  unfolding countsSmall
+  link-right a b = at (tested (neighbours (r .waits) a b))
+    where
+      at : Tested (neighbours (r .waits) a b) → (length (r .link a b) ≤ 4) × (countsSmall (r .link a b) ≡ true)
+      at (passed j) =
+          let g = parts-of r (f .formed) in
+          let e = neighbours-ends (r .waits) (f .sound) a b j in
+          (g .short a b (e .0) (e .1) (e .2) (e .3), g .counts a b (e .0) (e .1) (e .2) (e .3))
+      at (failed j) = rw (f .held .links a b (subst (λ (w : Waits). neighbours w a b ≡ false) (f .held .waits) j)) (omega arith, refl)
+
+  pub fit-push : (a b : ℕ) (m : Message) → neighbours (r .waits) a b ≡ true → countSmall m ≡ true → length (r .link a b) ≤ 3 → Fit t (putLink r a b (r .link a b ++ (m ∷ [])))
+  fit-push a b m j k s = fit-link a b (r .link a b ++ (m ∷ [])) j (rw length-append (omega arith)) (counts-push (r .link a b) m (link-right a b .1) k)
+
+  pub fit-take : (a b : ℕ) → neighbours (r .waits) a b ≡ true → Fit t (putLink r a b (tailOf (r .link a b)))
+  fit-take a b j = fit-link a b (tailOf (r .link a b)) j (tail-short (r .link a b) (link-right a b .0)) (tail-counts (r .link a b) (link-right a b .1))
+
+  pub fit-answered : (b : ℕ) (y : Reply) → replyFits y ≡ true → ((p : ℕ) (c : ℤ) → y ≡ To p c → (neighbours (r .waits) b p ≡ true) × (length (r .link b p) ≤ 3)) → Fit t (answered r b y)
+  unfolding answered replyFits countSmall
+  fit-answered b Reply.Nothing k h = f
+  fit-answered b (To p c) k h = fit-push b p (Ack c) (h p c refl .0) (and-right (leb 1 p) (small c) k) (h p c refl .1)
+
+-- ---- the probes of a broadcast, one by one
+
+module _ (c : Chain) (r : Run) (b : ℕ) where
+  pub spreadTo-link : (k q : ℕ) → k < q → spreadTo c r b k .link b q ≡ r .link b q
+  unfolding spreadTo
+  spreadTo-link k q h = rw (eq-eqb b b refl, lt-leb q k h)
+
+  -- runs that differ in their links alone
+  spreadTo-by : (k : ℕ) (l : ℕ → ℕ → List Message) → ((x y : ℕ) → spreadTo c r b k .link x y ≡ l x y) → spreadTo c r b k ≡ record { waits = r .waits; start = r .start; count = r .count; process = r .process; link = l }
+  unfolding spreadTo
+  spreadTo-by k l h =
+      let e : spreadTo c r b k .link ≡ l = fun-ext (λ x. fun-ext (λ y. h x y)) in
+      λ i. record { waits = r .waits; start = r .start; count = r .count; process = r .process; link = e i }
+
+  pub spreadTo-none : Sound (r .waits) → spreadTo c r b 0 ≡ r
+  unfolding spreadTo
+  spreadTo-none s = spreadTo-by 0 (r .link) (λ x y. at x y (tested (eqb x b && leb y 0)) (tested (joins c (r .waits) b y)))
+    where
+      at : (x y : ℕ) → Tested (eqb x b && leb y 0) → Tested (joins c (r .waits) b y) → choose (eqb x b && leb y 0) (r .link x y ++ one (joins c (r .waits) b y) (probeOf c)) (r .link x y) ≡ r .link x y
+      at x y (passed e) (passed j) = absurd (omega (arith, leb-true y 0 (and-right (eqb x b) (leb y 0) e), joins-low c (r .waits) s b y j))
+      at x y (passed e) (failed j) = rw (e, j) (append-nil (r .link x y))
+      at x y (failed e) _ = rw e
+
+  -- the test of one process more
+  upto : (k y : ℕ) → (y ≡ suc k → ⊥) → leb y (suc k) ≡ leb y k
+  upto k y n = at (tested (leb y k))
+    where
+      at : Tested (leb y k) → leb y (suc k) ≡ leb y k
+      at (passed e) = le-leb y (suc k) (omega (arith, leb-true y k e)) ∙ sym e
+      at (failed e) = lt-leb y (suc k) (omega (arith, leb-false y k e, n)) ∙ sym e
+
+  pub spreadTo-sent : (k : ℕ) → joins c (r .waits) b (suc k) ≡ true → spreadTo c r b (suc k) ≡ putLink (spreadTo c r b k) b (suc k) (r .link b (suc k) ++ (probeOf c ∷ []))
+  unfolding spreadTo putLink
+  spreadTo-sent k j = spreadTo-by (suc k) (putLink (spreadTo c r b k) b (suc k) (r .link b (suc k) ++ (probeOf c ∷ [])) .link) (λ x y. at x y (same? x b) (same? y (suc k)))
+    where
+      at : (x y : ℕ) → Same x b → Same y (suc k) → spreadTo c r b (suc k) .link x y ≡ putLink (spreadTo c r b k) b (suc k) (r .link b (suc k) ++ (probeOf c ∷ [])) .link x y
+      at x y (same e p) (same g q) = rw (p, q, e, g, le-leb (suc k) (suc k) (omega arith), j)
+      at x y (same e p) (apart g q) = rw (p, q, upto k y g)
+      at x y (apart e p) _ = rw p
+
+  pub spreadTo-passed : (k : ℕ) → joins c (r .waits) b (suc k) ≡ false → spreadTo c r b (suc k) ≡ spreadTo c r b k
+  unfolding spreadTo
+  spreadTo-passed k j = spreadTo-by (suc k) (spreadTo c r b k .link) (λ x y. at x y (same? x b) (same? y (suc k)))
+    where
+      at : (x y : ℕ) → Same x b → Same y (suc k) → spreadTo c r b (suc k) .link x y ≡ spreadTo c r b k .link x y
+      at x y (same e p) (same g q) = rw (p, e, g, le-leb (suc k) (suc k) (omega arith), lt-leb (suc k) k (omega arith), j) (append-nil (r .link b (suc k)))
+      at x y (same e p) (apart g q) = rw (p, upto k y g)
+      at x y (apart e p) _ = rw p
+
+  pub fit-spreadTo : (t : Fields) → Fit t r → (k : ℕ) → ((q : ℕ) → 1 ≤ q → q ≤ k → joins c (r .waits) b q ≡ true → length (r .link b q) ≤ 3) → Fit t (spreadTo c r b k)
+  unfolding spreadTo
+  fit-spreadTo t f zero h = rw (spreadTo-none (f .sound)) f
+  fit-spreadTo t f (suc k) h = at (fit-spreadTo t f k (λ q l u. h q l (omega arith))) (tested (joins c (r .waits) b (suc k)))
+    where
+      at : Fit t (spreadTo c r b k) → Tested (joins c (r .waits) b (suc k)) → Fit t (spreadTo c r b (suc k))
+      at g (passed j) =
+          let e : spreadTo c r b k .link b (suc k) ≡ r .link b (suc k) = spreadTo-link k (suc k) (omega arith) in
+          rw (spreadTo-sent k j, ← e) (fit-push t (spreadTo c r b k) g b (suc k) (probeOf c) (joins-neighbours c (r .waits) b (suc k) j) (probe-small c) (rw e (h (suc k) (omega arith) (omega arith) j)))
+      at g (failed j) = rw (spreadTo-passed k j) g
+
+  pub fit-spread : (t : Fields) → Fit t r → ((q : ℕ) → 1 ≤ q → q ≤ nOf t → joins c (r .waits) b q ≡ true → length (r .link b q) ≤ 3) → Fit t (spread c r b)
+  unfolding spread
+  fit-spread t f h = fit-spreadTo t f (r .waits .n) (λ q l u j. h q l (omega (arith, fit-size t r f)) j)

@@ -1,0 +1,69 @@
+-- `runs::reading::read_record` meets its contract: each way out is a law of CallLaws.
+-- Assumes nothing.
+use native.Mathlib.Omega.{arith}
+use mathlib.Core.Path.{_≡_, refl, sym, ap, _∙_}
+use borrow.Author.Needs.{needs}
+use Rattle.checks.specs.declared.Reading.the-variants.{Found}
+use Rattle.choosing.specs.ReadyLaws.{ready-n, ready-sizes}
+use Rattle.runs.specs.CallLaws.{read-21, read-25, read-found}
+use Rattle.runs.proofs.Tested.{fresh-long, fresh-empty, wrong-area, right-area, right-ready, process-zero, process-over, process-in}
+use Rattle.runs.proofs.reading.read_record.Statement.{statement}
+use Rattle.runs.proofs.reading.read_record.Tie as tie
+use Rattle.runs.proofs.reading.read_record.Reads as reads
+use Rattle.runs.proofs.reading.read_record.Lts as lts
+use Rattle.areas.proofs.testing.test.Reads as test-reads
+use Rattle.moves.proofs.moving.process.Reads as process-reads
+
+test-requires : tie.Need-test-requires
+test-requires c κs = (fresh-long 16641 _ refl, fresh-empty 16641 _ refl)
+
+returns : tie.Need-returns
+returns c =
+    let test = c .before .before .test in
+    let a = c .before .before .before .before .args in
+    read-21 (a .area .now) (wrong-area (a .area .now) _ (test .ensures .0) (c .enum-told .given .1)) (a .p)
+
+returns-2 : tie.Need-returns-2
+returns-2 c =
+    let told = c .before .before in
+    let test = told .before .before .test in
+    let a = told .before .before .before .before .args in
+    let y = right-ready (a .area .now) _ _ _ _ (test .ensures .0) (told .n .given .1) (test .ensures .1) in
+    read-25 (a .area .now) (y .right) (a .p) (process-zero (a .p) _ (c .if1 .taken))
+
+returns-3 : tie.Need-returns-3
+returns-3 c =
+    let told = c .before .before .before in
+    let test = told .before .before .test in
+    let a = told .before .before .before .before .args in
+    let y = right-ready (a .area .now) _ _ _ _ (test .ensures .0) (told .n .given .1) (test .ensures .1) in
+    read-25 (a .area .now) (y .right) (a .p) (process-over (a .p) _ (omega (arith, ready-n y, c .if2 .taken)))
+
+process-requires : tie.Need-process-requires
+process-requires c κs =
+    let told = c .before .before .before .before in
+    let test = told .before .before .test in
+    let a = told .before .before .before .before .args in
+    let y = right-ready (a .area .now) _ _ _ _ (test .ensures .0) (told .n .given .1) (test .ensures .1) in
+    (y, (omega (arith, c .before .before .if1 .left), c .before .if2 .left))
+
+returns-4 : tie.Need-returns-4
+returns-4 c =
+    let told = c .before .before .before .before .before in
+    let test = told .before .before .test in
+    let a = told .before .before .before .before .args in
+    let y = right-ready (a .area .now) _ _ _ _ (test .ensures .0) (told .n .given .1) (test .ensures .1) in
+    ap Found (c .process .ensures) ∙ read-found (a .area .now) (y .right) (a .p) (process-in (a .p) _ (c .before .before .before .if1 .left) (omega (arith, ready-n y, c .before .before .if2 .left)))
+
+pub read-record-spec : {M : Type 1} → statement M
+read-record-spec =
+    tie.close
+    (tie.spec
+    test-requires
+    (λ c. search needs)
+    (λ c. search needs)
+    returns
+    returns-2
+    returns-3
+    process-requires
+    returns-4)

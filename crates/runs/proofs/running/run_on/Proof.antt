@@ -1,0 +1,54 @@
+-- `runs::running::run_on` meets its contract: 21 where the test fails, and else the deliveries from the run in the area.
+-- Assumes nothing.
+use mathlib.Core.Path.{_≡_, refl, _∙_}
+use borrow.Author.Needs.{needs}
+use Rattle.moves.specs.Ready.{Ready}
+use Rattle.runs.specs.CallLaws.{runOn-21, runOn-on}
+use Rattle.runs.proofs.Tested.{fresh-long, fresh-empty, wrong-area, right-ready}
+use Rattle.runs.proofs.running.run_on.Statement.{statement}
+use Rattle.runs.proofs.running.run_on.Tie as tie
+
+test-requires : tie.Need-test-requires
+test-requires c κs = (fresh-long 16641 _ refl, fresh-empty 16641 _ refl)
+
+returns : tie.Need-returns
+returns c =
+    let t = c .before .before in
+    let s = t .before .before .before in
+    runOn-21 (s .args .area .now) (wrong-area (s .args .area .now) (t .test .result) (t .test .ensures .0) (c .enum-told .given .1)) (s .args .k)
+
+-- the area, once it is tested
+abbrev start : tie.After-n → tie.Start
+start c = c .before .before .before .before .before
+
+ready : (c : tie.After-n) → Ready (start c .args .area .now) (c .before .before .test .last .1 .0) (c .n .given .0 .0) (c .n .given .0 .1 .0)
+ready c =
+    let t = c .before .before in
+    right-ready (start c .args .area .now) (t .test .last .1 .0) (t .test .result) (c .n .given .0 .0) (c .n .given .0 .1 .0) (t .test .ensures .0) (c .n .given .1) (t .test .ensures .1)
+
+fill-loads-requires : tie.Need-fill-loads-requires
+fill-loads-requires c κs = (ready (c .before .before .before .before), refl)
+
+drive-requires : tie.Need-drive-requires
+drive-requires c κs = (ready (c .before .before .before .before .before .before .before .before), c .before .before .before .fill-loads .ensures)
+
+returns-2 : tie.Need-returns-2
+returns-2 c =
+    let d = c .before in
+    let n = d .before .before .before .before .before .before .before .before .before in
+    let o = runOn-on (start n .args .area .now) (ready n .right) (start n .args .k) in
+    (d .drive .ensures .0 ∙ o .0, d .drive .ensures .1 ∙ o .1)
+
+pub run-on-spec : {M : Type 1} → statement M
+run-on-spec =
+    tie.close
+    (tie.spec
+    test-requires
+    (λ c. search needs)
+    (λ c. search needs)
+    (λ c. search needs)
+    returns
+    fill-loads-requires
+    drive-requires
+    (λ c. search needs)
+    returns-2)

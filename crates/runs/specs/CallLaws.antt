@@ -1,0 +1,112 @@
+-- The calls by the first thing that is met.
+--   pick-21, runOn-21, report-21, read-21     == an area that is not well formed
+--   pick-25, pick-23, pick-on                 == a pick on a well-formed area: no link, over, or the delivery
+--   runOn-on                                  == running on, from its first turn
+--   report-26, report-over                    == a report before the end, and at the end
+--   read-25, read-found                       == a record
+-- Assumes nothing.
+use Prim.Native.Nat.{ℕ, zero, suc, _≤_}
+use mathlib.Core.Bool.{Bool, true, false, not, _&&_, _||_}
+use mathlib.Core.List.{List}
+use mathlib.Core.Path.{_≡_, refl, sym, ap, _∙_}
+use lib.Dec.{eqb, ltb}
+use borrow.Author.Tests.{eqb-false}
+use lib.IntN.{ℤ, pos, negsuc}
+use Rattle.base.specs.Choice.{choose}
+use Rattle.tables.specs.Waits.{neighbours}
+use Rattle.checks.specs.declared.Delivery.{Delivery}
+use Rattle.checks.specs.declared.Ran.{Ran}
+use Rattle.checks.specs.declared.Report.{Report}
+use Rattle.checks.specs.declared.Reading.{Reading}
+use Rattle.checks.specs.declared.Verdict.the-variants.{Knot, Free}
+use Rattle.steps.specs.declared.Process.{Process}
+use Rattle.checks.specs.declared.Reading.the-variants.{Found}
+use Rattle.checks.specs.Run.{Run, over, wellFormed}
+use Rattle.checks.specs.Calls.{Picked, refused, deliver, pick, runFrom, runOn, Escape, verdictOf, markOf, reported, report, readRecord}
+use Rattle.areas.specs.Area.{stored, fieldsIn, runIn, areaRight, keeping}
+use Rattle.areas.specs.AreaLaws.{stored-same}
+use Rattle.moves.specs.Ready.{right-fit}
+use Rattle.runs.specs.AreaCalls.{pickAnswer, pickArea, runOnAnswer, runOnArea, reportAnswer, Reported, readAnswer}
+
+-- the report of a run by its start's record
+abbrev pub toldOf : Process → ℕ → ℕ → Report
+toldOf x d e = Report.Over d (verdictOf (x .cs)) (x .cs) e (markOf (verdictOf (x .cs)))
+
+pub verdict-knot : (z : ℤ) → z ≡ pos 0 → verdictOf z ≡ Knot
+verdict-knot z e = rw e
+
+pub verdict-free : (z : ℤ) → (z ≡ pos 0 → ⊥) → verdictOf z ≡ Free
+verdict-free (pos zero) h = absurd (h refl)
+verdict-free (pos (suc n)) h = refl
+verdict-free (negsuc n) h = refl
+
+-- ---- 21
+
+module _ (w : List ℤ) (e : areaRight w ≡ false) where
+  pub pick-21 : (a b : ℕ) → (Delivery.Refused 21 ≡ pickAnswer w a b) × (w ≡ pickArea w a b)
+  unfolding pickAnswer pickArea
+  pick-21 a b = (rw e, rw e)
+
+  pub runOn-21 : (k : ℕ) → (Ran.Refused 21 0 ≡ runOnAnswer k w) × (w ≡ runOnArea k w)
+  unfolding runOnAnswer runOnArea
+  runOn-21 k = (rw e, rw e)
+
+  pub report-21 : (n : ℕ) → Report.Refused 21 ≡ reportAnswer w n
+  unfolding reportAnswer
+  report-21 n = rw e
+
+  pub read-21 : (p : ℕ) → Reading.Refused 21 ≡ readAnswer w p
+  unfolding readAnswer
+  read-21 p = rw e
+
+-- ---- a well-formed area
+
+module _ (w : List ℤ) (e : areaRight w ≡ true) where
+  formed : wellFormed (runIn w) ≡ true
+  formed = right-fit w e .formed
+
+  pub same : w ≡ keeping w (runIn w)
+  same = sym (stored-same w e)
+
+  pub pick-25 : (a b : ℕ) → neighbours (runIn w .waits) a b ≡ false → (Delivery.Refused 25 ≡ pickAnswer w a b) × (w ≡ pickArea w a b)
+  unfolding pickAnswer pickArea pick
+  pick-25 a b n = (rw (e, formed, n), rw (e, formed, n) same)
+
+  pub pick-23 : (a b : ℕ) → neighbours (runIn w .waits) a b ≡ true → over (runIn w) ≡ true → (Delivery.Refused 23 ≡ pickAnswer w a b) × (w ≡ pickArea w a b)
+  unfolding pickAnswer pickArea pick
+  pick-23 a b n o = (rw (e, formed, n, o), rw (e, formed, n, o) same)
+
+  pub pick-on : (a b : ℕ) → neighbours (runIn w .waits) a b ≡ true → over (runIn w) ≡ false → (deliver (runIn w) a b (runIn w .link a b) .answer ≡ pickAnswer w a b) × (keeping w (deliver (runIn w) a b (runIn w .link a b) .run) ≡ pickArea w a b)
+  unfolding pickAnswer pickArea pick
+  pick-on a b n o = (rw (e, formed, n, o), rw (e, formed, n, o))
+
+  pub runOn-on : (k : ℕ) → (runFrom k 0 (runIn w) .answer ≡ runOnAnswer k w) × (keeping w (runFrom k 0 (runIn w) .run) ≡ runOnArea k w)
+  unfolding runOnAnswer runOnArea runOn
+  runOn-on k = (rw (e, formed), rw (e, formed))
+
+  pub report-26 : (n : ℕ) → over (runIn w) ≡ false → Report.Refused 26 ≡ reportAnswer w n
+  unfolding reportAnswer report
+  report-26 n o = rw (e, formed, o)
+
+  pub report-over : (n : ℕ) → over (runIn w) ≡ true → reported (runIn w) n ≡ reportAnswer w n
+  unfolding reportAnswer report
+  report-over n o = rw (e, formed, o)
+
+  pub read-25 : (p : ℕ) → (eqb p 0 || ltb (runIn w .waits .n) p) ≡ true → Reading.Refused 25 ≡ readAnswer w p
+  unfolding readAnswer readRecord
+  read-25 p o = rw (e, formed, o)
+
+  pub read-found : (p : ℕ) → (eqb p 0 || ltb (runIn w .waits .n) p) ≡ false → Found (runIn w .process p) ≡ readAnswer w p
+  unfolding readAnswer readRecord
+  read-found p o = rw (e, formed, o)
+
+  -- a report before the end, and at the end
+  pub reported-26 : over (runIn w) ≡ false → Reported w (Report.Refused 26)
+  reported-26 o = record { answer = report-26 0 o; names = λ z. absurd (eqb-false 26 0 refl z) }
+
+  pub reported-over : over (runIn w) ≡ true → (x : Process) (d n : ℕ) → x ≡ runIn w .process (runIn w .start) → d ≡ runIn w .count → Escape (runIn w) n → Reported w (toldOf x d n)
+  unfolding reported
+  reported-over o x d n p q s = record { answer = rw (p, q) (report-over n o); names = λ z. s }
+
+pub reported-21 : (w : List ℤ) → areaRight w ≡ false → Reported w (Report.Refused 21)
+reported-21 w e = record { answer = report-21 w e 0; names = λ z. absurd (eqb-false 21 0 refl z) }

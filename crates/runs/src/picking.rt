@@ -1,0 +1,32 @@
+// A pick: the delivery of the oldest message on one link.
+use areas::squares;
+use areas::testing;
+use areas::testing::Sizes;
+use checks::Delivery;
+use moves::delivering;
+ghost use mathlib.Core.Path.{_≡_};
+ghost use Rattle.runs.specs.AreaCalls.{pickAnswer, pickArea};
+
+// Delivers the oldest message on the link from one process to another: 21, 25, 23, 24, 22.
+pub fn pick(area: &mut [i32], from: usize, to: usize) -> Delivery
+    ensures { λ r. ⌜ r ≡ pickAnswer (now (area .entry)) from to ⌝ }
+    ensures { λ _. ⌜ now (area .exit) ≡ pickArea (now (area .entry)) from to ⌝ }
+{
+    let mut square = [0u16; 16641];
+    let Sizes::Right { n, m } = testing::test(area, &mut square) else {
+        return Delivery::Refused(21);
+    };
+    if from > n {
+        return Delivery::Refused(25);
+    }
+    if to > n {
+        return Delivery::Refused(25);
+    }
+    if !squares::joined(&square, from, to) {
+        return Delivery::Refused(25);
+    }
+    if delivering::is_over(area, &square, n, m) {
+        return Delivery::Refused(23);
+    }
+    delivering::deliver(area, &square, n, m, from, to)
+}
