@@ -6,7 +6,8 @@
 --   Escape r e         == e may be named as escape: "some process with subordinate 1, or 0 if there is none"
 --   report r e         == "The report checks 21, 26", with e as escape
 --   readRecord r p     == "reading one process's record checks 21, 25"
---   deliveryNumber, ranNumber, ..   == for each case of an answer 01's number and values, zeros elsewhere
+--   deliveryNumber, deliveryKind, deliveryCount, ranNumber, ranOver, ranMade, reportNumber, reportCount, reportKnot, reportOutside,
+--   reportEscape, reportReturned, readingNumber, readingProcess   == for each case of an answer 01's number and values, zeros elsewhere
 -- Assumes nothing.
 use Prim.Native.Nat.{ℕ, zero, suc, _+_, _≤_}
 use mathlib.Core.Bool.{Bool, true, false, not, _&&_, _||_}
@@ -18,7 +19,9 @@ use lib.IntN.{ℤ, pos, negsuc}
 use Rattle.base.specs.Choice.{choose}
 use Rattle.tables.specs.Waits.{Waits, neighbours}
 use Rattle.steps.specs.declared.Message.{Message}
+use Rattle.steps.specs.declared.Message.the-variants.{Suc, Pre, Ack}
 use Rattle.steps.specs.declared.Process.{Process}
+use Rattle.steps.specs.Step.{idle}
 use Rattle.checks.specs.declared.Delivery.{Delivery}
 use Rattle.checks.specs.declared.Delivery.the-variants.{Delivered}
 use Rattle.checks.specs.declared.Ran.{Ran}
@@ -150,16 +153,42 @@ readRecord r p =
     (choose (eqb p 0 || ltb (r .waits .n) p) (Reading.Refused 25)
     (Found (r .process p)))
 
--- ---- 01's number for each case of an answer, 0 where nothing is refused
+-- ---- 01's number for each case of an answer, 0 where nothing is refused, and its values, zeros elsewhere
 
 abbrev pub deliveryNumber : Delivery → ℕ
 deliveryNumber (Delivered m) = 0
 deliveryNumber (Delivery.Refused n) = n
 
+-- the kind of a message as a number: 1 a suc probe, 2 a pre probe, 3 an acknowledgement
+abbrev pub kindOf : Message → ℕ
+kindOf Suc = 1
+kindOf Pre = 2
+kindOf (Ack c) = 3
+
+abbrev pub carried : Message → ℤ
+carried Suc = pos 0
+carried Pre = pos 0
+carried (Ack c) = c
+
+-- "It answers with that message": its kind and its count
+abbrev pub deliveryKind : Delivery → ℕ
+deliveryKind (Delivered m) = kindOf m
+deliveryKind (Delivery.Refused n) = 0
+
+abbrev pub deliveryCount : Delivery → ℤ
+deliveryCount (Delivered m) = carried m
+deliveryCount (Delivery.Refused n) = pos 0
+
 abbrev pub ranNumber : Ran → ℕ
 ranNumber (Ran.Over made) = 0
 ranNumber (Spent made) = 0
 ranNumber (Ran.Refused n made) = n
+
+-- "It says over, or spent": 1 if over
+abbrev pub ranOver : Ran → ℕ
+ranOver (Ran.Over made) = 1
+ranOver (Spent made) = 0
+ranOver (Ran.Refused n made) = 0
 
 -- "with the number made"
 abbrev pub ranMade : Ran → ℕ
@@ -171,6 +200,42 @@ abbrev pub reportNumber : Report → ℕ
 reportNumber (Report.Over d v o e m) = 0
 reportNumber (Report.Refused n) = n
 
+-- "over count"
+abbrev pub reportCount : Report → ℕ
+reportCount (Report.Over d v o e m) = d
+reportCount (Report.Refused n) = 0
+
+-- 1 for the verdict knot
+abbrev pub knotBit : Verdict → ℕ
+knotBit Knot = 1
+knotBit Free = 0
+
+abbrev pub reportKnot : Report → ℕ
+reportKnot (Report.Over d v o e m) = knotBit v
+reportKnot (Report.Refused n) = 0
+
+-- "outside = cs of s"
+abbrev pub reportOutside : Report → ℤ
+reportOutside (Report.Over d v o e m) = o
+reportOutside (Report.Refused n) = pos 0
+
+abbrev pub reportEscape : Report → ℕ
+reportEscape (Report.Over d v o e m) = e
+reportEscape (Report.Refused n) = 0
+
+-- 1 for the mark returned
+abbrev pub returnedBit : Mark → ℕ
+returnedBit Returned = 1
+returnedBit Held = 0
+
+abbrev pub reportReturned : Report → ℕ
+reportReturned (Report.Over d v o e m) = returnedBit m
+reportReturned (Report.Refused n) = 0
+
 abbrev pub readingNumber : Reading → ℕ
 readingNumber (Found x) = 0
 readingNumber (Reading.Refused n) = n
+
+abbrev pub readingProcess : Reading → Process
+readingProcess (Found x) = x
+readingProcess (Reading.Refused n) = idle

@@ -24,7 +24,7 @@ use Rattle.checks.specs.declared.Ran.{Ran}
 use Rattle.checks.specs.declared.Report.{Report}
 use Rattle.checks.specs.declared.Reading.{Reading}
 use Rattle.checks.specs.Run.{Run, startRun}
-use Rattle.checks.specs.Calls.{pick, runOn, Escape, report, reportNumber, readRecord}
+use Rattle.checks.specs.Calls.{pick, runOn, Escape, report, reportNumber, reportEscape, readRecord}
 use Rattle.runs.specs.declared.Started.{Started}
 use Rattle.runs.specs.declared.Started.the-variants.{Ready, Refused}
 use Rattle.areas.specs.Area.{areaLength, stored, keeping, runIn, areaRight}
@@ -36,6 +36,11 @@ startNumber bs s w =
     (choose (eqb s 0 || ltb (nOf (fieldOf bs)) s) 8
     (choose (ltb (length w) (areaLength (nOf (fieldOf bs)) (mOf (fieldOf bs)))) 9
     0))
+
+-- 01's number for each case of the answer
+abbrev pub startedNumber : Started → ℕ
+startedNumber Ready = 0
+startedNumber (Refused n) = n
 
 abbrev pub startedBy : ℕ → Started
 startedBy zero = Ready
@@ -63,15 +68,10 @@ runOnArea k w = choose (areaRight w) (keeping w (runOn k (runIn w) .run)) w
 unfoldable pub reportAnswer : List ℤ → ℕ → Report
 reportAnswer w e = choose (areaRight w) (report (runIn w) e) (Report.Refused 21)
 
--- what a report names as escape
-abbrev pub escapeOf : Report → ℕ
-escapeOf (Report.Over d v o e m) = e
-escapeOf (Report.Refused n) = 0
-
 -- "Only one thing is left open, which process *escape* names: it has subordinate 1, and 0 is given exactly if none has."
 pub record Reported (w : List ℤ) (r : Report) : Type 0 where
-  pub answer : r ≡ reportAnswer w (escapeOf r)
-  pub names : reportNumber r ≡ 0 → Escape (runIn w) (escapeOf r)
+  pub answer : r ≡ reportAnswer w (reportEscape r)
+  pub names : reportNumber r ≡ 0 → Escape (runIn w) (reportEscape r)
 
 unfoldable pub readAnswer : List ℤ → ℕ → Reading
 readAnswer w p = choose (areaRight w) (readRecord (runIn w) p) (Reading.Refused 21)
