@@ -21,8 +21,8 @@ use Rattle.checks.specs.declared.Delivery.the-variants.{Delivered}
 use Rattle.checks.specs.Run.{Run, taken, after, accepts}
 use Rattle.checks.specs.Calls.{refused, delivered, deliver}
 use Rattle.areas.specs.Area.{runIn}
+use Rattle.moves.specs.ReadyLaws.{runIn-few}
 use Rattle.choosing.specs.Loads.{loadOf, Loaded, LoadedBut}
-use Rattle.choosing.specs.ReadyLaws.{runIn-few}
 
 -- ---- a load, link by link
 

@@ -2,18 +2,32 @@
 // order is another function beside it.
 use areas::squares;
 use areas::words;
+use checks::Delivery;
+use moves::delivering;
+use steps::Message;
 ghost use mathlib.Core.Path.{_≡_};
 ghost use Prim.Native.Nat.{_≤_};
 ghost use lib.ListN.{length};
-ghost use Rattle.areas.specs.Area.{runIn};
-ghost use Rattle.checks.specs.Calls.{lowest};
+ghost use Rattle.areas.specs.Area.{runIn, keeping};
+ghost use Rattle.checks.specs.Calls.{lowest, deliverOn};
 ghost use Rattle.moves.specs.Ready.{Ready};
 ghost use Rattle.choosing.specs.Loads.{loadOf, Loaded, LoadedBut, chosenOf};
+ghost use Rattle.choosing.specs.Lowest.{lowestAnswer};
 
 // A link with a message, or none.
 pub enum Chosen {
     Link { from: usize, to: usize },
     Nobody,
+}
+
+// The answer of one delivery in the fixed order: the message with its link, or the number of the refusal.
+pub enum Lowest {
+    Delivered {
+        from: usize,
+        to: usize,
+        message: Message,
+    },
+    Refused(u32),
 }
 
 // How many messages wait on the link from a to b; 0 if there is no link.
@@ -106,4 +120,32 @@ pub fn choose(
         return Chosen::Nobody;
     }
     Chosen::Link { from, to }
+}
+
+// Delivers the oldest message on the first link with one: 24 if nothing waits on any link, then 22. The area stays ready and the loads its
+// loads, so the next delivery may follow.
+pub fn deliver_lowest(
+    area: &mut [i32],
+    square: &[u16; 16641],
+    n: usize,
+    m: usize,
+    loads: &mut [usize; 129],
+) -> Lowest
+    requires { ⌜ Ready (now area) (now square) n m ⌝ }
+    requires { ⌜ Loaded (runIn (now area)) (now loads) ⌝ }
+    ensures { λ r. ⌜ r ≡ lowestAnswer (lowest (runIn (now (area .entry)))) (deliverOn (runIn (now (area .entry))) (lowest (runIn (now (area .entry)))) .answer) ⌝ }
+    ensures { λ _. ⌜ now (area .exit) ≡ keeping (now (area .entry)) (deliverOn (runIn (now (area .entry))) (lowest (runIn (now (area .entry)))) .run) ⌝ }
+    ensures { λ _. ⌜ Loaded (runIn (now (area .exit))) (now (loads .exit)) ⌝ }
+    ensures { λ _. ⌜ Ready (now (area .exit)) (now (square .entry)) n m ⌝ }
+{
+    let Chosen::Link { from, to } = choose(area, square, n, m, loads) else {
+        return Lowest::Refused(24);
+    };
+    match delivering::deliver(area, square, n, m, from, to) {
+        Delivery::Refused(number) => Lowest::Refused(number),
+        Delivery::Delivered(message) => {
+            refresh(area, square, n, m, from, to, loads);
+            Lowest::Delivered { from, to, message }
+        }
+    }
 }

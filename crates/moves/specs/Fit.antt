@@ -1,6 +1,6 @@
 -- Calls keep a run within its area, and well formed: for any well-formed run, whether start made it or not.
 --   Fit t r          == a run that the area of the table t can hold, and that is well formed
---   fit-after, fit-deliver, fit-pick, fit-runFrom, fit-runOn   == kept by a delivery, a pick, and running on
+--   fit-after, fit-deliver, fit-pick, fit-on, fit-runFrom, fit-runOn   == kept by a delivery, a pick, a delivery in the fixed order, and running on
 --   waiting-joined   == a message waits only between neighbours
 -- Assumes nothing.
 use Prim.Native.Nat.{ℕ, zero, suc, _+_, _*_, _≤_}
@@ -84,7 +84,8 @@ module _ (t : Fields) where
       at (passed n) = n
       at (failed n) = absurd (false≢true (rw (h .links a b (subst (λ (w : Waits). neighbours w a b ≡ false) (h .waits) n)) at e))
 
-  fit-on : (r : Run) → Fit t r → (c : Choice) → lowest r ≡ c → Fit t (deliverOn r c .run)
+  -- one delivery in the fixed order
+  pub fit-on : (r : Run) → Fit t r → (c : Choice) → lowest r ≡ c → Fit t (deliverOn r c .run)
   unfolding deliverOn
   fit-on r f nobody e = f
   fit-on r f (pair a b) e = fit-deliver r f a b (waiting-joined r (f .held) a b (lowest-pair r e .2)) (r .link a b) refl

@@ -26,7 +26,7 @@ use Rattle.areas.specs.Squares.{Square}
 use Rattle.areas.specs.Testing.{sizesOf}
 use Rattle.moves.specs.Ready.{Ready, right-fit}
 use Rattle.moves.specs.ChangeLaws.{neighbours-ends}
-use Rattle.choosing.specs.ReadyLaws.{ready-n}
+use Rattle.moves.specs.ReadyLaws.{ready-n}
 use Rattle.tables.specs.Waits.{neighbours}
 
 pub fresh-long : (n : ℕ) (l : List ℕ) → l ≡ replicate n 0 → length l ≡ n

@@ -1,9 +1,8 @@
 // Running on in the fixed order. The area is tested once; a delivery then costs a small multiple of N.
 use areas::testing;
 use areas::testing::Sizes;
-use checks::Delivery;
 use checks::Ran;
-use choosing::Chosen;
+use choosing::Lowest;
 use moves::delivering;
 ghost use mathlib.Core.Path.{_≡_};
 ghost use Rattle.checks.specs.Calls.{runFrom};
@@ -34,13 +33,9 @@ fn drive(
         if made >= k {
             return Ran::Spent(made);
         }
-        let Chosen::Link { from, to } = choosing::choose(area, square, n, m, loads) else {
-            return Ran::Refused { number: 24, made };
-        };
-        if let Delivery::Refused(number) = delivering::deliver(area, square, n, m, from, to) {
+        if let Lowest::Refused(number) = choosing::deliver_lowest(area, square, n, m, loads) {
             return Ran::Refused { number, made };
         }
-        choosing::refresh(area, square, n, m, from, to, loads);
         made += 1;
     }
 }

@@ -9,9 +9,9 @@ use lib.ListN.{length}
 use Rattle.checks.specs.Run.{Run}
 use Rattle.checks.specs.Calls.{nobody, pair, lowestReceiver, lowestSender, lowest}
 use Rattle.areas.specs.Area.{runIn}
+use Rattle.moves.specs.ReadyLaws.{ready-n, ready-sizes}
 use Rattle.choosing.specs.declared.Chosen.the-variants.{Nobody, Link}
 use Rattle.choosing.specs.Loads.{chosenOf}
-use Rattle.choosing.specs.ReadyLaws.{ready-n, ready-sizes}
 use Rattle.choosing.specs.OrderLaws.{lowestReceiver-start, lowestReceiver-pass, lowestReceiver-hit, lowestReceiver-none, lowestSender-start, lowestSender-pass, lowest-hit, lowest-miss}
 use Rattle.choosing.proofs.choose.Statement.{statement}
 use Rattle.choosing.proofs.choose.Tie as tie

@@ -5,8 +5,8 @@ use mathlib.Core.Path.{_≡_}
 use native.Mathlib.Omega.{arith}
 use lib.ListN.{length, getD, length-set}
 use Rattle.areas.specs.Area.{runIn}
+use Rattle.moves.specs.ReadyLaws.{ready-n, ready-sizes}
 use Rattle.choosing.specs.Loads.{loadOf}
-use Rattle.choosing.specs.ReadyLaws.{ready-n, ready-sizes}
 use Rattle.choosing.specs.LoadLaws.{filled-next}
 use Rattle.choosing.proofs.fill_loads.Statement.{statement}
 use Rattle.choosing.proofs.fill_loads.Tie as tie

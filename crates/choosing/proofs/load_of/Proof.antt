@@ -4,7 +4,7 @@ use Prim.Native.Nat.{_-_, _≤_}
 use mathlib.Core.Path.{_≡_, sym, ap, _∙_}
 use native.Mathlib.Omega.{arith}
 use Rattle.areas.specs.Area.{runIn}
-use Rattle.choosing.specs.ReadyLaws.{runIn-few, ready-n, ready-sizes}
+use Rattle.moves.specs.ReadyLaws.{runIn-few, ready-n, ready-sizes}
 use Rattle.choosing.specs.LoadLaws.{loadTo, loadOf-is, loadTo-none, loadTo-next, loadTo-few}
 use Rattle.choosing.proofs.load_of.Statement.{statement}
 use Rattle.choosing.proofs.load_of.Tie as tie

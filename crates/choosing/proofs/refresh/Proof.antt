@@ -2,7 +2,7 @@
 -- Assumes nothing.
 use native.Mathlib.Omega.{arith}
 use borrow.Author.Needs.{needs}
-use Rattle.choosing.specs.ReadyLaws.{ready-sizes}
+use Rattle.moves.specs.ReadyLaws.{ready-sizes}
 use Rattle.choosing.specs.LoadLaws.{loaded-set}
 use Rattle.choosing.proofs.refresh.Statement.{statement}
 use Rattle.choosing.proofs.refresh.Tie as tie

@@ -4,7 +4,7 @@ use mathlib.Core.Path.{sym, ap, _∙_}
 use native.Mathlib.Omega.{arith}
 use borrow.Author.Tests.{not-true, not-false}
 use lib.ListN.{length}
-use Rattle.choosing.specs.ReadyLaws.{ready-sizes, ready-apart, ready-link, ready-fits}
+use Rattle.moves.specs.ReadyLaws.{ready-sizes, ready-apart, ready-link, ready-fits}
 use Rattle.choosing.proofs.waiting.Statement.{statement}
 use Rattle.choosing.proofs.waiting.Tie as tie
 

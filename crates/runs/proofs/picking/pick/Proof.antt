@@ -5,8 +5,8 @@ use mathlib.Core.Path.{_≡_, refl, sym, ap, _∙_}
 use native.Mathlib.Omega.{arith}
 use borrow.Author.Needs.{needs}
 use borrow.Author.Tests.{not-true, not-false}
-use Rattle.choosing.specs.ReadyLaws.{ready-n, ready-sizes}
 use Rattle.moves.specs.Ready.{Ready}
+use Rattle.moves.specs.ReadyLaws.{ready-n, ready-sizes}
 use Rattle.moves.proofs.Picks.{joined-is}
 use Rattle.runs.specs.CallLaws.{pick-21, pick-25, pick-23, pick-on}
 use Rattle.runs.proofs.Tested.{fresh-long, fresh-empty, wrong-area, right-ready, none-from, none-to}

@@ -7,7 +7,7 @@ use Rattle.steps.specs.declared.Process.{Process}
 use native.Mathlib.Omega.{arith}
 use Rattle.areas.specs.Area.{runIn}
 use Rattle.checks.specs.Calls.{Escape, named, none}
-use Rattle.choosing.specs.ReadyLaws.{ready-n, ready-sizes}
+use Rattle.moves.specs.ReadyLaws.{ready-n, ready-sizes}
 use Rattle.runs.proofs.reading.escape_of.Statement.{statement}
 use Rattle.runs.proofs.reading.escape_of.Tie as tie
 use Rattle.runs.proofs.reading.escape_of.Reads as reads

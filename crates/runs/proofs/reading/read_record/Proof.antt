@@ -4,7 +4,7 @@ use native.Mathlib.Omega.{arith}
 use mathlib.Core.Path.{_≡_, refl, sym, ap, _∙_}
 use borrow.Author.Needs.{needs}
 use Rattle.checks.specs.declared.Reading.the-variants.{Found}
-use Rattle.choosing.specs.ReadyLaws.{ready-n, ready-sizes}
+use Rattle.moves.specs.ReadyLaws.{ready-n, ready-sizes}
 use Rattle.runs.specs.CallLaws.{read-21, read-25, read-found}
 use Rattle.runs.proofs.Tested.{fresh-long, fresh-empty, wrong-area, right-area, right-ready, process-zero, process-over, process-in}
 use Rattle.runs.proofs.reading.read_record.Statement.{statement}

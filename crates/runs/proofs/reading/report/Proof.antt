@@ -7,9 +7,9 @@ use borrow.Author.Needs.{needs}
 use borrow.Author.Tests.{not-true, not-false}
 use Rattle.areas.specs.Area.{runIn}
 use Rattle.checks.specs.declared.Report.{Report}
-use Rattle.choosing.specs.ReadyLaws.{ready-n, ready-sizes}
 use Rattle.moves.specs.Ready.{Ready, right-fit}
 use Rattle.moves.specs.Formed.{parts-of}
+use Rattle.moves.specs.ReadyLaws.{ready-n, ready-sizes}
 use Rattle.runs.specs.AreaCalls.{Reported}
 use Rattle.runs.specs.CallLaws.{toldOf, reported-21, reported-26, reported-over}
 use Rattle.runs.proofs.Tested.{fresh-long, fresh-empty, wrong-area, right-ready}

@@ -1,0 +1,108 @@
+-- The check program's input (01, "The check program"): "start process (16 bits), table, then picks (from, to, 16 bits each)".
+--   startIn bs          == the start process
+--   tableFields bs      == the fields of the table, which begins after the start process
+--   tableEnd bs         == where the table ends by its own N and M, and the picks begin
+--   tableIn bs          == the table's bytes
+--   picksIn bs          == the number of whole picks
+--   longest             == the most bytes that are read
+--   inputNumber bs      == "The program checks 13, 1, 2, 3, 12": the first that is met, 0 if none is
+--   splitOf bs          == the answer of splitting the input: its parts, or refused with the number
+--   splitNumber         == 01's number for each case of that answer
+--   pickFrom bs j, pickTo bs j   == the two ends that pick j names, counted from 0
+--   pickIn bs j         == that pick
+--   begunNumber bs w    == the same checks, "then 4 to 8": start on the input's table (its 9 if the words are too few)
+--   begunOf bs w        == the answer: ready, with where the picks begin and how many there are, or refused with the number
+--   begunAnswerNumber   == 01's number for each case of that answer
+--   begunArea bs w      == the area that this leaves
+-- Assumes nothing.
+use Prim.Native.Nat.{ℕ, zero, suc, _+_, _-_, _*_, _/_, _%_}
+use mathlib.Core.Bool.{not}
+use mathlib.Core.List.{List}
+use lib.Dec.{eqb, ltb}
+use lib.IntN.{ℤ}
+use lib.ListN.{length, take, drop}
+use Rattle.base.specs.Choice.{choose}
+use Rattle.tables.specs.Table.{Fields, fieldOf, nOf, mOf, tableLength}
+use Rattle.tables.specs.Reading.{sizesRight}
+use Rattle.runs.specs.AreaCalls.{startNumber, startArea}
+use Rattle.inputs.specs.declared.Splitting.{Splitting}
+use Rattle.inputs.specs.declared.Pick.{Pick}
+use Rattle.inputs.specs.declared.Begun.{Begun}
+
+-- "start process (16 bits)"
+unfoldable pub startIn : List ℕ → ℕ
+startIn bs = fieldOf bs 0
+
+-- "table": it begins after the start process
+unfoldable pub tableFields : List ℕ → Fields
+tableFields bs = fieldOf (drop 2 bs)
+
+-- where the table ends, by its own N and M
+unfoldable pub tableEnd : List ℕ → ℕ
+tableEnd bs = 2 + tableLength (nOf (tableFields bs)) (mOf (tableFields bs))
+
+unfoldable pub tableIn : List ℕ → List ℕ
+tableIn bs = take (tableEnd bs - 2) (drop 2 bs)
+
+-- "picks (from, to, 16 bits each)": as many as are whole
+unfoldable pub picksIn : List ℕ → ℕ
+picksIn bs = (length bs - tableEnd bs) / 4
+
+-- the longest input that is read: "input over 20,480 bytes" is met above it
+abbrev pub longest : ℕ
+longest = 20480
+
+-- "The program checks 13, 1, 2, 3, 12": 1 is "under 4 bytes (the program: also under 2 before the table)", 3 "too few bytes",
+-- 12 "1 to 3 bytes left after the last whole pick"
+unfoldable pub inputNumber : List ℕ → ℕ
+inputNumber bs =
+    choose (ltb longest (length bs)) 13
+    (choose (ltb (length bs) 6) 1
+    (choose (not (sizesRight (tableFields bs))) 2
+    (choose (ltb (length bs) (tableEnd bs)) 3
+    (choose (not (eqb ((length bs - tableEnd bs) % 4) 0)) 12
+    0))))
+
+-- the answer: the start process, where the table ends, and the number of picks
+unfoldable pub splitBy : ℕ → List ℕ → Splitting
+splitBy zero bs = Splitting.Parts (startIn bs) (tableEnd bs) (picksIn bs)
+splitBy (suc n) bs = Splitting.Refused (suc n)
+
+unfoldable pub splitOf : List ℕ → Splitting
+splitOf bs = splitBy (inputNumber bs) bs
+
+-- 01's number for each case of the answer
+abbrev pub splitNumber : Splitting → ℕ
+splitNumber (Splitting.Parts s e k) = 0
+splitNumber (Splitting.Refused n) = n
+
+-- pick j, counted from 0: its sender and its receiver
+unfoldable pub pickFrom : List ℕ → ℕ → ℕ
+pickFrom bs j = fieldOf (drop (tableEnd bs) bs) (2 * j)
+
+unfoldable pub pickTo : List ℕ → ℕ → ℕ
+pickTo bs j = fieldOf (drop (tableEnd bs) bs) (2 * j + 1)
+
+unfoldable pub pickIn : List ℕ → ℕ → Pick
+pickIn bs j = record { from = pickFrom bs j; to = pickTo bs j }
+
+-- "then 4 to 8": the checks of start on the input's table
+unfoldable pub begunNumber : List ℕ → List ℤ → ℕ
+begunNumber bs w = choose (eqb (inputNumber bs) 0) (startNumber (tableIn bs) (startIn bs) w) (inputNumber bs)
+
+-- the answer: where the picks begin, and how many there are
+unfoldable pub begunBy : ℕ → List ℕ → Begun
+begunBy zero bs = Begun.Ready (tableEnd bs) (picksIn bs)
+begunBy (suc n) bs = Begun.Refused (suc n)
+
+unfoldable pub begunOf : List ℕ → List ℤ → Begun
+begunOf bs w = begunBy (begunNumber bs w) bs
+
+-- 01's number for each case of the answer
+abbrev pub begunAnswerNumber : Begun → ℕ
+begunAnswerNumber (Begun.Ready e k) = 0
+begunAnswerNumber (Begun.Refused n) = n
+
+-- the area that a begun program leaves; a refusal changes no word
+unfoldable pub begunArea : List ℕ → List ℤ → List ℤ
+begunArea bs w = choose (eqb (inputNumber bs) 0) (startArea (tableIn bs) (startIn bs) w) w

@@ -1,0 +1,4 @@
+-- What a reader must believe of the check program's input: Input (how it is split, which numbers refuse it, and what beginning leaves).
+-- InputLaws: each number in 01's words, the part that the table takes, and "then 4 to 8".
+pub mod Input
+pub mod InputLaws
