@@ -557,4 +557,5 @@ def main():
     print(told)
 
 
-main()
+if __name__ == "__main__":
+    main()

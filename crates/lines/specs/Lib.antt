@@ -1,0 +1,6 @@
+-- What a reader must believe of the program's output: Text; Examples computes 01's example from it. Adding is what the functions promise
+pub mod Text
+pub mod Examples
+pub mod Adding
+pub mod TextLaws
+pub mod AddingLaws

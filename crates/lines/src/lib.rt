@@ -1,0 +1,114 @@
+// The lines that the check program prints (01, "The check program"), written into bytes that the caller lends: of any numbers, messages and
+// records whatever. A line stands at the front of the bytes, of which 128 are enough for each. It stands on steps and checks for the values
+// that are printed, and on areas for a signed number without its sign.
+use checks::Mark;
+use checks::Verdict;
+use pieces::put_count_field;
+use pieces::put_field;
+use pieces::put_flags;
+use pieces::put_link;
+use pieces::put_message;
+use pieces::put_number_line;
+use pieces::put_word;
+use steps::Message;
+use steps::Process;
+ghost use Prim.Native.Nat.{_+_, _≤_};
+ghost use lib.ListN.{length};
+ghost use Rattle.lines.specs.Text.{deliveryLine, refusedPickLine, refusedLine, processLine};
+ghost use Rattle.lines.specs.Text.{verdictLine, outsideLine, markLine, reportText};
+ghost use Rattle.lines.specs.Adding.{Added, Line};
+
+mod pieces;
+
+// `pick 1 2 suc`, `own 2 1 ack 1`
+pub fn delivery_line(out: &mut [u8], own: bool, from: u32, to: u32, message: Message) -> usize
+    requires { ⌜ 128 ≤ length (now out) ⌝ }
+    ensures { λ r. ⌜ Line (deliveryLine own from to message) (now (out .entry)) (now (out .exit)) r ⌝ }
+{
+    let mut end = put_link(out, 0, own, from, to);
+    end = put_message(out, end, message);
+    put_word(out, end, b"\n")
+}
+
+// `pick 1 2 refused 24`
+pub fn refused_delivery_line(out: &mut [u8], own: bool, from: u32, to: u32, number: u32) -> usize
+    requires { ⌜ 128 ≤ length (now out) ⌝ }
+    ensures { λ r. ⌜ Line (refusedPickLine own from to number) (now (out .entry)) (now (out .exit)) r ⌝ }
+{
+    let mut end = put_link(out, 0, own, from, to);
+    end = put_word(out, end, b" refused");
+    end = put_field(out, end, number);
+    put_word(out, end, b"\n")
+}
+
+// `refused 13`
+pub fn refused_line(out: &mut [u8], number: u32) -> usize
+    requires { ⌜ 128 ≤ length (now out) ⌝ }
+    ensures { λ r. ⌜ Line (refusedLine number) (now (out .entry)) (now (out .exit)) r ⌝ }
+{
+    put_number_line(out, 0, b"refused", number)
+}
+
+// `process 1 1 1 0 1 0`
+pub fn process_line(out: &mut [u8], p: u32, x: Process) -> usize
+    requires { ⌜ 128 ≤ length (now out) ⌝ }
+    ensures { λ r. ⌜ Line (processLine p x) (now (out .entry)) (now (out .exit)) r ⌝ }
+{
+    let mut end = put_word(out, 0, b"process");
+    end = put_field(out, end, p);
+    end = put_flags(out, end, x);
+    end = put_count_field(out, end, x.cs);
+    end = put_field(out, end, x.num);
+    put_word(out, end, b"\n")
+}
+
+// "verdict knot .. else none"
+fn put_verdict(out: &mut [u8], at: usize, verdict: Verdict) -> usize
+    requires { ⌜ at + 13 ≤ length (now out) ⌝ }
+    ensures { λ r. ⌜ Added 13 (now (out .entry)) at (verdictLine verdict) (now (out .exit)) r ⌝ }
+{
+    match verdict {
+        Verdict::Knot => put_word(out, at, b"verdict knot\n"),
+        Verdict::Free => put_word(out, at, b"verdict none\n"),
+    }
+}
+
+// `outside 1`
+fn put_outside(out: &mut [u8], at: usize, outside: i32) -> usize
+    requires { ⌜ at + 20 ≤ length (now out) ⌝ }
+    ensures { λ r. ⌜ Added 20 (now (out .entry)) at (outsideLine outside) (now (out .exit)) r ⌝ }
+{
+    let mut end = put_word(out, at, b"outside");
+    end = put_count_field(out, end, outside);
+    put_word(out, end, b"\n")
+}
+
+// "mark returned .. else held"
+fn put_mark(out: &mut [u8], at: usize, mark: Mark) -> usize
+    requires { ⌜ at + 14 ≤ length (now out) ⌝ }
+    ensures { λ r. ⌜ Added 14 (now (out .entry)) at (markLine mark) (now (out .exit)) r ⌝ }
+{
+    match mark {
+        Mark::Returned => put_word(out, at, b"mark returned\n"),
+        Mark::Held => put_word(out, at, b"mark held\n"),
+    }
+}
+
+// "deliveries; the report": the five lines from `over` to `mark`
+pub fn report_text(
+    out: &mut [u8],
+    deliveries: u32,
+    verdict: Verdict,
+    outside: i32,
+    escape: u32,
+    mark: Mark,
+) -> usize
+    requires { ⌜ 128 ≤ length (now out) ⌝ }
+    ensures { λ r. ⌜ Line (reportText deliveries verdict outside escape mark) (now (out .entry)) (now (out .exit)) r ⌝ }
+{
+    let mut end = put_number_line(out, 0, b"over", deliveries);
+    end = put_verdict(out, end, verdict);
+    end = put_outside(out, end, outside);
+    end = put_number_line(out, end, b"escape", escape);
+    put_mark(out, end, mark)
+}

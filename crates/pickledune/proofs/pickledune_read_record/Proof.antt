@@ -1,0 +1,33 @@
+-- `pickledune_read_record` meets its contract: the values of the record that reading answers; the sum comes back from its bits as it was.
+-- Assumes nothing.
+use mathlib.Core.Path.{ap, _∙_}
+use borrow.Author.Needs.{needs}
+use Rattle.areas.proofs.Signs.{word-back}
+use Rattle.steps.specs.declared.Process.{Process}
+use Rattle.checks.specs.Calls.{readingNumber, readingProcess}
+use Rattle.pickledune.proofs.pickledune_read_record.Statement.{statement}
+use Rattle.pickledune.proofs.pickledune_read_record.Tie as tie
+
+returns : tie.Need-returns
+returns c =
+    let d = c .before .before .record-values in
+    let e = c .before .before .before .read-record .ensures in
+    let x = d .ensures .1 ∙ ap readingProcess e in (
+      d .ensures .0 ∙ ap readingNumber e,
+      (
+        ap (λ (p : Process). p .succeeding) x,
+        (
+          ap (λ (p : Process). p .preceding) x,
+          (
+            ap (λ (p : Process). p .subordinate) x,
+            (
+              word-back (d .result .process .cs) (c .struct-told .given .1 .1 .1 .0 .1) ∙ ap (λ (p : Process). p .cs) x,
+              (ap (λ (p : Process). p .num) x, ap (λ (p : Process). p .father) x),
+            ),
+          ),
+        ),
+      ),
+    )
+
+pub pickledune-read-record-spec : {M : Type 1} → statement M
+pickledune-read-record-spec = tie.close (tie.spec (λ c κs. search needs) (λ c κs. search needs) returns)

@@ -1,0 +1,37 @@
+-- `pickledune::step_values::step_values` meets its contract: what a taken step sends, as numbers. Assumes nothing.
+use mathlib.Core.Path.{_≡_, sym, ap, _∙_}
+use borrow.Author.Needs.{needs}
+use Rattle.areas.proofs.Signs.{word-back}
+use Rattle.steps.specs.declared.Stepped.{Stepped}
+use Rattle.steps.specs.Step.{steppedNumber, steppedProbes, steppedReply}
+use Rattle.pickledune.specs.Interface.{probesNumber, replyTo, replyCount}
+use Rattle.lending.specs.Lent.{lentRecord}
+use Rattle.pickledune.proofs.step_values.step_values.Statement.{statement}
+use Rattle.pickledune.proofs.step_values.step_values.Tie as tie
+
+returns : tie.Need-returns
+unfolding lentRecord
+returns c =
+    let e = c .before .before .before .before .answer .given .1 in (
+      sym (ap steppedNumber e),
+      sym (ap (λ (a : Stepped). lentRecord (c .before .before .before .before .before .before .args .lent) a) e),
+      c .before .before .probes-number .ensures ∙ sym (ap (λ (a : Stepped). probesNumber (steppedProbes a)) e),
+      c .before .reply-to .ensures ∙ sym (ap (λ (a : Stepped). replyTo (steppedReply a)) e),
+      word-back (c .reply-count .result) (c .reply-count .ok) ∙ c .reply-count .ensures ∙ sym (ap (λ (a : Stepped). replyCount (steppedReply a)) e),
+    )
+
+returns-2 : tie.Need-returns-2
+unfolding lentRecord
+returns-2 c = search needs
+
+pub step-values-spec : {M : Type 1} → statement M
+step-values-spec =
+    tie.close
+    (tie.spec
+    (λ c. search needs)
+    (λ c κs. search needs)
+    (λ c κs. search needs)
+    (λ c κs. search needs)
+    (λ c. search needs)
+    returns
+    returns-2)

@@ -1,0 +1,72 @@
+-- What the C interface adds to the calls that it exports: numbers for the cases of an enum, and the parts of two long promises by name.
+--   chainOf k           == the chain that a number names: 0 the out-chain, any other the in-chain
+--   messageOf k c       == the message that a kind and a count name; a kind that is none of 1, 2, 3 names one whose count is out of range
+--   processOf ..        == a process record from its six values
+--   probesNumber, replyTo, replyCount   == what a step sends, as numbers, zeros where it sends nothing
+--   StepTold m o i p x y ..   == the step of the record x on message m, with degrees o and i, from p, has left the record y and given these values
+--   ReportTold w ..     == these are the values of a report on the area w (Reported: escape is left open)
+-- The laws stand in InterfaceLaws. Assumes nothing.
+use Prim.Native.Nat.{ℕ}
+use mathlib.Core.List.{List}
+use mathlib.Core.Path.{_≡_}
+use lib.Dec.{eqb}
+use lib.IntN.{ℤ, pos}
+use Rattle.base.specs.Choice.{choose}
+use Rattle.tables.specs.declared.Chain.{Chain}
+use Rattle.tables.specs.declared.Chain.the-variants.{Out, In}
+use Rattle.steps.specs.declared.Message.{Message}
+use Rattle.steps.specs.declared.Message.the-variants.{Suc, Pre, Ack}
+use Rattle.steps.specs.declared.Process.{Process}
+use Rattle.steps.specs.declared.Probes.{Probes}
+use Rattle.steps.specs.declared.Probes.the-variants.{Sucs, Pres}
+use Rattle.steps.specs.declared.Reply.{Reply}
+use Rattle.steps.specs.declared.Reply.the-variants.{To}
+use Rattle.steps.specs.Step.{stepped, steppedNumber, steppedProbes, steppedReply}
+use Rattle.lending.specs.Lent.{lentRecord}
+use Rattle.checks.specs.declared.Report.{Report}
+use Rattle.checks.specs.Calls.{reportNumber, reportCount, reportKnot, reportOutside, reportEscape, reportReturned}
+use Rattle.runs.specs.AreaCalls.{Reported}
+
+-- "its out- or in-chain"
+unfoldable pub chainOf : ℕ → Chain
+chainOf k = choose (eqb k 0) Out In
+
+-- "a suc probe, a pre probe or an acknowledgement with its count": 1, 2 and 3, as kindOf of `checks` numbers them. Any other kind is
+-- refused as "count out of range" is (messageOf-other)
+unfoldable pub messageOf : ℕ → ℤ → Message
+messageOf k c = choose (eqb k 1) Suc (choose (eqb k 2) Pre (choose (eqb k 3) (Ack c) (Ack (pos 129))))
+
+abbrev pub processOf : ℕ → ℕ → ℕ → ℤ → ℕ → ℕ → Process
+processOf s p b c n f = record { succeeding = s; preceding = p; subordinate = b; cs = c; num = n; father = f }
+
+-- "the probes to broadcast": 0 none, 1 suc to all successors, 2 pre to all predecessors
+abbrev pub probesNumber : Probes → ℕ
+probesNumber Probes.Nothing = 0
+probesNumber Sucs = 1
+probesNumber Pres = 2
+
+-- "the one acknowledgement to send, if there is one": to whom, 0 if there is none
+abbrev pub replyTo : Reply → ℕ
+replyTo Reply.Nothing = 0
+replyTo (To p c) = p
+
+abbrev pub replyCount : Reply → ℤ
+replyCount Reply.Nothing = pos 0
+replyCount (To p c) = c
+
+pub record StepTold (m : Message) (o i p : ℕ) (x y : Process) (r b t : ℕ) (z : ℤ) : Type 0 where
+  pub number : r ≡ steppedNumber (stepped m o i p x)
+  pub left : y ≡ lentRecord x (stepped m o i p x)
+  pub probes : b ≡ probesNumber (steppedProbes (stepped m o i p x))
+  pub to : t ≡ replyTo (steppedReply (stepped m o i p x))
+  pub count : z ≡ replyCount (steppedReply (stepped m o i p x))
+
+pub record ReportTold (w : List ℤ) (r d k : ℕ) (o : ℤ) (e m : ℕ) : Type 0 where
+  pub report : Report
+  pub allowed : Reported w report
+  pub number : r ≡ reportNumber report
+  pub deliveries : d ≡ reportCount report
+  pub knot : k ≡ reportKnot report
+  pub outside : o ≡ reportOutside report
+  pub escape : e ≡ reportEscape report
+  pub returned : m ≡ reportReturned report

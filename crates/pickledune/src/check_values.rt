@@ -1,0 +1,179 @@
+// The answers of a check's calls, as numbers: 01's number and values, zeros elsewhere.
+use checks::Delivery;
+use checks::Mark;
+use checks::Ran;
+use checks::Reading;
+use checks::Report;
+use checks::Verdict;
+use runs::Started;
+use steps::Message;
+use steps::Process;
+ghost use mathlib.Core.Path.{_≡_};
+ghost use Rattle.checks.specs.Calls.{kindOf, carried, deliveryNumber, deliveryKind, deliveryCount, ranNumber, ranOver, ranMade};
+ghost use Rattle.checks.specs.Calls.{knotBit, returnedBit, reportNumber, reportCount, reportKnot, reportOutside, reportEscape, reportReturned};
+ghost use Rattle.checks.specs.Calls.{readingNumber, readingProcess};
+ghost use Rattle.runs.specs.AreaCalls.{startedNumber};
+
+pub struct DeliveryValues {
+    pub number: u32,
+    pub kind: u32,
+    pub count: i32,
+}
+
+pub struct RanValues {
+    pub number: u32,
+    pub over: u32,
+    pub made: u32,
+}
+
+pub struct ReportValues {
+    pub number: u32,
+    pub deliveries: u32,
+    pub knot: u32,
+    pub outside: i32,
+    pub escape: u32,
+    pub returned: u32,
+}
+
+pub struct RecordValues {
+    pub number: u32,
+    pub process: Process,
+}
+
+pub fn started_number(answer: Started) -> u32
+    ensures { λ r. ⌜ r ≡ startedNumber answer ⌝ }
+{
+    match answer {
+        Started::Ready => 0,
+        Started::Refused(number) => number,
+    }
+}
+
+// The kind of a message: 1 a suc probe, 2 a pre probe, 3 an acknowledgement.
+pub fn kind_of(message: Message) -> u32
+    ensures { λ r. ⌜ r ≡ kindOf message ⌝ }
+{
+    match message {
+        Message::Suc => 1,
+        Message::Pre => 2,
+        Message::Ack(_) => 3,
+    }
+}
+
+// The count of an acknowledgement, 0 for a probe.
+pub fn carried(message: Message) -> i32
+    ensures { λ r. ⌜ r ≡ carried message ⌝ }
+{
+    match message {
+        Message::Suc => 0,
+        Message::Pre => 0,
+        Message::Ack(count) => count,
+    }
+}
+
+pub fn delivery_values(answer: Delivery) -> DeliveryValues
+    ensures { λ r. ⌜ (r .number ≡ deliveryNumber answer) × (r .kind ≡ deliveryKind answer) × (r .count ≡ deliveryCount answer) ⌝ }
+{
+    match answer {
+        Delivery::Delivered(message) => DeliveryValues {
+            number: 0,
+            kind: kind_of(message),
+            count: carried(message),
+        },
+        Delivery::Refused(number) => DeliveryValues {
+            number,
+            kind: 0,
+            count: 0,
+        },
+    }
+}
+
+pub fn ran_values(answer: Ran) -> RanValues
+    ensures { λ r. ⌜ (r .number ≡ ranNumber answer) × (r .over ≡ ranOver answer) × (r .made ≡ ranMade answer) ⌝ }
+{
+    match answer {
+        Ran::Over(made) => RanValues {
+            number: 0,
+            over: 1,
+            made,
+        },
+        Ran::Spent(made) => RanValues {
+            number: 0,
+            over: 0,
+            made,
+        },
+        Ran::Refused { number, made } => RanValues {
+            number,
+            over: 0,
+            made,
+        },
+    }
+}
+
+// 1 for the verdict knot.
+pub fn knot_bit(verdict: Verdict) -> u32
+    ensures { λ r. ⌜ r ≡ knotBit verdict ⌝ }
+{
+    match verdict {
+        Verdict::Knot => 1,
+        Verdict::Free => 0,
+    }
+}
+
+// 1 for the mark returned.
+pub fn returned_bit(mark: Mark) -> u32
+    ensures { λ r. ⌜ r ≡ returnedBit mark ⌝ }
+{
+    match mark {
+        Mark::Returned => 1,
+        Mark::Held => 0,
+    }
+}
+
+pub fn report_values(answer: Report) -> ReportValues
+    ensures { λ r. ⌜ (r .number ≡ reportNumber answer) × (r .deliveries ≡ reportCount answer) × (r .knot ≡ reportKnot answer) × (r .outside ≡ reportOutside answer) × (r .escape ≡ reportEscape answer) × (r .returned ≡ reportReturned answer) ⌝ }
+{
+    match answer {
+        Report::Over {
+            deliveries,
+            verdict,
+            outside,
+            escape,
+            mark,
+        } => ReportValues {
+            number: 0,
+            deliveries,
+            knot: knot_bit(verdict),
+            outside,
+            escape,
+            returned: returned_bit(mark),
+        },
+        Report::Refused(number) => ReportValues {
+            number,
+            deliveries: 0,
+            knot: 0,
+            outside: 0,
+            escape: 0,
+            returned: 0,
+        },
+    }
+}
+
+pub fn record_values(answer: Reading) -> RecordValues
+    ensures { λ r. ⌜ (r .number ≡ readingNumber answer) × (r .process ≡ readingProcess answer) ⌝ }
+{
+    match answer {
+        Reading::Found(process) => RecordValues { number: 0, process },
+        Reading::Refused(number) => RecordValues {
+            number,
+            process: Process {
+                succeeding: 0,
+                preceding: 0,
+                subordinate: 0,
+                cs: 0,
+                num: 0,
+                father: 0,
+            },
+        },
+    }
+}

@@ -1,0 +1,84 @@
+// One process's step on numbers, by value: the message from its kind and count, and the answer's number and values.
+use steps::Message;
+use steps::Probes;
+use steps::Process;
+use steps::Reply;
+use steps::Stepped;
+ghost use mathlib.Core.Path.{_≡_};
+ghost use Rattle.steps.specs.Step.{steppedNumber, steppedProbes, steppedReply};
+ghost use Rattle.pickledune.specs.Interface.{messageOf, probesNumber, replyTo, replyCount};
+ghost use Rattle.lending.specs.Lent.{lentRecord};
+
+pub struct StepValues {
+    pub number: u32,
+    pub process: Process,
+    pub probes: u32,
+    pub reply_to: u32,
+    pub reply_count: i32,
+}
+
+// A kind that is none of 1, 2, 3 gives a count out of range, which the step refuses.
+pub fn message_of(kind: u32, count: i32) -> Message
+    ensures { λ r. ⌜ r ≡ messageOf kind count ⌝ }
+{
+    match kind {
+        1 => Message::Suc,
+        2 => Message::Pre,
+        3 => Message::Ack(count),
+        _ => Message::Ack(129),
+    }
+}
+
+pub fn probes_number(probes: Probes) -> u32
+    ensures { λ r. ⌜ r ≡ probesNumber probes ⌝ }
+{
+    match probes {
+        Probes::Nothing => 0,
+        Probes::Sucs => 1,
+        Probes::Pres => 2,
+    }
+}
+
+pub fn reply_to(reply: Reply) -> u32
+    ensures { λ r. ⌜ r ≡ replyTo reply ⌝ }
+{
+    match reply {
+        Reply::Nothing => 0,
+        Reply::To { process, count: _ } => process,
+    }
+}
+
+pub fn reply_count(reply: Reply) -> i32
+    ensures { λ r. ⌜ r ≡ replyCount reply ⌝ }
+{
+    match reply {
+        Reply::Nothing => 0,
+        Reply::To { process: _, count } => count,
+    }
+}
+
+// The values of an answer, with the record that was lent.
+pub fn step_values(answer: Stepped, lent: Process) -> StepValues
+    ensures { λ r. ⌜ (r .number ≡ steppedNumber answer) × (r .process ≡ lentRecord lent answer) × (r .probes ≡ probesNumber (steppedProbes answer)) × (r .«reply_to» ≡ replyTo (steppedReply answer)) × (r .«reply_count» ≡ replyCount (steppedReply answer)) ⌝ }
+{
+    match answer {
+        Stepped::Taken {
+            process,
+            probes,
+            reply,
+        } => StepValues {
+            number: 0,
+            process,
+            probes: probes_number(probes),
+            reply_to: reply_to(reply),
+            reply_count: reply_count(reply),
+        },
+        Stepped::Refused(number) => StepValues {
+            number,
+            process: lent,
+            probes: 0,
+            reply_to: 0,
+            reply_count: 0,
+        },
+    }
+}

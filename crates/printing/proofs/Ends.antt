@@ -1,0 +1,21 @@
+-- lowest-small   == the ends of the link that is chosen in a tested area are processes, and so at most 128
+-- Assumes nothing.
+use Prim.Native.Nat.{ℕ, _≤_}
+use mathlib.Core.List.{List}
+use mathlib.Core.Path.{_≡_, sym, _∙_}
+use native.Mathlib.Omega.{arith}
+use lib.IntN.{ℤ}
+use Rattle.steps.specs.declared.Message.{Message}
+use Rattle.checks.specs.Calls.{lowest, deliverOn}
+use Rattle.ending.specs.ChooserLaws.{lowest-pair}
+use Rattle.areas.specs.Area.{runIn}
+use Rattle.moves.specs.Ready.{Ready}
+use Rattle.moves.specs.ReadyLaws.{ready-n, ready-sizes}
+use Rattle.choosing.specs.declared.Lowest.{Lowest}
+use Rattle.choosing.specs.Lowest.{lowestAnswer}
+use Rattle.choosing.specs.LowestLaws.{lowestAnswer-delivered}
+
+pub lowest-small : {w : List ℤ} {sq : List ℕ} {n m : ℕ} → Ready w sq n m → (x : Lowest) → x ≡ lowestAnswer (lowest (runIn w)) (deliverOn (runIn w) (lowest (runIn w)) .answer) → (a b : ℕ) (k : Message) → x ≡ Lowest.Delivered a b k → (a ≤ 128) × (b ≤ 128)
+lowest-small {w} y x is a b k e =
+    let p = lowest-pair (runIn w) (lowestAnswer-delivered (runIn w) (lowest (runIn w)) a b k (sym is ∙ e) .0) in
+    (omega (arith, p .0 .1, ready-n y, ready-sizes y .0), omega (arith, p .1 .1, ready-n y, ready-sizes y .0))

@@ -1,0 +1,36 @@
+-- `printing::print_own` meets its contract: the two ends of a chosen link are processes, and so small.
+-- Assumes nothing.
+use Prim.Native.Nat.{_≤_}
+use native.Mathlib.Omega.{arith}
+use borrow.Author.Needs.{needs}
+use Rattle.printing.proofs.Ends.{lowest-small}
+use Rattle.printing.proofs.print_own.Statement.{statement}
+use Rattle.printing.proofs.print_own.Tie as tie
+
+-- the two ends
+small : (c : tie.After-known-told) → let g = c .before .from .given .0 in (g .0 ≤ 128) × (g .1 .0 ≤ 128)
+small c =
+    let d = c .before .before .before .before in
+    lowest-small (d .before .before .before .pre .0) _ (d .deliver-lowest .ensures .0) _ _ _ (c .before .from .given .1)
+
+cast-print-delivery : tie.Need-cast-print-delivery
+cast-print-delivery c = omega (arith, small c .0)
+
+cast-print-delivery-2 : tie.Need-cast-print-delivery-2
+cast-print-delivery-2 c = omega (arith, small c .1)
+
+pub print-own-spec : {M : Type 1} → statement M
+print-own-spec =
+    tie.close
+    (tie.spec
+    (λ c κs. search needs)
+    (λ c. search needs)
+    cast-print-delivery
+    cast-print-delivery-2
+    (λ c κs. search needs)
+    (λ c. search needs)
+    (λ c κs. search needs)
+    (λ c. search needs)
+    (λ c. search needs)
+    (λ c. search needs)
+    (λ c. search needs))

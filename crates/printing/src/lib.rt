@@ -1,0 +1,185 @@
+// What the check program prints for an input, whatever its bytes (01, "The check program"): the picks, the deliveries that it makes
+// itself, the processes and the report; or the number of the input's refusal alone. It goes to standard output line by line.
+//
+// Each line is formed by `lines` and each part of the input found by `inputs`, both proved against 01's text; what is left here is the
+// order of the lines, of which no contract can speak. It stands on `runs`, `choosing` and below, `inputs`, `lines`, and the kit's `io`
+// and `libc`.
+use areas::testing;
+use areas::testing::Sizes;
+use checks::Delivery;
+use checks::Report;
+use choosing::Lowest;
+use inputs::Begun;
+use moves::delivering;
+use moves::moving;
+use runs::picking;
+use runs::reading;
+use steps::Message;
+use steps::Process;
+ghost use mathlib.Core.Path.{_≡_};
+ghost use Rattle.areas.specs.Area.{runIn};
+ghost use Rattle.checks.specs.Calls.{deliveryNumber};
+ghost use Rattle.moves.specs.Ready.{Ready};
+ghost use Rattle.choosing.specs.Loads.{Loaded};
+ghost use Rattle.inputs.specs.Input.{tableEnd, picksIn};
+
+fn print(text: &[u8]) {
+    io::write_all(libc::STDOUT_FILENO, text);
+}
+
+// "An input refusal prints only `refused` and the number."
+fn print_refused(number: u32) {
+    let mut line = [0u8; 128];
+    let end = lines::refused_line(&mut line, number);
+    print(&line[0..end]);
+}
+
+fn print_delivery(own: bool, from: u32, to: u32, message: Message) {
+    let mut line = [0u8; 128];
+    let end = lines::delivery_line(&mut line, own, from, to, message);
+    print(&line[0..end]);
+}
+
+fn print_refused_pick(from: u32, to: u32, number: u32) {
+    let mut line = [0u8; 128];
+    let end = lines::refused_delivery_line(&mut line, false, from, to, number);
+    print(&line[0..end]);
+}
+
+// 01's number for the answer of a pick, 0 if it was accepted.
+fn number_of(answer: Delivery) -> u32
+    ensures { λ r. ⌜ r ≡ deliveryNumber answer ⌝ }
+{
+    match answer {
+        Delivery::Delivered(_) => 0,
+        Delivery::Refused(number) => number,
+    }
+}
+
+// One pick: "A refused pick prints its number and the program goes on."
+fn print_pick(area: &mut [i32], from: u32, to: u32) {
+    let answer = picking::pick(area, from as usize, to as usize);
+    let Delivery::Delivered(message) = answer else {
+        print_refused_pick(from, to, number_of(answer));
+        return;
+    };
+    print_delivery(false, from, to, message);
+}
+
+// One delivery in the fixed order; gives whether it was made.
+fn print_own(
+    area: &mut [i32],
+    square: &[u16; 16641],
+    n: usize,
+    m: usize,
+    loads: &mut [usize; 129],
+) -> bool
+    requires { ⌜ Ready (now area) (now square) n m ⌝ }
+    requires { ⌜ Loaded (runIn (now area)) (now loads) ⌝ }
+    ensures { λ _. ⌜ Ready (now (area .exit)) (now (square .entry)) n m ⌝ }
+    ensures { λ _. ⌜ Loaded (runIn (now (area .exit))) (now (loads .exit)) ⌝ }
+{
+    match choosing::deliver_lowest(area, square, n, m, loads) {
+        Lowest::Delivered { from, to, message } => {
+            print_delivery(true, from as u32, to as u32, message);
+            true
+        }
+        Lowest::Refused(number) => {
+            print_refused(number);
+            false
+        }
+    }
+}
+
+// "After the picks it runs on to the end": a run counts 2,048 deliveries at most.
+fn run_out(area: &mut [i32], square: &[u16; 16641], n: usize, m: usize, loads: &mut [usize; 129])
+    requires { ⌜ Ready (now area) (now square) n m ⌝ }
+    requires { ⌜ Loaded (runIn (now area)) (now loads) ⌝ }
+    ensures { λ _. ⌜ Ready (now (area .exit)) (now (square .entry)) n m ⌝ }
+{
+    let mut turns: usize = 0;
+    while turns < 2048 {
+        if delivering::is_over(area, square, n, m) {
+            return;
+        }
+        if !print_own(area, square, n, m, loads) {
+            return;
+        }
+        turns += 1;
+    }
+}
+
+fn print_process(p: u32, process: Process) {
+    let mut line = [0u8; 128];
+    let end = lines::process_line(&mut line, p, process);
+    print(&line[0..end]);
+}
+
+// "process lines rise"
+fn print_processes(area: &[i32], square: &[u16; 16641], n: usize, m: usize)
+    requires { ⌜ Ready (now area) (now square) n m ⌝ }
+{
+    let end = n + 1;
+    for p in 1..end {
+        let process = moving::process(area, square, n, m, p);
+        print_process(p as u32, process);
+    }
+}
+
+fn print_report(area: &[i32]) {
+    match reading::report(area) {
+        Report::Refused(number) => print_refused(number),
+        Report::Over {
+            deliveries,
+            verdict,
+            outside,
+            escape,
+            mark,
+        } => {
+            let mut text = [0u8; 128];
+            let length = lines::report_text(&mut text, deliveries, verdict, outside, escape, mark);
+            print(&text[0..length]);
+        }
+    }
+}
+
+// All that follows the picks. The area is tested once for it.
+fn finish(area: &mut [i32]) {
+    let mut square = [0u16; 16641];
+    let Sizes::Right { n, m } = testing::test(area, &mut square) else {
+        print_refused(21);
+        return;
+    };
+    let mut loads = [0usize; 129];
+    choosing::fill_loads(area, &square, n, m, &mut loads);
+    run_out(area, &square, n, m, &mut loads);
+    print_processes(area, &square, n, m);
+    print_report(area);
+}
+
+// The picks, in order.
+fn print_picks(input: &[u8], end: usize, picks: usize, area: &mut [i32])
+    requires { ⌜ end ≡ tableEnd (now input) ⌝ }
+    requires { ⌜ picks ≡ picksIn (now input) ⌝ }
+{
+    for j in 0..picks {
+        let pick = inputs::pick_at(input, end, j);
+        print_pick(area, pick.from, pick.to);
+    }
+}
+
+fn print_check_in(input: &[u8], area: &mut [i32]) {
+    match inputs::begin(input, area) {
+        Begun::Refused(number) => print_refused(number),
+        Begun::Ready { end, picks } => {
+            print_picks(input, end, picks, area);
+            finish(area);
+        }
+    }
+}
+
+// Prints the answer to an input. The area has the most words that a check may need: 8N + 20M + 16 with N 128 and M 512.
+pub fn print_check(input: &[u8]) {
+    let mut area = [0i32; 11280];
+    print_check_in(input, &mut area);
+}

@@ -1,0 +1,141 @@
+/* A first check from C: process 1 waits for process 2 (01, "The check program"). It prints the nine lines that 01 gives for this table,
+ * start 1 and the pick 1 2, and returns 1 with a line on standard error if a call answers anything else than it should.
+ *
+ * From the root of the repository, after rt staticlib pickledune:
+ *   gcc -std=c99 -Wall -Wextra -pedantic -Iinclude hosts/c/example.c target/staticlib/libpickledune.a -o target/example && target/example
+ * The archive needs nothing but memcpy and memset of the C library, so no further flag is needed.
+ */
+#include "pickledune.h"
+
+#include <stdio.h>
+#include <stdlib.h>
+#include <string.h>
+
+enum { PROCESSES = 2, ARCS = 1, TABLE = PICKLEDUNE_TABLE_BYTES(PROCESSES, ARCS), WORDS = PICKLEDUNE_AREA_WORDS(PROCESSES, ARCS) };
+
+static void expect(int holds, const char *what)
+{
+    if (!holds) {
+        fprintf(stderr, "not as it should be: %s\n", what);
+        exit(1);
+    }
+}
+
+static void print_delivery(const char *how, size_t from, size_t to, uint32_t kind, int32_t count)
+{
+    if (kind == PICKLEDUNE_ACK) {
+        printf("%s %zu %zu ack %ld\n", how, from, to, (long)count);
+    } else {
+        printf("%s %zu %zu %s\n", how, from, to, kind == PICKLEDUNE_SUC ? "suc" : "pre");
+    }
+}
+
+/* The delivery that running on makes next, by picks: 24 and 25 say that nothing waits there. Returns 0 if the run is over. */
+static int deliver_next(int32_t *area)
+{
+    for (size_t from = 1; from <= PROCESSES; from++) {
+        for (size_t to = 1; to <= PROCESSES; to++) {
+            uint32_t kind;
+            int32_t count;
+            uint32_t number = pickledune_pick(area, WORDS, from, to, &kind, &count);
+            if (number == 0) {
+                print_delivery("own", from, to, kind, count);
+                return 1;
+            }
+            if (number == 23) {
+                return 0;
+            }
+            expect(number == 24 || number == 25, "a pick of a link with no message");
+            expect(kind == 0 && count == 0, "zeros on a refusal");
+        }
+    }
+    expect(0, "a message waits until the run is over");
+    return 0;
+}
+
+/* Running on to the end in a copy of the area must leave what the picks left. */
+static void compare_with_running_on(const int32_t *before, const int32_t *after)
+{
+    int32_t area[WORDS];
+    uint32_t over;
+    uint32_t made;
+    memcpy(area, before, sizeof area);
+    expect(pickledune_run_on(area, WORDS, 2048, &over, &made) == 0, "running on");
+    expect(over == 1 && made == 1, "over after one more delivery");
+    expect(memcmp(area, after, sizeof area) == 0, "the same area either way");
+}
+
+/* The one arc of the table is on the out-chain of 1 and on the in-chain of 2. */
+static void walk(const uint8_t *table)
+{
+    size_t arc;
+    expect(pickledune_open(table, TABLE, PICKLEDUNE_OUT, 1, &arc) == 0 && arc == 1, "the out-chain of 1");
+    expect(pickledune_next(table, TABLE, PICKLEDUNE_OUT, arc) == 0, "its end");
+    expect(pickledune_open(table, TABLE, PICKLEDUNE_IN, 2, &arc) == 0 && arc == 1, "the in-chain of 2");
+    expect(pickledune_open(table, TABLE, PICKLEDUNE_IN, 3, &arc) == 8 && arc == 0, "no process 3");
+}
+
+/* What process 2 does with the probe, by itself: it has no successor and no father yet, so it acknowledges at once with 1. */
+static void step_by_itself(void)
+{
+    struct pickledune_process record = {0, 0, 0, 0, 0, 0};
+    uint32_t probes;
+    uint32_t to;
+    int32_t count;
+    expect(pickledune_step_process(&record, PICKLEDUNE_SUC, 0, 0, 1, 1, &probes, &to, &count) == 0, "a step");
+    expect(record.succeeding == 1 && record.subordinate == 1 && record.cs == 0 && record.father == 1, "its record");
+    expect(probes == PICKLEDUNE_SUC && to == 1 && count == 1, "what it sends");
+    expect(pickledune_step_process(&record, 4, 0, 0, 1, 1, &probes, &to, &count) == 21, "no kind 4");
+    expect(record.succeeding == 1 && probes == 0 && to == 0 && count == 0, "a refusal keeps the record and gives zeros");
+}
+
+static void print_report(const int32_t *area)
+{
+    uint32_t deliveries;
+    uint32_t knot;
+    int32_t outside;
+    uint32_t escape;
+    uint32_t returned;
+    for (size_t p = 1; p <= PROCESSES; p++) {
+        struct pickledune_process x;
+        expect(pickledune_read_process(area, WORDS, p, &x) == 0, "reading a record");
+        printf("process %zu %lu %lu %lu %ld %lu\n", p, (unsigned long)x.succeeding, (unsigned long)x.preceding,
+               (unsigned long)x.subordinate, (long)x.cs, (unsigned long)x.num);
+    }
+    expect(pickledune_report(area, WORDS, &deliveries, &knot, &outside, &escape, &returned) == 0, "the report");
+    printf("over %lu\n", (unsigned long)deliveries);
+    printf("verdict %s\n", knot ? "knot" : "none");
+    printf("outside %ld\n", (long)outside);
+    printf("escape %lu\n", (unsigned long)escape);
+    printf("mark %s\n", returned ? "returned" : "held");
+}
+
+int main(void)
+{
+    const uint16_t list[2 * ARCS] = {1, 2};
+    uint8_t table[TABLE];
+    int32_t area[WORDS];
+    int32_t picked[WORDS];
+    size_t length;
+    size_t n;
+    size_t m;
+    uint32_t kind;
+    int32_t count;
+
+    expect(pickledune_write_table(PROCESSES, list, 2 * ARCS, table, sizeof table, &length) == 0, "writing the table");
+    expect(length == TABLE, "its length");
+    expect(pickledune_read_table(table, length, &n, &m) == 0 && n == PROCESSES && m == ARCS, "reading it");
+    walk(table);
+
+    expect(pickledune_start(table, length, 1, area, WORDS - 1) == 9, "an area that is too short");
+    expect(pickledune_start(table, length, 1, area, WORDS) == 0, "the start");
+    expect(pickledune_pick(area, WORDS, 1, 2, &kind, &count) == 0, "the pick");
+    print_delivery("pick", 1, 2, kind, count);
+    memcpy(picked, area, sizeof area);
+    while (deliver_next(area)) {
+    }
+    compare_with_running_on(picked, area);
+    print_report(area);
+    step_by_itself();
+    return 0;
+}

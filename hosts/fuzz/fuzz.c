@@ -1,0 +1,373 @@
+/* Random bytes against the C interface, for libFuzzer. An input is a little program: its bytes choose calls and their arguments, on one
+ * table and one run area, which are damaged in between.
+ *
+ * Everything that is lent ends where a page begins that may not be touched, so reading or writing past it stops the program. What 01
+ * says of every call is checked after it: a refusal gives zeros and changes nothing (running on keeps the deliveries made before it),
+ * nothing but the area changes, and the answers of calls that follow each other agree. The archive itself is not built for the fuzzer,
+ * so each answer is counted as coverage (calls by their refusal numbers). */
+#include "pickledune.h"
+
+#include <stdint.h>
+#include <stdio.h>
+#include <stdlib.h>
+#include <string.h>
+#include <sys/mman.h>
+#include <unistd.h>
+
+enum { CALLS = 10, NUMBERS = 40, TABLE = 8192, LIST = 2200, AREA = 12000, STEPS = 4096 };
+
+__attribute__((section("__libfuzzer_extra_counters"))) static uint8_t seen[CALLS * NUMBERS];
+
+/* The numbers that each call has answered in the whole run, printed at its end. */
+static const char *const call_names[CALLS] = {"read_table", "write_table", "open", "next", "start", "pick", "run_on", "report", "read_record", "step"};
+static uint64_t answered[CALLS][NUMBERS];
+
+static uint8_t *table_end, *out_end;
+static uint16_t *list_end;
+static int32_t *area_end;
+
+static void fail(const char *what)
+{
+    fprintf(stderr, "broken: %s\n", what);
+    abort();
+}
+
+static void expect(int holds, const char *what)
+{
+    if (!holds)
+        fail(what);
+}
+
+/* The end of a block of so many bytes, after which a page begins that may not be touched. */
+static void *lent(size_t bytes)
+{
+    size_t page = (size_t)sysconf(_SC_PAGESIZE);
+    size_t whole = (bytes + page - 1) / page * page;
+    uint8_t *at = mmap(NULL, whole + page, PROT_READ | PROT_WRITE, MAP_PRIVATE | MAP_ANONYMOUS, -1, 0);
+    if (at == MAP_FAILED || mprotect(at + whole, page, PROT_NONE) != 0)
+        fail("mmap");
+    return at + whole;
+}
+
+static uint32_t count(int call, uint32_t number)
+{
+    expect(number < NUMBERS, "a number that is in no table");
+    seen[call * NUMBERS + number] = 1;
+    answered[call][number] += 1;
+    return number;
+}
+
+static void print_answers(void)
+{
+    for (int call = 0; call < CALLS; call++) {
+        fprintf(stderr, "%s:", call_names[call]);
+        for (int number = 0; number < NUMBERS; number++)
+            if (answered[call][number])
+                fprintf(stderr, " %d (%llu)", number, (unsigned long long)answered[call][number]);
+        fprintf(stderr, "\n");
+    }
+}
+
+/* The input, read from its front; zeros after its end. */
+static const uint8_t *rest;
+static size_t left;
+
+static uint32_t byte(void)
+{
+    if (left == 0)
+        return 0;
+    left -= 1;
+    return *rest++;
+}
+
+static uint32_t number(void)
+{
+    uint32_t low = byte();
+    return low + 256 * byte();
+}
+
+static uint32_t word(void)
+{
+    uint32_t low = number();
+    return low + 65536 * number();
+}
+
+static size_t table_len, area_len;
+static uint8_t *table;
+static int32_t *area;
+static int32_t before[AREA];
+
+static void read_table(void)
+{
+    size_t n = 7, m = 7;
+    uint32_t refused = count(0, pickledune_read_table(table, table_len, &n, &m));
+    expect(refused <= 7, "reading gives 1 to 7");
+    if (refused)
+        expect(n == 0 && m == 0, "zeros with a refusal");
+    else
+        expect(1 <= n && n <= 128 && m <= 512 && table_len == 4 + 4 * n + 8 * m, "sizes of an accepted table");
+}
+
+/* A list of so many different waits of n processes, from a number that chooses them. */
+static size_t draw_waits(uint16_t *list, size_t n, size_t waits, uint32_t chosen)
+{
+    static uint8_t drawn[129 * 129];
+    size_t made = 0;
+    memset(drawn, 0, sizeof drawn);
+    for (size_t tries = 0; made < waits && tries < 4 * waits; tries++) {
+        chosen = chosen * 1664525u + 1013904223u;
+        uint16_t from = (uint16_t)(1 + (chosen >> 8) % n), to = (uint16_t)(1 + (chosen >> 20) % n);
+        if (drawn[129 * from + to])
+            continue;
+        drawn[129 * from + to] = 1;
+        list[2 * made] = from;
+        list[2 * made + 1] = to;
+        made += 1;
+    }
+    return 2 * made;
+}
+
+static void write_table(void)
+{
+    size_t n, entries, room, length = 7;
+    uint16_t *list;
+    if (byte() % 8) {
+        n = 1 + byte() % (byte() % 4 ? 8 : 128);
+        size_t waits = byte() % 4 ? byte() % 40 : number() % 513;
+        list = list_end - 2 * waits;
+        entries = draw_waits(list, n, waits, word());
+        memmove(list_end - entries, list, entries * sizeof *list);
+        room = TABLE / 2 + number() % (TABLE / 2);
+    } else {
+        n = byte();
+        entries = number() % LIST;
+        room = number() % TABLE;
+        size_t most = byte() + 1;
+        for (size_t i = 1; i <= entries; i++)
+            list_end[-(long)i] = (uint16_t)(byte() % most);
+    }
+    list = list_end - entries;
+    uint8_t *out = out_end - room;
+    memset(out, 165, room);
+    uint32_t refused = count(1, pickledune_write_table(n, list, entries, out, room, &length));
+    for (size_t i = refused ? 0 : length; i < room; i++)
+        expect(out[i] == 165, "a byte past the table");
+    if (refused) {
+        expect(length == 0, "zeros with a refusal");
+        return;
+    }
+    size_t read_n, read_m;
+    expect(length <= room, "a table inside the output");
+    expect(pickledune_read_table(out, length, &read_n, &read_m) == 0, "what is written is accepted");
+    expect(read_n == n && 2 * read_m == entries, "the same sizes");
+    table_len = length;
+    table = table_end - length;
+    memcpy(table, out, length);
+}
+
+static void walk(void)
+{
+    uint32_t chain = byte() % 2;
+    size_t process = number() % 140, arc = 7, n, m, met = 0;
+    uint32_t refused = count(2, pickledune_open(table, table_len, chain, process, &arc));
+    if (refused) {
+        expect(arc == 0, "zeros with a refusal");
+        arc = number();
+    } else {
+        expect(pickledune_read_table(table, table_len, &n, &m) == 0, "an opened table is accepted");
+        for (; arc != 0; arc = pickledune_next(table, table_len, chain, arc))
+            expect(arc <= m && met++ < m, "arcs of the table, no more than there are");
+    }
+    arc = pickledune_next(table, table_len, chain, arc);
+    expect(arc <= 65535, "an arc number of 16 bits");
+    count(3, arc != 0);
+}
+
+static void keep(void)
+{
+    memcpy(before, area, area_len * sizeof *area);
+}
+
+static int kept(void)
+{
+    return memcmp(before, area, area_len * sizeof *area) == 0;
+}
+
+static void start(void)
+{
+    size_t words = byte() % 16 ? AREA - byte() : number() % AREA;
+    area_len = words;
+    area = area_end - words;
+    for (size_t i = 0; i < words; i++)
+        area[i] = -1;
+    keep();
+    uint32_t refused = count(4, pickledune_start(table, table_len, byte() % (byte() % 8 ? 9 : 130), area, area_len));
+    expect(refused <= 9, "start gives 1 to 9");
+    if (refused)
+        expect(kept(), "a refusal changes no word");
+}
+
+static void change_value(void)
+{
+    static const int32_t messages[] = {0, 1, 2, 128, 255, 256, 257, 384};
+    if (area_len < 16 || area[14] < 1 || area[14] > 128 || area[15] < 0 || area[15] > 512)
+        return;
+    size_t n = (size_t)area[14], m = (size_t)area[15], records = 16 + 2 * n + 4 * m, at, place = byte() % 5;
+    int32_t value;
+    if (byte() % 2 && m) {
+        at = records + 6 * n + 8 * (number() % (2 * m)) + place % 4;
+        value = messages[byte() % 8];
+    } else {
+        at = place == 4 ? 2 : records + 6 * (byte() % n) + place;
+        value = place == 0 ? (int32_t)(byte() % 8) : place == 1 ? (int32_t)(byte() % 257) - 128 : (int32_t)(number() % (place == 4 ? 2049 : 257));
+    }
+    if (at < area_len)
+        area[at] = value;
+}
+
+static void pick(void)
+{
+    uint32_t kind = 7;
+    int32_t carried = 7;
+    size_t most = byte() % 8 ? 9 : 256, from = byte() % most, to = byte() % most;
+    keep();
+    uint32_t refused = count(5, pickledune_pick(area, area_len, from, to, &kind, &carried));
+    if (refused)
+        expect(kind == 0 && carried == 0 && kept(), "a refused pick changes nothing");
+    else {
+        expect(1 <= kind && kind <= 3 && -128 <= carried && carried <= 128, "a message");
+        expect(kind == 3 || carried == 0, "a probe has no count");
+        expect(area[2] == before[2] + 1, "a delivery is counted");
+    }
+}
+
+static void run_on(void)
+{
+    uint32_t over = 7, made = 7, more = 7, k = byte() % 4 ? byte() : word();
+    keep();
+    uint32_t refused = count(6, pickledune_run_on(area, area_len, k, &over, &made));
+    expect(made <= k && made <= 2048 && over <= 1, "no more than asked for");
+    if (refused == 21) {
+        expect(made == 0 && kept(), "21 changes nothing");
+        return;
+    }
+    expect(area[2] == before[2] + (int32_t)made, "deliveries are counted");
+    if (refused) {
+        expect(over == 0, "zeros with a refusal");
+        return;
+    }
+    expect(over == 1 || made == k, "over, or spent");
+    keep();
+    expect(pickledune_run_on(area, area_len, 0, &more, &made) == 0 && made == 0 && more == over && kept(), "running on by 0");
+}
+
+static void report(void)
+{
+    uint32_t deliveries = 7, knot = 7, escape = 7, returned = 7, over, made;
+    int32_t outside = 7;
+    uint32_t refused = count(7, pickledune_report(area, area_len, &deliveries, &knot, &outside, &escape, &returned));
+    if (refused) {
+        expect(deliveries == 0 && knot == 0 && outside == 0 && escape == 0 && returned == 0, "zeros with a refusal");
+        return;
+    }
+    expect(knot == (outside == 0) && returned == knot && escape <= 128, "the verdict of the sum");
+    expect(pickledune_run_on(area, area_len, 9, &over, &made) == 0 && over == 1 && made == 0, "a reported run is over");
+}
+
+static void read_record(void)
+{
+    struct pickledune_process x = {7, 7, 7, 7, 7, 7};
+    uint32_t refused = count(8, pickledune_read_record(area, area_len, byte() % 140, &x.succeeding, &x.preceding, &x.subordinate, &x.cs,
+                                                       &x.num, &x.father));
+    if (refused)
+        expect(x.succeeding == 0 && x.preceding == 0 && x.subordinate == 0 && x.cs == 0 && x.num == 0 && x.father == 0,
+               "zeros with a refusal");
+    else
+        expect(x.succeeding <= 1 && x.preceding <= 1 && x.subordinate <= 1 && x.num <= 256 && x.father <= 128, "a record in range");
+}
+
+static void step(void)
+{
+    struct pickledune_process x = {byte() % 3, byte() % 3, byte() % 3, (int32_t)byte() - 127, number() % 300, byte() % 140}, y = x;
+    uint32_t probes = 7, to = 7;
+    int32_t reply = 7;
+    if (byte() % 16 == 0)
+        x.cs = y.cs = (int32_t)word();
+    uint32_t kind = byte() % 5;
+    int32_t carried = byte() % 8 ? (int32_t)byte() - 128 : (int32_t)word();
+    uint32_t out_degree = byte() % 140, in_degree = byte() % 140, sender = byte() % 140;
+    uint32_t refused = count(9, pickledune_step(&x.succeeding, &x.preceding, &x.subordinate, &x.cs, &x.num, &x.father, kind, carried,
+                                                out_degree, in_degree, sender, &probes, &to, &reply));
+    if (refused)
+        expect(memcmp(&x, &y, sizeof x) == 0 && probes == 0 && to == 0 && reply == 0, "a refused step changes nothing");
+    else
+        expect(x.num <= 256 && -128 <= x.cs && x.cs <= 128 && probes <= 2 && to <= 128, "a step in range");
+}
+
+int LLVMFuzzerTestOneInput(const uint8_t *data, size_t size)
+{
+    if (table_end == NULL) {
+        table_end = lent(TABLE);
+        out_end = lent(TABLE);
+        list_end = lent(LIST * sizeof *list_end);
+        area_end = lent(AREA * sizeof *area_end);
+        atexit(print_answers);
+    }
+    rest = data;
+    left = size;
+    table = table_end;
+    area = area_end;
+    table_len = area_len = 0;
+    for (int made = 0; made < STEPS && left > 0; made++) {
+        switch (byte() % 16) {
+        case 0: /* the input's own bytes as a table */
+            table_len = number() % TABLE;
+            table_len = table_len < left ? table_len : left;
+            table = table_end - table_len;
+            for (size_t i = 0; i < table_len; i++)
+                table[i] = (uint8_t)byte();
+            break;
+        case 1: /* a byte of the table is damaged */
+            if (table_len)
+                table[number() % table_len] = (uint8_t)byte();
+            break;
+        case 2: /* a word of the area is damaged */
+            if (area_len)
+                area[number() % area_len] = byte() % 2 ? (int32_t)byte() - 128 : (int32_t)word();
+            break;
+        case 3:
+            read_table();
+            break;
+        case 4:
+        case 5:
+            write_table();
+            break;
+        case 6:
+            walk();
+            break;
+        case 7:
+            start();
+            break;
+        case 8:
+        case 9:
+        case 10:
+            pick();
+            break;
+        case 11:
+            run_on();
+            break;
+        case 12:
+            report();
+            break;
+        case 13:
+            read_record();
+            break;
+        case 14: /* a value of a record or a link is changed to another in range, so that the area may stay well formed */
+            change_value();
+            break;
+        default:
+            step();
+        }
+    }
+    return 0;
+}

@@ -1,0 +1,224 @@
+//! The calls of the archive, and all that is unsafe here: each slice goes as a pointer and a number of elements, and each `&mut` as a
+//! pointer. References give what the archive asks: valid, aligned, distinct pointers, used only during the call.
+use crate::{Process, Reply};
+
+pub const OUT: u32 = 0;
+pub const IN: u32 = 1;
+pub const SUC: u32 = 1;
+pub const PRE: u32 = 2;
+pub const ACK: u32 = 3;
+
+extern "C" {
+    fn pickledune_read_table(
+        table: *const u8,
+        table_bytes: usize,
+        n: *mut usize,
+        m: *mut usize,
+    ) -> u32;
+    fn pickledune_write_table(
+        n: usize,
+        list: *const u16,
+        entries: usize,
+        out: *mut u8,
+        out_bytes: usize,
+        length: *mut usize,
+    ) -> u32;
+    fn pickledune_open(
+        table: *const u8,
+        table_bytes: usize,
+        chain: u32,
+        process: usize,
+        arc: *mut usize,
+    ) -> u32;
+    fn pickledune_next(table: *const u8, table_bytes: usize, chain: u32, arc: usize) -> usize;
+    fn pickledune_start(
+        table: *const u8,
+        table_bytes: usize,
+        start: usize,
+        area: *mut i32,
+        words: usize,
+    ) -> u32;
+    fn pickledune_pick(
+        area: *mut i32,
+        words: usize,
+        from: usize,
+        to: usize,
+        kind: *mut u32,
+        count: *mut i32,
+    ) -> u32;
+    fn pickledune_run_on(
+        area: *mut i32,
+        words: usize,
+        k: u32,
+        over: *mut u32,
+        made: *mut u32,
+    ) -> u32;
+    fn pickledune_report(
+        area: *const i32,
+        words: usize,
+        deliveries: *mut u32,
+        knot: *mut u32,
+        outside: *mut i32,
+        escape: *mut u32,
+        returned: *mut u32,
+    ) -> u32;
+    fn pickledune_read_record(
+        area: *const i32,
+        words: usize,
+        process: usize,
+        succeeding: *mut u32,
+        preceding: *mut u32,
+        subordinate: *mut u32,
+        cs: *mut i32,
+        num: *mut u32,
+        father: *mut u32,
+    ) -> u32;
+    fn pickledune_step(
+        succeeding: *mut u32,
+        preceding: *mut u32,
+        subordinate: *mut u32,
+        cs: *mut i32,
+        num: *mut u32,
+        father: *mut u32,
+        kind: u32,
+        count: i32,
+        out_degree: u32,
+        in_degree: u32,
+        sender: u32,
+        probes: *mut u32,
+        reply_to: *mut u32,
+        reply_count: *mut i32,
+    ) -> u32;
+}
+
+// SAFETY, for each call below: the pointers come from references and slices that live through the call, and the borrow checker keeps
+// every `&mut` among them apart from the others. The archive asks nothing of the values behind them.
+
+pub fn read_table(table: &[u8], n: &mut usize, m: &mut usize) -> u32 {
+    unsafe { pickledune_read_table(table.as_ptr(), table.len(), n, m) }
+}
+
+pub fn write_table(n: usize, list: &[u16], out: &mut [u8], length: &mut usize) -> u32 {
+    unsafe {
+        pickledune_write_table(
+            n,
+            list.as_ptr(),
+            list.len(),
+            out.as_mut_ptr(),
+            out.len(),
+            length,
+        )
+    }
+}
+
+pub fn open(table: &[u8], chain: u32, process: usize, arc: &mut usize) -> u32 {
+    unsafe { pickledune_open(table.as_ptr(), table.len(), chain, process, arc) }
+}
+
+pub fn next(table: &[u8], chain: u32, arc: usize) -> usize {
+    unsafe { pickledune_next(table.as_ptr(), table.len(), chain, arc) }
+}
+
+pub fn start(table: &[u8], start: usize, area: &mut [i32]) -> u32 {
+    unsafe {
+        pickledune_start(
+            table.as_ptr(),
+            table.len(),
+            start,
+            area.as_mut_ptr(),
+            area.len(),
+        )
+    }
+}
+
+pub fn pick(area: &mut [i32], from: usize, to: usize, kind: &mut u32, count: &mut i32) -> u32 {
+    unsafe { pickledune_pick(area.as_mut_ptr(), area.len(), from, to, kind, count) }
+}
+
+pub fn run_on(area: &mut [i32], k: u32, over: &mut u32, made: &mut u32) -> u32 {
+    unsafe { pickledune_run_on(area.as_mut_ptr(), area.len(), k, over, made) }
+}
+
+pub fn report(
+    area: &[i32],
+    deliveries: &mut u32,
+    knot: &mut u32,
+    outside: &mut i32,
+    escape: &mut u32,
+    returned: &mut u32,
+) -> u32 {
+    unsafe {
+        pickledune_report(
+            area.as_ptr(),
+            area.len(),
+            deliveries,
+            knot,
+            outside,
+            escape,
+            returned,
+        )
+    }
+}
+
+pub fn read_record(area: &[i32], process: usize, record: &mut Process) -> u32 {
+    let Process {
+        succeeding,
+        preceding,
+        subordinate,
+        cs,
+        num,
+        father,
+    } = record;
+    unsafe {
+        pickledune_read_record(
+            area.as_ptr(),
+            area.len(),
+            process,
+            succeeding,
+            preceding,
+            subordinate,
+            cs,
+            num,
+            father,
+        )
+    }
+}
+
+#[allow(clippy::too_many_arguments)]
+pub fn step(
+    record: &mut Process,
+    kind: u32,
+    count: i32,
+    out_degree: u32,
+    in_degree: u32,
+    sender: u32,
+    probes: &mut u32,
+    reply: &mut Reply,
+) -> u32 {
+    let Process {
+        succeeding,
+        preceding,
+        subordinate,
+        cs,
+        num,
+        father,
+    } = record;
+    unsafe {
+        pickledune_step(
+            succeeding,
+            preceding,
+            subordinate,
+            cs,
+            num,
+            father,
+            kind,
+            count,
+            out_degree,
+            in_degree,
+            sender,
+            probes,
+            &mut reply.process,
+            &mut reply.count,
+        )
+    }
+}

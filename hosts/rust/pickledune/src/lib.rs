@@ -1,0 +1,306 @@
+//! The knot check: whether a process, such as a payment, is stuck in a knot of waits.
+//!
+//! A thin safe wrapper over the archive `libpickledune.a`, whose calls are proved to meet their contracts on any input. `include/pickledune.h`
+//! says what each of them does; here each takes slices and gives an enum or a struct. No call keeps what it is lent, allocates, or has
+//! state of its own. A refusal gives its number and leaves what was lent as it was; running on keeps the deliveries made before it.
+//!
+//! ```
+//! use pickledune::{Ran, Verdict};
+//!
+//! let mut table = [0u8; pickledune::table_bytes(2, 1)];
+//! pickledune::write_table(2, &[1, 2], &mut table)?; // 1 waits for 2
+//! let mut area = [0i32; pickledune::area_words(2, 1)];
+//! pickledune::start(&table, 1, &mut area)?;
+//! assert_eq!(pickledune::run_on(&mut area, 2048), Ran::Over(2));
+//! assert_eq!(pickledune::report(&area)?.verdict, Verdict::Free);
+//! # Ok::<(), pickledune::Refusal>(())
+//! ```
+use std::error::Error;
+use std::fmt;
+
+mod archive;
+
+/// Processes are numbered 1 to at most this.
+pub const MAX_PROCESSES: usize = 128;
+/// Arcs (waits) are numbered 1 to at most this; a table may have none.
+pub const MAX_ARCS: usize = 512;
+
+/// The bytes of a table of `n` processes and `m` arcs.
+pub const fn table_bytes(n: usize, m: usize) -> usize {
+    4 + 4 * n + 8 * m
+}
+
+/// The words that a run area of a table of `n` processes and `m` arcs needs.
+pub const fn area_words(n: usize, m: usize) -> usize {
+    8 * n + 20 * m + 16
+}
+
+/// The number of a refusal; `include/pickledune.h` has the two tables of them.
+#[derive(Clone, Copy, Debug, PartialEq, Eq, Hash)]
+pub struct Refusal(pub u32);
+
+impl fmt::Display for Refusal {
+    fn fmt(&self, f: &mut fmt::Formatter<'_>) -> fmt::Result {
+        write!(f, "refused {}", self.0)
+    }
+}
+
+impl Error for Refusal {}
+
+/// The two chains of a process: the arcs that leave it, and the arcs that come to it.
+#[derive(Clone, Copy, Debug, PartialEq, Eq, Hash)]
+pub enum Chain {
+    Out,
+    In,
+}
+
+/// The processes and arcs of a table.
+#[derive(Clone, Copy, Debug, PartialEq, Eq, Hash)]
+pub struct Sizes {
+    pub processes: usize,
+    pub arcs: usize,
+}
+
+/// A suc probe, a pre probe, or an acknowledgement with its count (−128 to 128).
+#[derive(Clone, Copy, Debug, PartialEq, Eq, Hash)]
+pub enum Message {
+    Suc,
+    Pre,
+    Ack(i32),
+}
+
+/// The answer of running on: over or spent with the number of deliveries made, or a refusal with the deliveries made before it.
+#[derive(Clone, Copy, Debug, PartialEq, Eq, Hash)]
+pub enum Ran {
+    Over(u32),
+    Spent(u32),
+    Refused { refusal: Refusal, made: u32 },
+}
+
+/// Whether the start is in a knot; 01 calls `Free` "none".
+#[derive(Clone, Copy, Debug, PartialEq, Eq, Hash)]
+pub enum Verdict {
+    Knot,
+    Free,
+}
+
+/// `Returned` exactly if the verdict is `Knot`.
+#[derive(Clone, Copy, Debug, PartialEq, Eq, Hash)]
+pub enum Mark {
+    Returned,
+    Held,
+}
+
+/// The report of a run that is over.
+#[derive(Clone, Copy, Debug, PartialEq, Eq, Hash)]
+pub struct Report {
+    /// The deliveries that the run took.
+    pub deliveries: u32,
+    pub verdict: Verdict,
+    /// How many processes that the start waits for, at any remove, do not wait for it.
+    pub outside: i32,
+    /// One of those, if there is any; which one is left open.
+    pub escape: Option<u32>,
+    pub mark: Mark,
+}
+
+/// One process's record: three flags (0 or 1), cs (−128 to 128), num (0 to 256), and father (0 or a process).
+#[derive(Clone, Copy, Debug, Default, PartialEq, Eq, Hash)]
+pub struct Process {
+    pub succeeding: u32,
+    pub preceding: u32,
+    pub subordinate: u32,
+    pub cs: i32,
+    pub num: u32,
+    pub father: u32,
+}
+
+/// The probes that a step broadcasts: none, suc to all successors, or pre to all predecessors.
+#[derive(Clone, Copy, Debug, PartialEq, Eq, Hash)]
+pub enum Probes {
+    Nothing,
+    Sucs,
+    Pres,
+}
+
+/// An acknowledgement to send.
+#[derive(Clone, Copy, Debug, PartialEq, Eq, Hash)]
+pub struct Reply {
+    pub process: u32,
+    pub count: i32,
+}
+
+/// What a step sends.
+#[derive(Clone, Copy, Debug, PartialEq, Eq, Hash)]
+pub struct Sent {
+    pub probes: Probes,
+    pub reply: Option<Reply>,
+}
+
+/// Reads a wait table: 1, 2, 3, 4, 5, 6, 7.
+pub fn read_table(table: &[u8]) -> Result<Sizes, Refusal> {
+    let mut sizes = Sizes {
+        processes: 0,
+        arcs: 0,
+    };
+    accepted(archive::read_table(
+        table,
+        &mut sizes.processes,
+        &mut sizes.arcs,
+    ))?;
+    Ok(sizes)
+}
+
+/// Writes the table of `n` processes at the front of `out` and gives its length in bytes; `list` holds a from and a to for each arc, in
+/// turn. Bytes past the table keep their values. 10, 2, 4, 7, 11.
+pub fn write_table(n: usize, list: &[u16], out: &mut [u8]) -> Result<usize, Refusal> {
+    let mut length = 0;
+    accepted(archive::write_table(n, list, out, &mut length))?;
+    Ok(length)
+}
+
+/// Opens a walk along one chain of a process: the chain's first arc, or `None` if it has none. 1, 2, 3, 4, 5, 6, 7, 8.
+pub fn open(table: &[u8], chain: Chain, process: usize) -> Result<Option<usize>, Refusal> {
+    let mut arc = 0;
+    accepted(archive::open(table, chain_number(chain), process, &mut arc))?;
+    Ok(some(arc))
+}
+
+/// A step of a walk: the arc after `arc` on the chain, or `None` at the end; from an arc that is 0, over M or past the bytes the end too.
+pub fn next(table: &[u8], chain: Chain, arc: usize) -> Option<usize> {
+    some(archive::next(table, chain_number(chain), arc))
+}
+
+/// Starts a check at process `start`. The area needs [`area_words`] words, and may hold anything. 1, 2, 3, 4, 5, 6, 7, 8, 9.
+pub fn start(table: &[u8], start: usize, area: &mut [i32]) -> Result<(), Refusal> {
+    accepted(archive::start(table, start, area))
+}
+
+/// Delivers the oldest message on the link from one process to another. 21, 25, 23, 24, 22.
+pub fn pick(area: &mut [i32], from: usize, to: usize) -> Result<Message, Refusal> {
+    let mut kind = 0;
+    let mut count = 0;
+    accepted(archive::pick(area, from, to, &mut kind, &mut count))?;
+    Ok(match kind {
+        archive::SUC => Message::Suc,
+        archive::PRE => Message::Pre,
+        _ => Message::Ack(count),
+    })
+}
+
+/// Makes up to `k` deliveries, each on the link with a message that has the lowest sender and then the lowest receiver. A run that a
+/// start began is over after at most 2048. 21 before the first delivery; 24, 22 at a delivery.
+pub fn run_on(area: &mut [i32], k: u32) -> Ran {
+    let mut over = 0;
+    let mut made = 0;
+    match accepted(archive::run_on(area, k, &mut over, &mut made)) {
+        Err(refusal) => Ran::Refused { refusal, made },
+        Ok(()) if over == 1 => Ran::Over(made),
+        Ok(()) => Ran::Spent(made),
+    }
+}
+
+/// The report of a run that is over. 21, 26.
+pub fn report(area: &[i32]) -> Result<Report, Refusal> {
+    let mut deliveries = 0;
+    let mut knot = 0;
+    let mut outside = 0;
+    let mut escape = 0;
+    let mut returned = 0;
+    accepted(archive::report(
+        area,
+        &mut deliveries,
+        &mut knot,
+        &mut outside,
+        &mut escape,
+        &mut returned,
+    ))?;
+    Ok(Report {
+        deliveries,
+        verdict: if knot == 1 {
+            Verdict::Knot
+        } else {
+            Verdict::Free
+        },
+        outside,
+        escape: if escape == 0 { None } else { Some(escape) },
+        mark: if returned == 1 {
+            Mark::Returned
+        } else {
+            Mark::Held
+        },
+    })
+}
+
+/// The record of one process, at any time of a run. 21, 25.
+pub fn read_record(area: &[i32], process: usize) -> Result<Process, Refusal> {
+    let mut record = Process::default();
+    accepted(archive::read_record(area, process, &mut record))?;
+    Ok(record)
+}
+
+/// The step of one process other than the start, by itself, on a record that the host keeps; a refusal leaves the record as it was. The
+/// degrees are the numbers of the process's successors and predecessors. 21, 25, 22.
+pub fn step(
+    record: &mut Process,
+    message: Message,
+    out_degree: u32,
+    in_degree: u32,
+    sender: u32,
+) -> Result<Sent, Refusal> {
+    let (kind, count) = match message {
+        Message::Suc => (archive::SUC, 0),
+        Message::Pre => (archive::PRE, 0),
+        Message::Ack(count) => (archive::ACK, count),
+    };
+    let mut probes = 0;
+    let mut reply = Reply {
+        process: 0,
+        count: 0,
+    };
+    accepted(archive::step(
+        record,
+        kind,
+        count,
+        out_degree,
+        in_degree,
+        sender,
+        &mut probes,
+        &mut reply,
+    ))?;
+    Ok(Sent {
+        probes: match probes {
+            archive::SUC => Probes::Sucs,
+            archive::PRE => Probes::Pres,
+            _ => Probes::Nothing,
+        },
+        reply: if reply.process == 0 {
+            None
+        } else {
+            Some(reply)
+        },
+    })
+}
+
+fn accepted(number: u32) -> Result<(), Refusal> {
+    if number == 0 {
+        Ok(())
+    } else {
+        Err(Refusal(number))
+    }
+}
+
+fn some(arc: usize) -> Option<usize> {
+    if arc == 0 {
+        None
+    } else {
+        Some(arc)
+    }
+}
+
+fn chain_number(chain: Chain) -> u32 {
+    match chain {
+        Chain::Out => archive::OUT,
+        Chain::In => archive::IN,
+    }
+}

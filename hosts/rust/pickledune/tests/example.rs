@@ -1,0 +1,210 @@
+//! 01's example, its rows of known verdicts, and a refusal of each call.
+use pickledune::{area_words, table_bytes};
+use pickledune::{
+    Chain, Mark, Message, Probes, Process, Ran, Refusal, Reply, Report, Sizes, Verdict,
+};
+
+/// The table of 01's example: one wait, 1 for 2.
+const TABLE: [u8; 20] = [2, 0, 1, 0, 1, 0, 0, 0, 0, 0, 1, 0, 1, 0, 2, 0, 0, 0, 0, 0];
+
+fn written(n: usize, list: &[u16]) -> Vec<u8> {
+    let mut table = vec![0; table_bytes(n, list.len() / 2)];
+    assert_eq!(
+        pickledune::write_table(n, list, &mut table),
+        Ok(table.len())
+    );
+    table
+}
+
+fn started(table: &[u8], start: usize) -> Vec<i32> {
+    let sizes = pickledune::read_table(table).unwrap();
+    let mut area = vec![0; area_words(sizes.processes, sizes.arcs)];
+    assert_eq!(pickledune::start(table, start, &mut area), Ok(()));
+    area
+}
+
+fn process(
+    succeeding: u32,
+    preceding: u32,
+    subordinate: u32,
+    cs: i32,
+    num: u32,
+    father: u32,
+) -> Process {
+    Process {
+        succeeding,
+        preceding,
+        subordinate,
+        cs,
+        num,
+        father,
+    }
+}
+
+#[test]
+fn the_example() {
+    assert_eq!(written(2, &[1, 2]), TABLE);
+    assert_eq!(
+        pickledune::read_table(&TABLE),
+        Ok(Sizes {
+            processes: 2,
+            arcs: 1
+        })
+    );
+
+    let mut area = started(&TABLE, 1);
+    assert_eq!(pickledune::pick(&mut area, 1, 2), Ok(Message::Suc));
+    assert_eq!(pickledune::pick(&mut area, 2, 1), Ok(Message::Ack(1)));
+    assert_eq!(
+        pickledune::read_record(&area, 1),
+        Ok(process(1, 1, 0, 1, 0, 0))
+    );
+    assert_eq!(
+        pickledune::read_record(&area, 2),
+        Ok(process(1, 0, 1, 0, 0, 1))
+    );
+    let report = Report {
+        deliveries: 2,
+        verdict: Verdict::Free,
+        outside: 1,
+        escape: Some(2),
+        mark: Mark::Held,
+    };
+    assert_eq!(pickledune::report(&area), Ok(report));
+}
+
+#[test]
+fn running_on_does_what_the_picks_do() {
+    let mut picked = started(&TABLE, 1);
+    pickledune::pick(&mut picked, 1, 2).unwrap();
+    let mut area = picked.clone();
+    pickledune::pick(&mut picked, 2, 1).unwrap();
+    assert_eq!(pickledune::run_on(&mut area, 0), Ran::Spent(0));
+    assert_eq!(pickledune::run_on(&mut area, 2048), Ran::Over(1));
+    assert_eq!(area, picked);
+}
+
+/// 01's rows P, from process 1: N, the waits, D, the verdict, outside.
+#[test]
+fn the_known_verdicts() {
+    let rows: [(usize, &[u16], u32, Verdict, i32); 8] = [
+        (1, &[], 0, Verdict::Knot, 0),
+        (1, &[1, 1], 4, Verdict::Knot, 0),
+        (2, &[1, 2], 2, Verdict::Free, 1),
+        (2, &[2, 1], 2, Verdict::Knot, 0),
+        (2, &[1, 2, 2, 1], 8, Verdict::Knot, 0),
+        (3, &[1, 2, 2, 3, 3, 1], 12, Verdict::Knot, 0),
+        (3, &[1, 2, 2, 1, 2, 3], 10, Verdict::Free, 1),
+        (3, &[1, 2, 2, 3, 3, 2], 6, Verdict::Free, 2),
+    ];
+    for (n, list, d, verdict, outside) in rows {
+        let mut area = started(&written(n, list), 1);
+        assert_eq!(pickledune::run_on(&mut area, 2048), Ran::Over(d));
+        let report = pickledune::report(&area).unwrap();
+        assert_eq!(
+            (report.deliveries, report.verdict, report.outside),
+            (d, verdict, outside)
+        );
+        assert_eq!(report.mark == Mark::Returned, verdict == Verdict::Knot);
+        assert_eq!(report.escape.is_none(), outside == 0);
+    }
+}
+
+#[test]
+fn a_walk() {
+    let table = written(3, &[1, 2, 1, 3, 2, 3]);
+    assert_eq!(pickledune::open(&table, Chain::Out, 1), Ok(Some(2)));
+    assert_eq!(pickledune::next(&table, Chain::Out, 2), Some(1));
+    assert_eq!(pickledune::next(&table, Chain::Out, 1), None);
+    assert_eq!(pickledune::open(&table, Chain::In, 3), Ok(Some(3)));
+    assert_eq!(pickledune::next(&table, Chain::In, 3), Some(2));
+    assert_eq!(pickledune::open(&table, Chain::In, 1), Ok(None));
+}
+
+#[test]
+fn one_step() {
+    let mut record = Process::default();
+    let sent = pickledune::step(&mut record, Message::Suc, 0, 1, 1).unwrap();
+    assert_eq!(sent.probes, Probes::Sucs);
+    assert_eq!(
+        sent.reply,
+        Some(Reply {
+            process: 1,
+            count: 1
+        })
+    );
+    assert_eq!(record, process(1, 0, 1, 0, 0, 1));
+
+    let sent = pickledune::step(&mut record, Message::Pre, 0, 1, 1).unwrap();
+    assert_eq!(sent.probes, Probes::Pres);
+    assert_eq!(sent.reply, None);
+    assert_eq!(record, process(1, 1, 0, -1, 1, 1));
+}
+
+#[test]
+fn refusals_change_nothing() {
+    let mut out = [7u8; 20];
+    assert_eq!(pickledune::read_table(&[]), Err(Refusal(1)));
+    assert_eq!(
+        pickledune::write_table(2, &[1, 2, 1], &mut out),
+        Err(Refusal(10))
+    );
+    assert_eq!(
+        pickledune::write_table(2, &[1, 3], &mut out),
+        Err(Refusal(4))
+    );
+    assert_eq!(
+        pickledune::write_table(2, &[1, 2], &mut out[..19]),
+        Err(Refusal(11))
+    );
+    assert_eq!(out, [7; 20]);
+    assert_eq!(pickledune::open(&TABLE, Chain::Out, 3), Err(Refusal(8)));
+    assert_eq!(pickledune::next(&TABLE, Chain::Out, 2), None);
+
+    let mut words = [5i32; area_words(2, 1)];
+    assert_eq!(
+        pickledune::start(&TABLE, 1, &mut words[1..]),
+        Err(Refusal(9))
+    );
+    assert_eq!(pickledune::pick(&mut words, 1, 2), Err(Refusal(21)));
+    assert_eq!(
+        pickledune::run_on(&mut words, 1),
+        Ran::Refused {
+            refusal: Refusal(21),
+            made: 0
+        }
+    );
+    assert_eq!(pickledune::report(&words), Err(Refusal(21)));
+    assert_eq!(pickledune::read_record(&words, 1), Err(Refusal(21)));
+    assert_eq!(words, [5; area_words(2, 1)]);
+
+    let mut area = started(&TABLE, 1);
+    let before = area.clone();
+    assert_eq!(pickledune::pick(&mut area, 1, 1), Err(Refusal(25)));
+    assert_eq!(pickledune::pick(&mut area, 2, 1), Err(Refusal(24)));
+    assert_eq!(pickledune::report(&area), Err(Refusal(26)));
+    assert_eq!(pickledune::read_record(&area, 3), Err(Refusal(25)));
+    assert_eq!(area, before);
+    pickledune::run_on(&mut area, 2);
+    assert_eq!(pickledune::pick(&mut area, 1, 2), Err(Refusal(23)));
+
+    let mut record = process(2, 0, 0, 0, 0, 0);
+    assert_eq!(
+        pickledune::step(&mut record, Message::Suc, 0, 0, 1),
+        Err(Refusal(21))
+    );
+    record.succeeding = 0;
+    assert_eq!(
+        pickledune::step(&mut record, Message::Suc, 0, 0, 0),
+        Err(Refusal(25))
+    );
+    assert_eq!(
+        pickledune::step(&mut record, Message::Ack(1), 0, 0, 1),
+        Err(Refusal(22))
+    );
+    assert_eq!(
+        pickledune::step(&mut record, Message::Ack(129), 0, 0, 1),
+        Err(Refusal(21))
+    );
+    assert_eq!(record, Process::default());
+}

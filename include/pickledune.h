@@ -1,0 +1,208 @@
+/* pickledune.h: the knot check for C and C++ (C99), over the archive libpickledune.a.
+ *
+ * A check says whether a process, such as a payment, is stuck in a knot of waits: whether every process that it waits for, at any
+ * remove, waits for it in turn. A host writes or brings a wait table, starts a check at one process in words that it lends, delivers
+ * the messages that wait on the links, one by one (pick) or in a fixed order (run on), and reads the report once the run is over.
+ *
+ * What is lent. Every pointer is used only during the call that gets it; the library keeps none, has no memory of its own and no
+ * state outside what is lent. A slice goes as a pointer and the number of its elements. Pointers must not be null, also where the
+ * number is 0, and must be aligned for what they point to. The out-parameters of a call must be valid and distinct, and nothing that
+ * a call may write may overlap anything else that it is lent. What is lent may hold any values whatever: bytes that are no table and
+ * words that are no area are refused by their number.
+ *
+ * What comes back. Each call but pickledune_next returns 0, or the number of the first refusal that is met, in the order that its
+ * comment gives. A refusal gives zeros in all out-parameters and changes no lent byte or word; but running on keeps the deliveries
+ * that it made before the refusal and gives their number, and pickledune_step leaves the record that it was lent as it was.
+ *
+ * Threads. Calls on different memory may run at the same time. One area may not be used from two threads at once, nor may a table or
+ * a record be written while a call reads it. A call needs less than 128 KiB of stack.
+ *
+ * Refused because of the input
+ *    1  the table has fewer than 4 bytes
+ *    2  N or M is outside its range
+ *    3  the table's length is wrong
+ *    4  a from or to is 0 or over N
+ *    5  a first or next field is over M
+ *    6  a chain meets an arc twice, meets a foreign one or misses one
+ *    7  two arcs agree in from and to
+ *    8  the process is 0 or over N
+ *    9  the run area is too short
+ *   10  the list has an odd number of entries
+ *   11  the output is too short
+ * Refused because of the state
+ *   21  the run area is not well formed; for one process's step: the record, the kind or the count is out of range, or the father or
+ *       a degree is over 128
+ *   22  the step would take a value out of its range, put a fifth message on a link, or acknowledge to father 0 (never in an area
+ *       that only these calls have written)
+ *   23  the run is over
+ *   24  no message waits on that link, or, when running on, on any link
+ *   25  there is no such link; for one process's step: the sender is 0 or over 128; for reading a record: the process is 0 or over N
+ *   26  the run is not over yet
+ */
+#ifndef PICKLEDUNE_H
+#define PICKLEDUNE_H
+
+#include <stddef.h>
+#include <stdint.h>
+
+#ifdef __cplusplus
+extern "C" {
+#endif
+
+/* Limits: N processes, 1 to 128, and M arcs (waits), 0 to 512. Processes and arcs are numbered from 1. */
+#define PICKLEDUNE_MAX_PROCESSES 128
+#define PICKLEDUNE_MAX_ARCS 512
+
+/* The bytes of a table of n processes and m arcs, and the words that a run area of such a table needs. */
+#define PICKLEDUNE_TABLE_BYTES(n, m) (4 + 4 * (n) + 8 * (m))
+#define PICKLEDUNE_AREA_WORDS(n, m) (8 * (n) + 20 * (m) + 16)
+
+/* The two chains of a process: the arcs that leave it, and the arcs that come to it. */
+#define PICKLEDUNE_OUT 0u
+#define PICKLEDUNE_IN 1u
+
+/* The kinds of a message: a suc probe, a pre probe, an acknowledgement. Only an acknowledgement has a count, -128 to 128. */
+#define PICKLEDUNE_SUC 1u
+#define PICKLEDUNE_PRE 2u
+#define PICKLEDUNE_ACK 3u
+
+/* One process's record: three flags (0 or 1), cs (-128 to 128), num (0 to 256), and father (0 or a process). */
+struct pickledune_process {
+    uint32_t succeeding;
+    uint32_t preceding;
+    uint32_t subordinate;
+    int32_t cs;
+    uint32_t num;
+    uint32_t father;
+};
+
+/* Reads a wait table.
+ * Lent: table_bytes bytes, read only.
+ * Back: *n and *m, its processes and arcs.
+ * Refused, in this order: 1, 2, 3, 4, 5, 6, 7. */
+uint32_t pickledune_read_table(const uint8_t *table, size_t table_bytes, size_t *n, size_t *m);
+
+/* Writes a wait table of n processes. The list holds a from and a to for each arc, in turn: from waits for to.
+ * Lent: entries numbers, read only; out_bytes bytes, of which the first PICKLEDUNE_TABLE_BYTES(n, entries / 2) are written and the
+ * others keep their values.
+ * Back: *length, the table's length in bytes.
+ * Refused, in this order: 10, 2, 4, 7, 11. */
+uint32_t pickledune_write_table(size_t n, const uint16_t *list, size_t entries, uint8_t *out, size_t out_bytes, size_t *length);
+
+/* Opens a walk along one chain of a process: PICKLEDUNE_OUT is its out-chain, any other number its in-chain.
+ * Lent: table_bytes bytes, read only.
+ * Back: *arc, the number of the chain's first arc, or 0 if it has none.
+ * Refused, in this order: 1, 2, 3, 4, 5, 6, 7, 8. */
+uint32_t pickledune_open(const uint8_t *table, size_t table_bytes, uint32_t chain, size_t process, size_t *arc);
+
+/* A step of a walk, from an arc along the chain named: the number of the next arc, or 0 at the end. It refuses nothing: from an arc
+ * that is 0, over M or past the lent bytes it gives the end.
+ * Lent: table_bytes bytes, read only. They are not checked as a table; a walk that pickledune_open opened on the same bytes is right. */
+size_t pickledune_next(const uint8_t *table, size_t table_bytes, uint32_t chain, size_t arc);
+
+/* Starts a check at a process.
+ * Lent: table_bytes bytes, read only, and not needed by later calls; words words for the run area, of which the first
+ * PICKLEDUNE_AREA_WORDS(N, M) are written, whatever they held, and the others are not touched.
+ * Back: the area holds the run. Later calls take it as it stands; a host that changes a word gets 21 from them, or another run.
+ * Refused, in this order: 1, 2, 3, 4, 5, 6, 7, 8, 9. */
+uint32_t pickledune_start(const uint8_t *table, size_t table_bytes, size_t start, int32_t *area, size_t words);
+
+/* Delivers the oldest message on the link from one process to another.
+ * Lent: words words, the run area, which takes the delivery.
+ * Back: *kind and *count of the message: PICKLEDUNE_SUC or PICKLEDUNE_PRE with 0, or PICKLEDUNE_ACK with its count.
+ * Refused, in this order: 21, 25, 23, 24, 22. */
+uint32_t pickledune_pick(int32_t *area, size_t words, size_t from, size_t to, uint32_t *kind, int32_t *count);
+
+/* Makes up to k deliveries, each on the link with a message that has the lowest sender and then the lowest receiver.
+ * Lent: words words, the run area, which takes the deliveries.
+ * Back: *over is 1 if the run is over and 0 if the k deliveries are spent and it is not; *made, the deliveries made. No run that
+ * pickledune_start began takes more than 2048 deliveries, so that k = 2048 runs it to the end.
+ * Refused, in this order: 21 before the first delivery; 24, 22 at a delivery. *made then has the deliveries made before, which the area
+ * keeps, and *over is 0. */
+uint32_t pickledune_run_on(int32_t *area, size_t words, uint32_t k, uint32_t *over, uint32_t *made);
+
+/* The report of a run that is over.
+ * Lent: words words, the run area, read only.
+ * Back: *deliveries, those that the run took; *knot, 1 if the start is in a knot, else 0; *outside, how many processes that the start
+ * waits for, at any remove, do not wait for it; *escape, one of those, or 0 if there is none (which one is left open); *returned, 1 for
+ * the mark returned (exactly with knot), 0 for held.
+ * Refused, in this order: 21, 26. */
+uint32_t pickledune_report(
+    const int32_t *area,
+    size_t words,
+    uint32_t *deliveries,
+    uint32_t *knot,
+    int32_t *outside,
+    uint32_t *escape,
+    uint32_t *returned);
+
+/* The record of one process, at any time of a run.
+ * Lent: words words, the run area, read only.
+ * Back: the six values of struct pickledune_process.
+ * Refused, in this order: 21, 25. */
+uint32_t pickledune_read_record(
+    const int32_t *area,
+    size_t words,
+    size_t process,
+    uint32_t *succeeding,
+    uint32_t *preceding,
+    uint32_t *subordinate,
+    int32_t *cs,
+    uint32_t *num,
+    uint32_t *father);
+
+/* The step of one process other than the start, by itself: a host that keeps its own records and links has one record updated by one
+ * message.
+ * Lent: the six values of the record, read and written; on a refusal they keep their values.
+ * Given: kind and count of the message (the count of a probe is not looked at), the numbers of the process's successors and
+ * predecessors, and the sender, 1 to 128.
+ * Back: *probes, what to broadcast: 0 nothing, PICKLEDUNE_SUC to all successors, PICKLEDUNE_PRE to all predecessors; *reply_to and
+ * *reply_count, to whom one acknowledgement is to be sent and with which count, or 0 and 0 if none is.
+ * Refused, in this order: 21, 25, 22. */
+uint32_t pickledune_step(
+    uint32_t *succeeding,
+    uint32_t *preceding,
+    uint32_t *subordinate,
+    int32_t *cs,
+    uint32_t *num,
+    uint32_t *father,
+    uint32_t kind,
+    int32_t count,
+    uint32_t out_degree,
+    uint32_t in_degree,
+    uint32_t sender,
+    uint32_t *probes,
+    uint32_t *reply_to,
+    int32_t *reply_count);
+
+/* pickledune_read_record into a record. */
+static inline uint32_t pickledune_read_process(
+    const int32_t *area, size_t words, size_t process, struct pickledune_process *record)
+{
+    return pickledune_read_record(
+        area, words, process, &record->succeeding, &record->preceding, &record->subordinate, &record->cs, &record->num,
+        &record->father);
+}
+
+/* pickledune_step on a record. */
+static inline uint32_t pickledune_step_process(
+    struct pickledune_process *record,
+    uint32_t kind,
+    int32_t count,
+    uint32_t out_degree,
+    uint32_t in_degree,
+    uint32_t sender,
+    uint32_t *probes,
+    uint32_t *reply_to,
+    int32_t *reply_count)
+{
+    return pickledune_step(
+        &record->succeeding, &record->preceding, &record->subordinate, &record->cs, &record->num, &record->father, kind, count,
+        out_degree, in_degree, sender, probes, reply_to, reply_count);
+}
+
+#ifdef __cplusplus
+}
+#endif
+
+#endif

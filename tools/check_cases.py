@@ -1,0 +1,346 @@
+#!/usr/bin/env python3
+"""Makes the cases of crates/check_cases: inputs of the check program (stdin), and what it must print for each (stdout).
+
+  tools/check_cases.py           write both files
+  tools/check_cases.py --check   write nothing; exit 1 unless both files are what would be written
+  tools/check_cases.py --list    print each case with its label and its lines
+  tools/check_cases.py --print   read one input of the check program and print what it must print
+
+What is printed comes from the run below, which is written from 01 ("Run and links", "Steps", "The check program") and not from the
+crates, and from the reader of tools/table_vectors.py. Each case names by hand what must be among its lines; the script stops if it is
+not. At the end of a run the lines are held to a graph search, too. The format of a case is in the top comment of
+crates/check_cases/src/main.rt. The cases drawn at random have a fixed seed, so every run makes the same files.
+"""
+import collections, os, sys
+
+from table_vectors import Draws, Table, latest_first, rows_met, shuffled, some_waits, fields_of, words
+
+HERE = os.path.join(os.path.dirname(os.path.abspath(__file__)), "..", "crates", "check_cases")
+LONGEST = 20480
+
+
+# ---- a run, by 01
+
+class Process:
+    def __init__(self):
+        self.succeeding = self.preceding = self.subordinate = self.cs = self.num = self.father = 0
+
+
+class Run:
+    def __init__(self, n, waits, start):
+        self.n, self.waits, self.start, self.deliveries = n, waits, start, 0
+        self.process = {p: Process() for p in range(1, n + 1)}
+        self.successors = {p: sorted(b for a, b in waits if a == p) for p in range(1, n + 1)}
+        self.predecessors = {p: sorted(a for a, b in waits if b == p) for p in range(1, n + 1)}
+        self.link = {}
+        for a, b in waits:
+            self.link[a, b] = collections.deque()
+            self.link[b, a] = collections.deque()
+        s = self.process[start]
+        s.succeeding = s.preceding = 1
+        s.num = self.broadcast(start, "suc") + self.broadcast(start, "pre")
+
+    def over(self):
+        return self.process[self.start].num == 0
+
+    def send(self, a, b, message):
+        self.link[a, b].append(message)
+        assert len(self.link[a, b]) <= 4, "a fifth message"
+
+    def broadcast(self, p, kind):
+        to = self.successors[p] if kind == "suc" else self.predecessors[p]
+        for q in to:
+            self.send(p, q, (kind,))
+        return len(to)
+
+    def acknowledge(self, p, to, count):
+        assert to != 0 and -128 <= count <= 128
+        self.send(p, to, ("ack", count))
+
+    def rule_4(self, i):
+        x = self.process[i]
+        if x.num == 0:
+            self.acknowledge(i, x.father, x.cs)
+            x.cs = 0
+
+    def receive(self, i, p, message):
+        x = self.process[i]
+        if message[0] == "ack":
+            x.cs += message[1]
+            x.num -= 1
+            assert x.num >= 0
+            if i != self.start:
+                self.rule_4(i)
+            return
+        if i == self.start:
+            self.acknowledge(i, p, 0)
+            return
+        if x.num == 0:
+            x.father = p
+        else:
+            self.acknowledge(i, p, x.cs)
+            x.cs = 0
+        if message[0] == "suc" and not x.succeeding:
+            x.succeeding = 1
+            x.num += self.broadcast(i, "suc")
+        if message[0] == "pre" and not x.preceding:
+            x.preceding = 1
+            x.num += self.broadcast(i, "pre")
+        new = 1 if x.succeeding and not x.preceding else 0
+        x.cs += new - x.subordinate
+        x.subordinate = new
+        self.rule_4(i)
+
+    def deliver(self, a, b):
+        message = self.link[a, b].popleft()
+        self.deliveries += 1
+        self.receive(b, a, message)
+        return message
+
+    def pick(self, a, b):
+        """The message, or the number of the refusal."""
+        if (a, b) not in self.link:
+            return 25
+        if self.over():
+            return 23
+        if not self.link[a, b]:
+            return 24
+        return self.deliver(a, b)
+
+    def lowest(self):
+        return min(pair for pair, waiting in self.link.items() if waiting)
+
+
+def closure(start, neighbours):
+    met, rest = {start}, [start]
+    while rest:
+        for q in neighbours[rest.pop()]:
+            if q not in met:
+                met.add(q)
+                rest.append(q)
+    return met
+
+
+def hold_to_search(run):
+    """What 01 says of the end of a check, by a graph search."""
+    reached = closure(run.start, run.successors)
+    reaching = closure(run.start, run.predecessors)
+    d = 2 * sum(a in reached for a, b in run.waits) + 2 * sum(b in reaching for a, b in run.waits)
+    assert run.deliveries == d
+    assert not any(run.link.values())
+    for p, x in run.process.items():
+        assert x.succeeding == (p in reached) and x.preceding == (p in reaching) and x.num == 0
+        assert x.subordinate == (p in reached - reaching)
+        assert x.cs == (len(reached - reaching) if p == run.start else 0)
+
+
+# ---- the check program of 01
+
+def input_number(data):
+    if len(data) > LONGEST:
+        return 13
+    if len(data) < 2 or len(data) - 2 < 4:
+        return 1
+    n, m = fields_of(data[2:])[:2]
+    if not (1 <= n <= 128 and m <= 512):
+        return 2
+    end = 2 + 4 + 4 * n + 8 * m
+    if len(data) < end:
+        return 3
+    if (len(data) - end) % 4:
+        return 12
+    rows = rows_met(data[2:end])
+    if rows:
+        return min(rows)
+    start = data[0] + 256 * data[1]
+    if not 1 <= start <= n:
+        return 8
+    return 0
+
+
+def message_text(message):
+    return " ".join(str(part) for part in message)
+
+
+def printed(data):
+    number = input_number(data)
+    if number:
+        return ["refused %d" % number]
+    n, m, _, arcs = fields_of(data[2:])
+    end = 2 + 4 + 4 * n + 8 * m
+    value = lambda at: data[at] + 256 * data[at + 1]
+    run = Run(n, [(arc[0], arc[1]) for arc in arcs], value(0))
+    lines = []
+    for at in range(end, len(data), 4):
+        a, b = value(at), value(at + 2)
+        answer = run.pick(a, b)
+        text = "refused %d" % answer if isinstance(answer, int) else message_text(answer)
+        lines.append("pick %d %d %s" % (a, b, text))
+    while not run.over():
+        a, b = run.lowest()
+        lines.append("own %d %d %s" % (a, b, message_text(run.deliver(a, b))))
+    hold_to_search(run)
+    for p, x in run.process.items():
+        lines.append("process %d %d %d %d %d %d" % (p, x.succeeding, x.preceding, x.subordinate, x.cs, x.num))
+    outside = run.process[run.start].cs
+    escape = min((p for p, x in run.process.items() if x.subordinate), default=0)
+    lines += ["over %d" % run.deliveries, "verdict %s" % ("none" if outside else "knot"), "outside %d" % outside]
+    return lines + ["escape %d" % escape, "mark %s" % ("held" if outside else "returned")]
+
+
+# ---- the cases
+
+cases = []  # label, bytes, lines
+
+
+def add(label, data, *wanted):
+    """A case whose lines must hold these, in this order."""
+    lines = printed(data)
+    rest = iter(lines)
+    assert all(line in rest for line in wanted), (label, wanted, lines)
+    cases.append((label, data, lines))
+
+
+def refused(label, data, number):
+    add(label, data, "refused %d" % number)
+    assert len(cases[-1][2]) == 1
+
+
+def check(start, n, waits, picks=(), order=latest_first):
+    return words([start]) + Table(n, waits, order).bytes() + words([end for pick in picks for end in pick])
+
+
+def refusals():
+    one = check(1, 2, [(1, 2)])
+    for length in range(len(one)):
+        refused("the first %d bytes of an input" % length, one[:length], 1 if length < 6 else 3)
+    for left in (1, 2, 3):
+        refused("%d bytes left over" % left, one + bytes(left), 12)
+        refused("%d bytes left after a pick" % left, one + words([1, 2]) + bytes(left), 12)
+    refused("N 0", words([1, 0, 0]), 2)
+    refused("N 129", words([1, 129, 0]) + bytes(4 * 129), 2)
+    refused("M 513", words([1, 1, 513]) + bytes(4 + 8 * 513), 2)
+    refused("N 0 before a start of 0", words([0, 0, 0]), 2)
+    refused("too few bytes before a wrong end of an arc", words([1, 1, 1, 1, 1, 9, 9]), 3)
+    refused("bytes left over before a wrong end of an arc", words([1, 1, 1, 1, 1, 9, 9, 0, 0]) + b"\0", 12)
+    refused("an arc's end over N", words([1, 2, 1, 1, 0, 0, 1, 1, 3, 0, 0]), 4)
+    refused("an arc's end 0", words([1, 2, 1, 1, 0, 0, 1, 0, 2, 0, 0]), 4)
+    refused("a first over M", words([1, 2, 1, 2, 0, 0, 1, 1, 2, 0, 0]), 5)
+    refused("a next over M", words([1, 2, 1, 1, 0, 0, 1, 1, 2, 2, 0]), 5)
+    refused("a chain that meets an arc twice", words([1, 2, 1, 1, 0, 0, 1, 1, 2, 1, 0]), 6)
+    refused("a chain that misses its arc", words([1, 2, 1, 0, 0, 0, 1, 1, 2, 0, 0]), 6)
+    refused("a chain that meets a foreign arc", words([1, 2, 1, 1, 0, 1, 1, 1, 2, 0, 0]), 6)
+    refused("two arcs alike", check(1, 2, [(1, 2), (1, 2)]), 7)
+    refused("start 0", check(0, 2, [(1, 2)]), 8)
+    refused("start over N", check(3, 2, [(1, 2)]), 8)
+    refused("start 65,535", check(65535, 2, [(1, 2)]), 8)
+    refused("two arcs alike before a start of 0", check(0, 2, [(1, 2), (1, 2)]), 7)
+    refused("20,481 bytes", one + bytes(20481 - len(one)), 13)
+    refused("20,480 bytes", one + bytes(20480 - len(one)), 12)
+    refused("20,481 bytes of nothing", bytes(20481), 13)
+
+
+def rows():
+    """The rows of "Checks at the start from process 1"."""
+    for n, waits, d, verdict, outside in (
+        (1, [], 0, "knot", 0),
+        (1, [(1, 1)], 4, "knot", 0),
+        (2, [(1, 2)], 2, "none", 1),
+        (2, [(2, 1)], 2, "knot", 0),
+        (2, [(1, 2), (2, 1)], 8, "knot", 0),
+        (3, [(1, 2), (2, 3), (3, 1)], 12, "knot", 0),
+        (3, [(1, 2), (2, 1), (2, 3)], 10, "none", 1),
+        (3, [(1, 2), (2, 3), (3, 2)], 6, "none", 2),
+    ):
+        add("N %d, waits %s" % (n, waits), check(1, n, waits), "over %d" % d, "verdict %s" % verdict, "outside %d" % outside)
+
+
+def picks():
+    add("the example of 01", check(1, 2, [(1, 2)], [(1, 2)]), "pick 1 2 suc", "own 2 1 ack 1")
+    add("an empty link", check(1, 2, [(1, 2)], [(2, 1)]), "pick 2 1 refused 24")
+    add("a link twice", check(1, 2, [(1, 2)], [(1, 2), (1, 2)]), "pick 1 2 suc", "pick 1 2 refused 24")
+    ends = [(0, 0), (0, 1), (1, 0), (1, 1), (2, 2), (1, 3), (3, 1), (65535, 65535), (257, 2)]
+    add("picks that name no link", check(1, 2, [(1, 2)], ends), *["pick %d %d refused 25" % pick for pick in ends])
+    add("picks after the end", check(1, 2, [(1, 2)], [(1, 2), (2, 1), (1, 2), (2, 1), (1, 1)]),
+        "pick 2 1 ack 1", "pick 1 2 refused 23", "pick 2 1 refused 23", "pick 1 1 refused 25")
+    add("a start without waits is over at once", check(2, 3, [(1, 3)], [(1, 3), (2, 1)]), "pick 1 3 refused 23", "pick 2 1 refused 25", "over 0")
+    add("a loop by picks", check(1, 1, [(1, 1)], [(1, 1)] * 5), "pick 1 1 suc", "pick 1 1 pre", "pick 1 1 ack 0", "pick 1 1 ack 0", "pick 1 1 refused 23")
+    both = [(1, 2), (2, 1)]
+    add("both probes before the acknowledgements", check(1, 2, both, [(1, 2), (1, 2), (2, 1), (2, 1)]),
+        "pick 1 2 suc", "pick 1 2 pre", "pick 2 1 ack 1", "own 2 1 ack -1", "verdict knot")
+    fork = [(1, 2), (1, 3)]
+    add("two acknowledgements", check(1, 3, fork, [(1, 2), (1, 3), (2, 1), (3, 1)]), "pick 2 1 ack 1", "pick 3 1 ack 1", "outside 2")
+    add("the same, the other way about", check(1, 3, fork, [(1, 2), (1, 3), (3, 1), (2, 1)]), "pick 3 1 ack 1", "pick 2 1 ack 1", "outside 2")
+
+
+def random_picks(rng, n, waits, count):
+    """Some that name links, some that name none."""
+    drawn = []
+    for _ in range(count):
+        if waits and rng.between(0, 9):
+            a, b = waits[rng.between(0, len(waits) - 1)]
+            drawn.append((a, b) if rng.between(0, 1) else (b, a))
+        else:
+            drawn.append((rng.between(0, n + 1), rng.between(0, n + 1)))
+    return drawn
+
+
+def random_cases(rng):
+    for number in range(60):
+        n = rng.between(1, 9)
+        waits = some_waits(rng, n, rng.between(0, min(n * n, 14)))
+        add("drawn %d" % number, check(rng.between(1, n), n, waits, random_picks(rng, n, waits, rng.between(0, 24)), shuffled(rng)))
+
+
+def large(rng):
+    ring = [(p, p % 128 + 1) for p in range(1, 129)]
+    add("a ring of 128", check(128, 128, ring), "over 512", "verdict knot")
+    path = [(p, p + 1) for p in range(1, 128)]
+    add("a path of 128 from its first", check(1, 128, path), "verdict none", "outside 127", "escape 2")
+    full = some_waits(rng, 128, 512)
+    add("128 processes, 512 waits", check(1, 128, full, random_picks(rng, 128, full, 40)))
+    loop = check(1, 1, [(1, 1)])
+    add("20,478 bytes, the longest that can be whole", loop + words([1, 1]) * ((20478 - len(loop)) // 4), "pick 1 1 suc", "over 4")
+    assert len(cases[-1][1]) == 20478
+
+
+def make():
+    rng = Draws(2002)
+    refusals()
+    rows()
+    picks()
+    random_cases(rng)
+    large(rng)
+    stdin = b"".join(words([len(data)]) + data for _, data, _ in cases)
+    stdout = "".join("case %d\n%s" % (number, "".join(line + "\n" for line in lines)) for number, (_, _, lines) in enumerate(cases, 1))
+    # and at the end a case that is not whole
+    return {"stdin": stdin + words([9]) + bytes(5), "stdout": (stdout + "input ends early\n").encode()}
+
+
+def main():
+    if sys.argv[1:] == ["--print"]:
+        sys.stdout.write("".join(line + "\n" for line in printed(sys.stdin.buffer.read())))
+        return
+    files = make()
+    if sys.argv[1:] == ["--list"]:
+        for number, (label, data, lines) in enumerate(cases, 1):
+            print("%d, %d bytes, %s:" % (number, len(data), label))
+            for line in lines:
+                print("    " + line)
+        return
+    if sys.argv[1:] not in ([], ["--check"]):
+        sys.exit(__doc__)
+    for name, data in files.items():
+        path = os.path.join(HERE, name)
+        if sys.argv[1:] == ["--check"]:
+            with open(path, "rb") as f:
+                if f.read() != data:
+                    sys.exit("%s is not what this script makes" % name)
+        else:
+            with open(path, "wb") as f:
+                f.write(data)
+    print("%d cases, %d bytes in, %d bytes out" % (len(cases), len(files["stdin"]), len(files["stdout"])))
+
+
+if __name__ == "__main__":
+    main()
