@@ -1,0 +1,170 @@
+//! Times the proved library against the plain Rust in one run, on the same input.
+//!
+//!     bench [PLOT.svg]
+//!
+//! Every time is the median of repetitions in which the two take turns. With KNOT_CHECK set to
+//! the built check program, that program is timed from process start to exit against
+//! `plain_check`, which stands beside this one (or at PLAIN_CHECK).
+
+mod plot;
+mod programs;
+mod rows;
+mod timing;
+
+use calls::{Calls, Plain, Proved, STANDIN};
+use rows::{print_growth, print_rows, Size};
+use std::hint::black_box;
+use std::process::ExitCode;
+use std::time::Instant;
+use timing::{time_all, Timed};
+
+/// N and M doubled three times, up to the largest table.
+const SIZES: [usize; 4] = [16, 32, 64, 128];
+
+/// One check: every process waits for the next four, so that all arcs count in D both ways and
+/// D is 4 times M.
+pub struct Input {
+    size: Size,
+    table: Vec<u8>,
+    words: usize,
+    /// The area that a start leaves.
+    started: Vec<i32>,
+    /// The picks that make the whole check in the fixed order.
+    picks: Vec<(usize, usize)>,
+}
+
+impl Input {
+    fn new(n: usize) -> Input {
+        let waits = (0..n).flat_map(|i| (1..=4).map(move |j| [i + 1, (i + j) % n + 1]));
+        let list: Vec<u16> = waits.flatten().map(|end| end as u16).collect();
+        let size = Size { n, m: list.len() / 2 };
+        let mut table = vec![0; 4 + 4 * size.n + 8 * size.m];
+        plain::write_table(n, &list, &mut table).expect("the list is right");
+        let words = 8 * size.n + 20 * size.m + 16;
+        let mut started = vec![0; words];
+        plain::start(&table, 1, &mut started).expect("the table is right");
+        let picks = own_picks(&table);
+        assert_eq!(picks.len(), 4 * size.m, "D of a strongly connected graph");
+        Input { size, table, words, started, picks }
+    }
+}
+
+/// The deliveries that the check program makes by itself.
+fn own_picks(table: &[u8]) -> Vec<(usize, usize)> {
+    let mut printed = Vec::new();
+    plain::check_program(&[&[1, 0], table].concat(), &mut printed);
+    let printed = String::from_utf8(printed).expect("it prints ASCII");
+    let own = printed.lines().filter_map(|line| line.strip_prefix("own "));
+    let numbers = own.map(|line| {
+        let mut fields = line.split(' ').map(|field| field.parse().unwrap_or(0));
+        (fields.next().unwrap_or(0), fields.next().unwrap_or(0))
+    });
+    numbers.collect()
+}
+
+/// Something done on an area that is as `before` each time, `batch` times at once.
+fn timed<'a>(
+    what: &'static str,
+    input: &'a Input,
+    before: Vec<i32>,
+    batch: usize,
+    run: impl Fn(&dyn Calls, &mut [u8], &mut [i32]) + 'a,
+) -> Timed<'a> {
+    let mut table = input.table.clone();
+    let mut area = before.clone();
+    let mut ends = [Vec::new(), Vec::new()];
+    let once = move |proved: bool| {
+        area.copy_from_slice(&before);
+        let library: &dyn Calls = if proved { &Proved } else { &Plain };
+        let began = Instant::now();
+        run(library, black_box(&mut table), black_box(&mut area));
+        let time = began.elapsed();
+        ends[usize::from(proved)].clone_from(&area);
+        assert!(ends[0].len() != ends[1].len() || ends[0] == ends[1], "{what}: areas differ");
+        time / batch as u32
+    };
+    Timed::new(what, Some(input.size), once)
+}
+
+fn expect(number: u32) {
+    assert_eq!(number, 0, "refused in a benchmark");
+}
+
+const READ: &str = "reading a table";
+const START: &str = "start";
+const PICK: &str = "one pick with its test of the area";
+const WHOLE: &str = "a whole check by one running on";
+const PICKS: &str = "a whole check by picks";
+
+fn read(input: &Input) -> Timed<'_> {
+    timed(READ, input, Vec::new(), 32, |library, table, _| {
+        for _ in 0..32 {
+            expect(library.read_table(table).number);
+        }
+    })
+}
+
+fn start(input: &Input) -> Timed<'_> {
+    timed(START, input, vec![0; input.words], 16, |library, table, area| {
+        for _ in 0..16 {
+            expect(library.start(table, 1, area).number);
+        }
+    })
+}
+
+/// Picks from the middle of the check, where most links have been used.
+fn pick(input: &Input) -> Timed<'_> {
+    let middle = input.picks.len() / 2;
+    let mut before = input.started.clone();
+    for &(from, to) in &input.picks[..middle] {
+        plain::pick(&mut before, from, to).expect("the picks are right");
+    }
+    timed(PICK, input, before, 16, move |library, _, area| {
+        for &(from, to) in &input.picks[middle..middle + 16] {
+            expect(library.pick(area, from, to).number);
+        }
+    })
+}
+
+fn whole(input: &Input) -> Timed<'_> {
+    timed(WHOLE, input, input.started.clone(), 1, |library, _, area| {
+        let answer = library.run_on(area, u32::MAX);
+        assert_eq!(answer.values[..2], [1, input.picks.len() as i64], "over, after D deliveries");
+    })
+}
+
+fn picks(input: &Input) -> Timed<'_> {
+    timed(PICKS, input, input.started.clone(), 1, |library, _, area| {
+        for &(from, to) in &input.picks {
+            expect(library.pick(area, from, to).number);
+        }
+    })
+}
+
+fn main() -> ExitCode {
+    if STANDIN {
+        println!("STAND-IN: the plain Rust is timed against itself, not the proved library\n");
+    }
+    let inputs = SIZES.map(Input::new);
+    let largest = &inputs[SIZES.len() - 1];
+    let mut things: Vec<Timed> = Vec::new();
+    for input in &inputs {
+        things.extend([read(input), start(input), pick(input), whole(input)]);
+    }
+    things.push(picks(largest));
+    match programs::timed(&largest.table, &largest.picks) {
+        Ok(timed) => things.extend(timed),
+        Err(reason) => println!("The program is not timed: {reason}.\n"),
+    }
+    let rows = time_all(things);
+    let growth = rows.as_chunks::<4>().0[..SIZES.len()].to_vec();
+    print_rows(&rows[4 * (SIZES.len() - 1)..]);
+    print_growth(&growth);
+    if let Some(path) = std::env::args_os().nth(1) {
+        if let Err(error) = std::fs::write(&path, plot::draw(&growth)) {
+            eprintln!("bench: {}: {error}", path.to_string_lossy());
+            return ExitCode::FAILURE;
+        }
+    }
+    ExitCode::SUCCESS
+}

@@ -1,0 +1,69 @@
+//! The check program from process start to exit.
+
+use crate::timing::Timed;
+use std::env;
+use std::io::Write;
+use std::path::{Path, PathBuf};
+use std::process::{Command, Stdio};
+use std::time::{Duration, Instant};
+
+fn plain_program() -> Result<PathBuf, String> {
+    let beside = || Some(env::current_exe().ok()?.with_file_name("plain_check"));
+    let path = env::var_os("PLAIN_CHECK").map(PathBuf::from).or_else(beside);
+    path.filter(|path| path.exists()).ok_or("plain_check is not built".into())
+}
+
+/// An input without picks, and the longest input, most of it picks.
+pub fn timed(table: &[u8], picks: &[(usize, usize)]) -> Result<[Timed<'static>; 2], String> {
+    let proved = env::var_os("KNOT_CHECK").map(PathBuf::from).ok_or("KNOT_CHECK is not set")?;
+    let programs = [plain_program()?, proved];
+    let short = [&[1, 0], table].concat();
+    let mut long = short.clone();
+    // The whole check by picks, then picks that are refused.
+    for &(from, to) in picks.iter().cycle() {
+        if long.len() + 4 > plain::LARGEST_INPUT {
+            break;
+        }
+        long.extend((from as u16).to_le_bytes());
+        long.extend((to as u16).to_le_bytes());
+    }
+    Ok([
+        on_input("the program, start to exit, input without picks", programs.clone(), short)?,
+        on_input("the program, start to exit, longest input", programs, long)?,
+    ])
+}
+
+fn on_input(
+    what: &'static str,
+    programs: [PathBuf; 2],
+    input: Vec<u8>,
+) -> Result<Timed<'static>, String> {
+    let mut expected = Vec::new();
+    plain::check_program(&input, &mut expected);
+    for program in &programs {
+        let (output, _) = run(program, &input)?;
+        if output != expected {
+            return Err(format!("{} prints something else than the plain Rust", program.display()));
+        }
+    }
+    let once = move |proved: bool| {
+        let (_, time) = run(&programs[usize::from(proved)], &input).expect("it ran before");
+        time
+    };
+    Ok(Timed::new(what, None, once))
+}
+
+fn run(program: &Path, input: &[u8]) -> Result<(Vec<u8>, Duration), String> {
+    let failed = |error: std::io::Error| format!("{}: {error}", program.display());
+    let began = Instant::now();
+    let mut child = Command::new(program)
+        .stdin(Stdio::piped())
+        .stdout(Stdio::piped())
+        .spawn()
+        .map_err(failed)?;
+    let mut stdin = child.stdin.take().expect("it is piped");
+    stdin.write_all(input).map_err(failed)?;
+    drop(stdin);
+    let output = child.wait_with_output().map_err(failed)?.stdout;
+    Ok((output, began.elapsed()))
+}

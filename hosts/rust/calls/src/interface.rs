@@ -1,0 +1,290 @@
+//! The C interface of the proved library: its declarations and the trait over them.
+//!
+//! Every value that a call gives is written to a `Slot`, which holds neither 0 nor any likely
+//! value before the call and has guard bytes behind the value. So a value that a call forgets
+//! to set shows, and a value wider than declared here stops the program instead of passing
+//! unseen.
+
+use crate::{Answer, Calls, LentRecord, Received};
+
+mod declared {
+    extern "C" {
+        pub fn pickledune_read_table(
+            table: *const u8,
+            len: usize,
+            n: *mut usize,
+            m: *mut usize,
+        ) -> u32;
+        pub fn pickledune_write_table(
+            n: usize,
+            list: *const u16,
+            list_len: usize,
+            out: *mut u8,
+            out_len: usize,
+            length: *mut usize,
+        ) -> u32;
+        pub fn pickledune_open(
+            table: *const u8,
+            len: usize,
+            chain: u32,
+            process: usize,
+            arc: *mut usize,
+        ) -> u32;
+        pub fn pickledune_next(table: *const u8, len: usize, chain: u32, arc: usize) -> usize;
+        pub fn pickledune_start(
+            table: *const u8,
+            len: usize,
+            start: usize,
+            area: *mut i32,
+            area_len: usize,
+        ) -> u32;
+        pub fn pickledune_pick(
+            area: *mut i32,
+            area_len: usize,
+            from: usize,
+            to: usize,
+            kind: *mut u32,
+            count: *mut i32,
+        ) -> u32;
+        pub fn pickledune_run_on(
+            area: *mut i32,
+            area_len: usize,
+            k: u32,
+            over: *mut u32,
+            made: *mut u32,
+        ) -> u32;
+        pub fn pickledune_report(
+            area: *const i32,
+            area_len: usize,
+            deliveries: *mut u32,
+            knot: *mut u32,
+            outside: *mut i32,
+            escape: *mut u32,
+            returned: *mut u32,
+        ) -> u32;
+        pub fn pickledune_read_record(
+            area: *const i32,
+            area_len: usize,
+            process: usize,
+            succeeding: *mut u32,
+            preceding: *mut u32,
+            subordinate: *mut u32,
+            cs: *mut i32,
+            num: *mut u32,
+            father: *mut u32,
+        ) -> u32;
+        pub fn pickledune_step(
+            succeeding: *mut u32,
+            preceding: *mut u32,
+            subordinate: *mut u32,
+            cs: *mut i32,
+            num: *mut u32,
+            father: *mut u32,
+            kind: u32,
+            count: i32,
+            out_degree: u32,
+            in_degree: u32,
+            sender: u32,
+            probes: *mut u32,
+            reply_to: *mut u32,
+            reply_count: *mut i32,
+        ) -> u32;
+    }
+}
+use declared::*;
+
+/// The proved library by its C interface.
+pub struct Proved;
+
+/// The types that the interface gives values in.
+trait Given: Copy {
+    const UNSET: Self;
+    fn wide(self) -> i64;
+}
+
+impl Given for u32 {
+    const UNSET: u32 = 0xA5A5_A5A5;
+    fn wide(self) -> i64 {
+        self.into()
+    }
+}
+
+impl Given for i32 {
+    const UNSET: i32 = 0xA5A5_A5A5_u32 as i32;
+    fn wide(self) -> i64 {
+        self.into()
+    }
+}
+
+impl Given for usize {
+    const UNSET: usize = 0xA5A5_A5A5_A5A5_A5A5_u64 as usize;
+    fn wide(self) -> i64 {
+        self as i64
+    }
+}
+
+const GUARD: [u8; 8] = [0xA5; 8];
+
+/// Room for one value, with guard bytes behind it.
+#[repr(C, align(8))]
+struct Slot<T: Given> {
+    value: T,
+    guard: [u8; 8],
+}
+
+impl<T: Given> Slot<T> {
+    fn unset() -> Slot<T> {
+        Slot::holding(T::UNSET)
+    }
+
+    fn holding(value: T) -> Slot<T> {
+        Slot { value, guard: GUARD }
+    }
+
+    /// The place of the value, with the guard bytes in reach.
+    fn place(&mut self) -> *mut T {
+        (self as *mut Slot<T>).cast()
+    }
+
+    #[track_caller]
+    fn get(&self) -> i64 {
+        assert_eq!(self.guard, GUARD, "a value wider than its declaration in interface.rs");
+        self.value.wide()
+    }
+}
+
+// SAFETY of every call below: the pointers come from slices with their lengths, and from slots
+// that live until the call is back; the interface asks nothing else of its caller.
+impl Calls for Proved {
+    fn read_table(&self, table: &mut [u8]) -> Answer {
+        let (mut n, mut m) = (Slot::unset(), Slot::unset());
+        let number =
+            unsafe { pickledune_read_table(table.as_mut_ptr(), table.len(), n.place(), m.place()) };
+        Answer::new(number, [n.get(), m.get()])
+    }
+
+    fn write_table(&self, n: usize, list: &mut [u16], out: &mut [u8]) -> Answer {
+        let mut length = Slot::unset();
+        let number = unsafe {
+            pickledune_write_table(
+                n,
+                list.as_mut_ptr(),
+                list.len(),
+                out.as_mut_ptr(),
+                out.len(),
+                length.place(),
+            )
+        };
+        Answer::new(number, [length.get()])
+    }
+
+    fn open(&self, table: &mut [u8], chain: u32, process: usize) -> Answer {
+        let mut arc = Slot::unset();
+        let number = unsafe {
+            pickledune_open(table.as_mut_ptr(), table.len(), chain, process, arc.place())
+        };
+        Answer::new(number, [arc.get()])
+    }
+
+    fn next(&self, table: &mut [u8], chain: u32, arc: usize) -> Answer {
+        let arc = unsafe { pickledune_next(table.as_mut_ptr(), table.len(), chain, arc) };
+        Answer::new(0, [arc as i64])
+    }
+
+    fn start(&self, table: &mut [u8], start: usize, area: &mut [i32]) -> Answer {
+        let number = unsafe {
+            pickledune_start(table.as_mut_ptr(), table.len(), start, area.as_mut_ptr(), area.len())
+        };
+        Answer::new(number, [])
+    }
+
+    fn pick(&self, area: &mut [i32], from: usize, to: usize) -> Answer {
+        let (mut kind, mut count) = (Slot::unset(), Slot::unset());
+        let number = unsafe {
+            pickledune_pick(area.as_mut_ptr(), area.len(), from, to, kind.place(), count.place())
+        };
+        Answer::new(number, [kind.get(), count.get()])
+    }
+
+    fn run_on(&self, area: &mut [i32], k: u32) -> Answer {
+        let (mut over, mut made) = (Slot::unset(), Slot::unset());
+        let number = unsafe {
+            pickledune_run_on(area.as_mut_ptr(), area.len(), k, over.place(), made.place())
+        };
+        Answer::new(number, [over.get(), made.get()])
+    }
+
+    fn report(&self, area: &mut [i32]) -> Answer {
+        let (mut deliveries, mut knot, mut outside) = (Slot::unset(), Slot::unset(), Slot::unset());
+        let (mut escape, mut returned) = (Slot::unset(), Slot::unset());
+        let number = unsafe {
+            pickledune_report(
+                area.as_mut_ptr(),
+                area.len(),
+                deliveries.place(),
+                knot.place(),
+                outside.place(),
+                escape.place(),
+                returned.place(),
+            )
+        };
+        let values = [deliveries.get(), knot.get(), outside.get(), escape.get(), returned.get()];
+        Answer::new(number, values)
+    }
+
+    fn read_record(&self, area: &mut [i32], process: usize) -> Answer {
+        let mut flags = [Slot::unset(), Slot::unset(), Slot::unset()];
+        let (mut cs, mut num, mut father) = (Slot::unset(), Slot::unset(), Slot::unset());
+        let number = unsafe {
+            pickledune_read_record(
+                area.as_mut_ptr(),
+                area.len(),
+                process,
+                flags[0].place(),
+                flags[1].place(),
+                flags[2].place(),
+                cs.place(),
+                num.place(),
+                father.place(),
+            )
+        };
+        let [succeeding, preceding, subordinate] = flags.map(|flag| flag.get());
+        let values = [succeeding, preceding, subordinate, cs.get(), num.get(), father.get()];
+        Answer::new(number, values)
+    }
+
+    fn step(&self, record: LentRecord, received: Received) -> Answer {
+        let mut flags = [
+            Slot::holding(record.succeeding),
+            Slot::holding(record.preceding),
+            Slot::holding(record.subordinate),
+        ];
+        let mut cs = Slot::holding(record.cs);
+        let mut num = Slot::holding(record.num);
+        let mut father = Slot::holding(record.father);
+        let (mut probes, mut to, mut count) = (Slot::unset(), Slot::unset(), Slot::unset());
+        let number = unsafe {
+            pickledune_step(
+                flags[0].place(),
+                flags[1].place(),
+                flags[2].place(),
+                cs.place(),
+                num.place(),
+                father.place(),
+                received.kind,
+                received.count,
+                received.out_degree,
+                received.in_degree,
+                received.sender,
+                probes.place(),
+                to.place(),
+                count.place(),
+            )
+        };
+        let [succeeding, preceding, subordinate] = flags.map(|flag| flag.get());
+        let [cs, num, father] = [cs.get(), num.get(), father.get()];
+        let [probes, to, count] = [probes.get(), to.get(), count.get()];
+        let values = [succeeding, preceding, subordinate, cs, num, father, probes, to, count];
+        Answer { number, values }
+    }
+}

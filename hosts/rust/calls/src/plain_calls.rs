@@ -1,0 +1,117 @@
+//! The plain Rust behind the trait.
+
+use crate::{Answer, Calls, LentRecord, Received};
+use plain::{Chain, Message, Probe, Record, Refusal, Stopped};
+
+/// The independent implementation in plain Rust.
+pub struct Plain;
+
+fn answer<const K: usize, T>(
+    result: Result<T, Refusal>,
+    values: impl FnOnce(T) -> [i64; K],
+) -> Answer {
+    match result {
+        Ok(found) => Answer::new(0, values(found)),
+        Err(refusal) => Answer::new(refusal.number(), []),
+    }
+}
+
+fn chain_of(chain: u32) -> Chain {
+    if chain == 0 {
+        Chain::Out
+    } else {
+        Chain::In
+    }
+}
+
+fn record_values(record: &Record) -> [i64; 6] {
+    [
+        record.succeeding.into(),
+        record.preceding.into(),
+        record.subordinate.into(),
+        record.cs.into(),
+        record.num.into(),
+        record.father.into(),
+    ]
+}
+
+impl Calls for Plain {
+    fn read_table(&self, table: &mut [u8]) -> Answer {
+        answer(plain::read_table(table), |sizes| [sizes.n as i64, sizes.m as i64])
+    }
+
+    fn write_table(&self, n: usize, list: &mut [u16], out: &mut [u8]) -> Answer {
+        answer(plain::write_table(n, list, out), |length| [length as i64])
+    }
+
+    fn open(&self, table: &mut [u8], chain: u32, process: usize) -> Answer {
+        answer(plain::open(table, chain_of(chain), process), |arc| [arc as i64])
+    }
+
+    fn next(&self, table: &mut [u8], chain: u32, arc: usize) -> Answer {
+        Answer::new(0, [plain::next(table, chain_of(chain), arc) as i64])
+    }
+
+    fn start(&self, table: &mut [u8], start: usize, area: &mut [i32]) -> Answer {
+        answer(plain::start(table, start, area), |()| [])
+    }
+
+    fn pick(&self, area: &mut [i32], from: usize, to: usize) -> Answer {
+        answer(plain::pick(area, from, to), |message| match message {
+            Message::Suc => [1, 0],
+            Message::Pre => [2, 0],
+            Message::Ack(count) => [3, count.into()],
+        })
+    }
+
+    fn run_on(&self, area: &mut [i32], k: u32) -> Answer {
+        let (stopped, made) = plain::run_on(area, k);
+        let made = made.into();
+        match stopped {
+            Stopped::Over => Answer::new(0, [1, made]),
+            Stopped::Spent => Answer::new(0, [0, made]),
+            Stopped::Refused(refusal) => Answer::new(refusal.number(), [0, made]),
+        }
+    }
+
+    fn report(&self, area: &mut [i32]) -> Answer {
+        answer(plain::report(area), |report| {
+            let (knot, returned) = (report.knot.into(), report.returned.into());
+            [report.deliveries.into(), knot, report.outside.into(), report.escape as i64, returned]
+        })
+    }
+
+    fn read_record(&self, area: &mut [i32], process: usize) -> Answer {
+        answer(plain::read_record(area, process), |record| record_values(&record))
+    }
+
+    fn step(&self, lent: LentRecord, received: Received) -> Answer {
+        let LentRecord { succeeding, preceding, subordinate, cs, num, father } = lent;
+        let mut record = Record { succeeding, preceding, subordinate, cs, num, father };
+        let Received { kind, count, out_degree, in_degree, sender } = received;
+        let message = match kind {
+            1 => Some(Message::Suc),
+            2 => Some(Message::Pre),
+            3 => Some(Message::Ack(count)),
+            _ => None,
+        };
+        let result = message
+            .ok_or(Refusal::Malformed)
+            .and_then(|message| plain::step(&mut record, message, out_degree, in_degree, sender));
+        let [succeeding, preceding, subordinate, cs, num, father] = record_values(&record);
+        let (number, probes, to, count) = match result {
+            Err(refusal) => (refusal.number(), 0, 0, 0),
+            Ok(sent) => {
+                let probes = match sent.probes {
+                    None => 0,
+                    Some(Probe::Suc) => 1,
+                    Some(Probe::Pre) => 2,
+                };
+                let reply = sent.reply.map_or((0, 0), |reply| (reply.to, reply.count));
+                (0, probes, i64::from(reply.0), i64::from(reply.1))
+            }
+        };
+        let values = [succeeding, preceding, subordinate, cs, num, father, probes, to, count];
+        Answer { number, values }
+    }
+}

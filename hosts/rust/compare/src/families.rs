@@ -1,0 +1,607 @@
+//! The families of calls that are compared. Each draws from a generator of its own, so that one
+//! family can be repeated alone.
+
+use crate::driver::{Call, Driver, Lent, Outcome};
+use crate::graphs::{Graph, Scale, MOST_ARCS, MOST_PROCESSES};
+use crate::layout::{draw_area, draw_count, draw_num, links, Link};
+use crate::rng::Rng;
+use calls::{Calls, LentRecord, Received};
+
+type Family<L> = fn(&mut Driver<L>, &mut Rng, u64) -> Outcome<()>;
+
+/// Every family with its name and the least number of calls in a whole comparison.
+pub fn families<L: Calls>() -> [(&'static str, u64, Family<L>); 11] {
+    [
+        ("valid tables", 150_000, valid_tables),
+        ("damaged tables", 200_000, damaged_tables),
+        ("lists for the writer", 100_000, lists),
+        ("starts", 80_000, starts),
+        ("valid areas, orders drawn", 250_000, valid_areas),
+        ("the largest checks", 20_000, largest_checks),
+        ("areas damaged one word at a time", 250_000, damaged_areas),
+        ("well-formed areas that no run reaches", 250_000, unreached_areas),
+        ("areas with surplus or missing words", 80_000, surplus_areas),
+        ("any words", 40_000, any_words),
+        ("one process's step", 200_000, steps),
+    ]
+}
+
+fn noise_bytes(rng: &mut Rng, length: usize) -> Vec<u8> {
+    (0..length).map(|_| rng.draw() as u8).collect()
+}
+
+fn noise_words(rng: &mut Rng, length: usize) -> Vec<i32> {
+    (0..length).map(|_| rng.word()).collect()
+}
+
+/// A number of processes, arcs or the like: mostly 0 to `high` + 1, at times far out.
+fn any_number(rng: &mut Rng, high: usize) -> usize {
+    match rng.below(40) {
+        0 => usize::MAX,
+        1 => rng.draw() as usize,
+        2 => 65_536 + rng.below(high + 2),
+        3 => (1 << 32) + rng.below(high + 2),
+        _ => rng.below(high + 2),
+    }
+}
+
+fn any_k(rng: &mut Rng) -> u32 {
+    match rng.below(8) {
+        0 => 0,
+        1 => u32::MAX,
+        2 => rng.below(3000) as u32,
+        _ => rng.below(6) as u32,
+    }
+}
+
+fn any_chain(rng: &mut Rng) -> u32 {
+    rng.choose(&[0, 0, 0, 1, 1, 2, u32::MAX])
+}
+
+/// Both chains of some processes from end to end.
+fn walk<L: Calls>(driver: &mut Driver<L>, rng: &mut Rng, n: usize, lent: &mut Lent) -> Outcome<()> {
+    let chain = any_chain(rng);
+    let opened = driver.make(Call::Open { chain, process: any_number(rng, n) }, lent)?;
+    let mut arc = opened.values[0] as usize;
+    for _ in 0..40 {
+        if arc == 0 {
+            break;
+        }
+        arc = driver.make(Call::Next { chain, arc }, lent)?.values[0] as usize;
+    }
+    Ok(())
+}
+
+fn valid_tables<L: Calls>(driver: &mut Driver<L>, rng: &mut Rng, least: u64) -> Outcome<()> {
+    while driver.calls_in_family() < least {
+        let graph = Graph::any(rng);
+        let table = graph.table(rng);
+        let list = graph.list();
+        let spare = rng.choose(&[0, 0, 1, 5, 100]);
+        let out = noise_bytes(rng, table.len() + spare);
+        let mut lent = Lent { table, list, out, area: Vec::new() };
+        driver.make(Call::ReadTable, &mut lent)?;
+        walk(driver, rng, graph.n, &mut lent)?;
+        driver.make(Call::WriteTable { n: graph.n }, &mut lent)?;
+        let length = lent.table.len();
+        lent.table.copy_from_slice(&lent.out[..length]);
+        driver.make(Call::ReadTable, &mut lent)?;
+        walk(driver, rng, graph.n, &mut lent)?;
+        for _ in 0..2 {
+            let arc = any_number(rng, graph.waits.len());
+            driver.make(Call::Next { chain: any_chain(rng), arc }, &mut lent)?;
+        }
+    }
+    Ok(())
+}
+
+fn field(table: &[u8], place: usize) -> u16 {
+    u16::from_le_bytes([table[2 * place], table[2 * place + 1]])
+}
+
+fn set_field(table: &mut [u8], place: usize, value: u16) {
+    table[2 * place..2 * place + 2].copy_from_slice(&value.to_le_bytes());
+}
+
+/// Damages a table in one of many ways; small values are likely, so that often only one check
+/// fails, and one late in their order.
+fn damage_table(rng: &mut Rng, graph: &Graph, table: &mut Vec<u8>) {
+    let (n, m) = (graph.n, graph.waits.len());
+    let fields = table.len() / 2;
+    if fields == 0 {
+        return;
+    }
+    let place = match rng.below(8) {
+        0 => rng.below(fields.min(2)),
+        _ => rng.below(fields),
+    };
+    match rng.below(12) {
+        0 => table.truncate(rng.below(table.len() + 1)),
+        1 => table.truncate(table.len() - 1),
+        2 => {
+            let more = rng.within(1, 9);
+            table.extend(noise_bytes(rng, more));
+        }
+        3 => {
+            let place = rng.below(table.len());
+            table[place] ^= 1 << rng.below(8);
+        }
+        4 => {
+            let other = rng.below(fields);
+            let (a, b) = (field(table, place), field(table, other));
+            set_field(table, place, b);
+            set_field(table, other, a);
+        }
+        5 => set_field(table, place, rng.draw() as u16),
+        6 => {
+            let value = rng.choose(&[0, 1, n, n + 1, m, m + 1, MOST_PROCESSES, MOST_PROCESSES + 1]);
+            set_field(table, place, value as u16);
+        }
+        7 | 8 => {
+            let change = rng.choose(&[1, u16::MAX]);
+            let value = field(table, place).wrapping_add(change);
+            set_field(table, place, value);
+        }
+        _ => set_field(table, place, rng.below(n.max(m) + 1) as u16),
+    }
+}
+
+fn damaged_tables<L: Calls>(driver: &mut Driver<L>, rng: &mut Rng, least: u64) -> Outcome<()> {
+    let mut lent = Lent::default();
+    while driver.calls_in_family() < least {
+        let mut graph = Graph::any(rng);
+        let alike = rng.one_in(4) && !graph.waits.is_empty() && graph.waits.len() < MOST_ARCS;
+        if alike {
+            // Two arcs alike, in right chains.
+            let again = rng.choose(&graph.waits);
+            let place = rng.below(graph.waits.len() + 1);
+            graph.waits.insert(place, again);
+        }
+        let right = graph.table(rng);
+        for _ in 0..20 {
+            lent.table.clone_from(&right);
+            let times = if alike { rng.choose(&[0, 1, 1]) } else { rng.choose(&[1, 1, 1, 2, 3]) };
+            for _ in 0..times {
+                damage_table(rng, &graph, &mut lent.table);
+            }
+            driver.make(Call::ReadTable, &mut lent)?;
+            let process = any_number(rng, graph.n);
+            driver.make(Call::Open { chain: any_chain(rng), process }, &mut lent)?;
+            let arc = any_number(rng, graph.waits.len());
+            driver.make(Call::Next { chain: any_chain(rng), arc }, &mut lent)?;
+            if rng.one_in(4) {
+                let length = graph.words_needed() + rng.below(30);
+                lent.area = noise_words(rng, length);
+                driver.make(Call::Start { start: any_number(rng, graph.n) }, &mut lent)?;
+            }
+        }
+        let length = rng.below(60);
+        lent.table = noise_bytes(rng, length);
+        driver.make(Call::ReadTable, &mut lent)?;
+        driver.make(Call::Next { chain: any_chain(rng), arc: rng.below(4) }, &mut lent)?;
+    }
+    Ok(())
+}
+
+fn lists<L: Calls>(driver: &mut Driver<L>, rng: &mut Rng, least: u64) -> Outcome<()> {
+    let mut lent = Lent::default();
+    while driver.calls_in_family() < least {
+        let graph = match rng.below(40) {
+            0 => Graph::ring(MOST_PROCESSES, 4),
+            _ => Graph::any(rng),
+        };
+        let mut n = graph.n;
+        lent.list = graph.list();
+        for _ in 0..rng.choose(&[0, 1, 1, 1, 2, 3]) {
+            let length = lent.list.len();
+            match rng.below(7) {
+                0 => lent.list.push(rng.within(1, n) as u16),
+                1 if length > 0 => {
+                    let place = rng.below(length);
+                    lent.list[place] = rng.choose(&[0, n as u16 + 1, u16::MAX, 1]);
+                }
+                2 if length > 1 => {
+                    let pair = rng.below(length / 2);
+                    let again = [lent.list[2 * pair], lent.list[2 * pair + 1]];
+                    lent.list.extend(again);
+                }
+                3 => n = rng.choose(&[0, 1, MOST_PROCESSES, MOST_PROCESSES + 1, usize::MAX, n]),
+                4 if length > 0 => lent.list.truncate(rng.below(length)),
+                5 if rng.one_in(8) => {
+                    let longer = 2 * MOST_ARCS + rng.choose(&[0, 1, 2, 3]);
+                    lent.list.resize(longer, 1);
+                }
+                _ => n = n.saturating_sub(1).max(1),
+            }
+            if n == 0 || n > MOST_PROCESSES {
+                break;
+            }
+        }
+        let needed = 4 + 4 * n.min(200) + 4 * lent.list.len();
+        let length = match rng.below(6) {
+            0 => rng.below(needed + 1),
+            1 => needed.saturating_sub(1),
+            _ => needed + rng.choose(&[0, 1, 4, 60]),
+        };
+        lent.out = noise_bytes(rng, length);
+        driver.make(Call::WriteTable { n }, &mut lent)?;
+    }
+    Ok(())
+}
+
+fn starts<L: Calls>(driver: &mut Driver<L>, rng: &mut Rng, least: u64) -> Outcome<()> {
+    let mut lent = Lent::default();
+    while driver.calls_in_family() < least {
+        let graph = Graph::any(rng);
+        lent.table = graph.table(rng);
+        let needed = graph.words_needed();
+        let noise = noise_words(rng, needed + 40);
+        for _ in 0..4 {
+            let length = match rng.below(6) {
+                0 => rng.below(needed + 1),
+                1 => needed - 1,
+                _ => needed + rng.choose(&[0, 1, 7, 40]),
+            };
+            lent.area = noise[..length].to_vec();
+            driver.make(Call::Start { start: any_number(rng, graph.n) }, &mut lent)?;
+        }
+        // Into an area that a start already filled.
+        driver.make(Call::Start { start: rng.within(1, graph.n) }, &mut lent)?;
+    }
+    Ok(())
+}
+
+/// A table, its links, and the area that an accepted start left, with surplus words.
+fn begin<L: Calls>(
+    driver: &mut Driver<L>,
+    rng: &mut Rng,
+    graph: &Graph,
+    start: usize,
+) -> Outcome<(Lent, Vec<Link>)> {
+    let surplus = rng.choose(&[0, 0, 0, 1, 3, 20]);
+    let area = noise_words(rng, graph.words_needed() + surplus);
+    let mut lent = Lent { table: graph.table(rng), area, ..Lent::default() };
+    driver.make(Call::Start { start }, &mut lent)?;
+    Ok((lent, links(graph)))
+}
+
+/// How an order prefers messages.
+#[derive(Clone, Copy)]
+enum Taste {
+    Any,
+    Probes,
+    Acknowledgements,
+    Last,
+}
+
+/// A link with a message, as the taste has it.
+fn choose_link(rng: &mut Rng, taste: Taste, links: &[Link], area: &[i32]) -> Option<Link> {
+    let mut best: Option<(i32, Link)> = None;
+    let offset = rng.below(links.len().max(1));
+    for place in 0..links.len() {
+        let link = links[(place + offset) % links.len()];
+        let message = area[link.place];
+        let worth = match taste {
+            _ if message == 0 => continue,
+            Taste::Any => rng.word(),
+            Taste::Probes => i32::from(message <= 2),
+            Taste::Acknowledgements => i32::from(message > 2),
+            Taste::Last => (link.from * 256 + link.to) as i32,
+        };
+        if best.is_none_or(|(other, _)| worth > other) {
+            best = Some((worth, link));
+        }
+    }
+    best.map(|(_, link)| link)
+}
+
+/// A drawn call on an area: mostly a pick of a waiting message.
+fn draw_call(rng: &mut Rng, taste: Taste, n: usize, links: &[Link], area: &[i32]) -> Call {
+    match rng.below(24) {
+        0 => Call::Report,
+        1 => Call::ReadRecord { process: any_number(rng, n) },
+        2 => Call::Pick { from: any_number(rng, n), to: any_number(rng, n) },
+        3 => Call::RunOn { k: rng.below(4) as u32 },
+        4 if !links.is_empty() => {
+            let link = rng.choose(links);
+            Call::Pick { from: link.from, to: link.to }
+        }
+        _ => match choose_link(rng, taste, links, area) {
+            Some(link) => Call::Pick { from: link.from, to: link.to },
+            None => Call::RunOn { k: any_k(rng) },
+        },
+    }
+}
+
+fn any_taste(rng: &mut Rng) -> Taste {
+    rng.choose(&[Taste::Any, Taste::Any, Taste::Probes, Taste::Acknowledgements, Taste::Last])
+}
+
+fn valid_areas<L: Calls>(driver: &mut Driver<L>, rng: &mut Rng, least: u64) -> Outcome<()> {
+    while driver.calls_in_family() < least {
+        let graph = Graph::any(rng);
+        check_whole(driver, rng, &graph)?;
+    }
+    Ok(())
+}
+
+/// A check from start to end in a drawn order; its end is held against a graph search too.
+fn check_whole<L: Calls>(driver: &mut Driver<L>, rng: &mut Rng, graph: &Graph) -> Outcome<()> {
+    let start = rng.within(1, graph.n);
+    let (mut lent, links) = begin(driver, rng, graph, start)?;
+    let taste = any_taste(rng);
+    let patience = rng.choose(&[5, 50, 3000]);
+    for _ in 0..patience {
+        if !links.iter().any(|link| link.waits(&lent.area)) {
+            break;
+        }
+        let call = draw_call(rng, taste, graph.n, &links, &lent.area);
+        driver.make(call, &mut lent)?;
+    }
+    driver.make(Call::RunOn { k: u32::MAX }, &mut lent)?;
+    for k in [0, 1] {
+        driver.make(Call::RunOn { k }, &mut lent)?;
+    }
+    if !links.is_empty() {
+        let link = rng.choose(&links);
+        driver.make(Call::Pick { from: link.from, to: link.to }, &mut lent)?;
+    }
+    hold_against_search(driver, graph, start, &mut lent)
+}
+
+fn hold_against_search<L: Calls>(
+    driver: &mut Driver<L>,
+    graph: &Graph,
+    start: usize,
+    lent: &mut Lent,
+) -> Outcome<()> {
+    let end = graph.end(start);
+    let outside = end.outside as i64;
+    let knot = i64::from(end.outside == 0);
+    let report = driver.make(Call::Report, lent)?;
+    let [deliveries, found_knot, found_outside, _, returned, ..] = report.values;
+    let found = (report.number, deliveries, found_knot, found_outside, returned);
+    let expected = (0, end.deliveries as i64, knot, outside, knot);
+    if found != expected {
+        let what = format!("both report {found:?}, the graph search {expected:?}");
+        return Err(driver.found(Call::Report, lent, what));
+    }
+    for process in 1..=graph.n {
+        let call = Call::ReadRecord { process };
+        let record = driver.make(call, lent)?;
+        let (reachable, reaching) = (end.reachable[process], end.reaching[process]);
+        let cs = if process == start { outside } else { 0 };
+        let expected = [reachable.into(), reaching.into(), (reachable && !reaching).into(), cs, 0];
+        if record.number != 0 || record.values[..5] != expected {
+            let found = &record.values[..5];
+            let what = format!("both read {found:?}, the graph search has {expected:?}");
+            return Err(driver.found(call, lent, what));
+        }
+    }
+    Ok(())
+}
+
+/// N 128 and M 512, where D is 2,048, and N 128 with a num of 256.
+fn largest_checks<L: Calls>(driver: &mut Driver<L>, rng: &mut Rng, least: u64) -> Outcome<()> {
+    let middle = rng.within(1, MOST_PROCESSES);
+    let star = (1..=MOST_PROCESSES).flat_map(|other| [(middle, other), (other, middle)]);
+    let mut star: Vec<_> = star.collect();
+    star.sort();
+    star.dedup();
+    let star = Graph { n: MOST_PROCESSES, waits: star };
+    let ring = Graph::ring(MOST_PROCESSES, 4);
+    let mut turn = 0;
+    while driver.calls_in_family() < least {
+        turn += 1;
+        let graph = match turn % 4 {
+            0 => star.clone(),
+            1 => ring.clone(),
+            _ => Graph::draw(rng, Scale::Large),
+        };
+        check_whole(driver, rng, &graph)?;
+    }
+    Ok(())
+}
+
+/// Another value for a word, near the one it has or near a limit.
+fn damage_word(rng: &mut Rng, word: i32, graph: &Graph) -> i32 {
+    let (n, m) = (graph.n as i32, graph.waits.len() as i32);
+    match rng.below(12) {
+        0 => -1,
+        1 => 0,
+        2 => word.wrapping_add(1),
+        3 => word.wrapping_sub(1),
+        4 => word ^ 1 << rng.below(32),
+        5 => rng.word(),
+        6 => rng.choose(&[i32::MIN, i32::MAX, i32::MIN + 1, -256, 1 << 16, 1 << 30]),
+        7 => rng.choose(&[127, 128, 129, 255, 256, 257, 383, 384, 385, 2047, 2048, 2049]),
+        8 => rng.choose(&[-127, -128, -129, 65_535, 65_536]),
+        9 => rng.choose(&[n, n + 1, m, m + 1]),
+        10 => word.wrapping_neg(),
+        _ => rng.below(10) as i32,
+    }
+}
+
+/// Every call on the area of `lent`, each on the words as they are now.
+fn every_call<L: Calls>(
+    driver: &mut Driver<L>,
+    rng: &mut Rng,
+    n: usize,
+    links: &[Link],
+    lent: &mut Lent,
+) -> Outcome<()> {
+    let before = lent.area.clone();
+    let links_inside = links.iter().all(|link| link.place < before.len());
+    let waiting = match links_inside {
+        true => choose_link(rng, Taste::Any, links, &before),
+        false => None,
+    };
+    let pick = match waiting {
+        Some(link) => Call::Pick { from: link.from, to: link.to },
+        None => Call::Pick { from: any_number(rng, n), to: any_number(rng, n) },
+    };
+    let record = Call::ReadRecord { process: any_number(rng, n) };
+    for call in [Call::Report, record, Call::RunOn { k: any_k(rng) }, pick] {
+        driver.make(call, lent)?;
+        lent.area.copy_from_slice(&before);
+    }
+    Ok(())
+}
+
+/// An area somewhere in a check, with surplus words at times.
+fn area_of_a_run<L: Calls>(
+    driver: &mut Driver<L>,
+    rng: &mut Rng,
+    graph: &Graph,
+) -> Outcome<(Lent, Vec<Link>)> {
+    let start = rng.within(1, graph.n);
+    let (mut lent, links) = begin(driver, rng, graph, start)?;
+    let taste = any_taste(rng);
+    for _ in 0..rng.choose(&[0, 1, 3, 8, 20]) {
+        let Some(link) = choose_link(rng, taste, &links, &lent.area) else { break };
+        driver.make(Call::Pick { from: link.from, to: link.to }, &mut lent)?;
+    }
+    if rng.one_in(6) {
+        driver.make(Call::RunOn { k: u32::MAX }, &mut lent)?;
+    }
+    Ok((lent, links))
+}
+
+fn damaged_areas<L: Calls>(driver: &mut Driver<L>, rng: &mut Rng, least: u64) -> Outcome<()> {
+    while driver.calls_in_family() < least {
+        let graph = Graph::any(rng);
+        let (mut lent, links) = area_of_a_run(driver, rng, &graph)?;
+        // Every word of a small area, some of a large one.
+        let length = lent.area.len();
+        let places: Vec<usize> = match length {
+            0..=400 => (0..length).collect(),
+            _ => (0..60).map(|_| rng.below(length)).collect(),
+        };
+        for place in places {
+            let word = lent.area[place];
+            let damaged = damage_word(rng, word, &graph);
+            if damaged != word {
+                lent.area[place] = damaged;
+                every_call(driver, rng, graph.n, &links, &mut lent)?;
+                lent.area[place] = word;
+            }
+        }
+        // A start does not mind what the area held.
+        let place = rng.below(length);
+        lent.area[place] = rng.word();
+        driver.make(Call::Start { start: rng.within(1, graph.n) }, &mut lent)?;
+    }
+    Ok(())
+}
+
+fn unreached_areas<L: Calls>(driver: &mut Driver<L>, rng: &mut Rng, least: u64) -> Outcome<()> {
+    while driver.calls_in_family() < least {
+        let graph = Graph::any(rng);
+        let table = graph.table(rng);
+        let links = links(&graph);
+        let mut area = draw_area(rng, &graph, &table, &links);
+        let surplus = rng.choose(&[0, 0, 2, 9]);
+        area.extend(noise_words(rng, surplus));
+        let mut lent = Lent { area, ..Lent::default() };
+        every_call(driver, rng, graph.n, &links, &mut lent)?;
+        let taste = any_taste(rng);
+        for _ in 0..rng.choose(&[3, 10, 25]) {
+            let call = draw_call(rng, taste, graph.n, &links, &lent.area);
+            driver.make(call, &mut lent)?;
+        }
+        every_call(driver, rng, graph.n, &links, &mut lent)?;
+    }
+    Ok(())
+}
+
+fn surplus_areas<L: Calls>(driver: &mut Driver<L>, rng: &mut Rng, least: u64) -> Outcome<()> {
+    while driver.calls_in_family() < least {
+        let graph = Graph::any(rng);
+        let (mut lent, links) = area_of_a_run(driver, rng, &graph)?;
+        let needed = graph.words_needed();
+        lent.area.truncate(needed);
+        let right = lent.area.clone();
+        for _ in 0..4 {
+            lent.area.clone_from(&right);
+            let surplus = rng.choose(&[1, 2, 16, 20, 100, 1000]);
+            lent.area.extend(noise_words(rng, surplus));
+            every_call(driver, rng, graph.n, &links, &mut lent)?;
+        }
+        for length in [needed - 1, rng.below(needed), rng.below(18)] {
+            lent.area.clone_from(&right);
+            lent.area.truncate(length);
+            every_call(driver, rng, graph.n, &links, &mut lent)?;
+        }
+    }
+    Ok(())
+}
+
+fn any_words<L: Calls>(driver: &mut Driver<L>, rng: &mut Rng, least: u64) -> Outcome<()> {
+    let mut lent = Lent::default();
+    while driver.calls_in_family() < least {
+        let length = rng.choose(&[0, 1, 14, 15, 16, 17, 24, 44, 52, 100, 300]);
+        lent.area = match rng.below(3) {
+            0 => noise_words(rng, length),
+            1 => (0..length).map(|_| rng.below(4) as i32).collect(),
+            _ => vec![0; length],
+        };
+        let mut n = 1;
+        if length >= 16 && !rng.one_in(4) {
+            // A heading that is right as far as it goes.
+            n = rng.within(1, 4);
+            lent.area[..14].fill(0);
+            (lent.area[0], lent.area[1]) = (1, 1);
+            (lent.area[14], lent.area[15]) = (n as i32, rng.below(3) as i32);
+        }
+        every_call(driver, rng, n, &[], &mut lent)?;
+    }
+    Ok(())
+}
+
+fn steps<L: Calls>(driver: &mut Driver<L>, rng: &mut Rng, least: u64) -> Outcome<()> {
+    let mut lent = Lent::default();
+    while driver.calls_in_family() < least {
+        let extreme = rng.within(1, 6);
+        let flag = |rng: &mut Rng| rng.below(2) as u32;
+        let mut record = LentRecord {
+            succeeding: flag(rng),
+            preceding: flag(rng),
+            subordinate: flag(rng),
+            cs: draw_count(rng, extreme),
+            num: draw_num(rng, extreme) as u32,
+            father: rng.choose(&[0, 1, 2, 127, 128]),
+        };
+        let mut received = Received {
+            kind: rng.choose(&[1, 1, 2, 2, 3, 3, 3]),
+            count: draw_count(rng, extreme),
+            out_degree: rng.choose(&[0, 0, 1, 2, 100, 127, 128]),
+            in_degree: rng.choose(&[0, 0, 1, 2, 100, 127, 128]),
+            sender: rng.choose(&[1, 1, 2, 3, 127, 128]),
+        };
+        for _ in 0..rng.choose(&[0, 0, 0, 0, 1, 1, 2]) {
+            damage_step(rng, &mut record, &mut received);
+        }
+        driver.make(Call::Step { record, received }, &mut lent)?;
+    }
+    Ok(())
+}
+
+fn damage_step(rng: &mut Rng, record: &mut LentRecord, received: &mut Received) {
+    let wide = rng.choose(&[i32::MIN, -257, -130, -129, 129, 130, 256, i32::MAX]);
+    let flag = rng.choose(&[2, 3, 256, u32::MAX]);
+    let over = rng.choose(&[129, 130, 256, 65_536, u32::MAX]);
+    match rng.below(12) {
+        0 => record.succeeding = flag,
+        1 => record.preceding = flag,
+        2 => record.subordinate = flag,
+        3 => record.cs = wide,
+        4 => record.num = rng.choose(&[257, 258, 65_536, u32::MAX]),
+        5 => record.father = over,
+        6 => received.kind = rng.choose(&[0, 4, 255, 257, u32::MAX]),
+        7 => received.count = wide,
+        8 => received.out_degree = over,
+        9 => received.in_degree = over,
+        10 => received.sender = 0,
+        _ => received.sender = over,
+    }
+}

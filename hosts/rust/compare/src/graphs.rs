@@ -1,0 +1,170 @@
+//! Waits drawn from the generator, their tables, and a plain graph search for the end of a check.
+
+use crate::rng::Rng;
+
+pub const MOST_PROCESSES: usize = 128;
+pub const MOST_ARCS: usize = 512;
+
+/// N and the waits, in the order of their arcs.
+#[derive(Clone, Debug)]
+pub struct Graph {
+    pub n: usize,
+    pub waits: Vec<(usize, usize)>,
+}
+
+/// How large a drawn graph may be.
+#[derive(Clone, Copy, Debug)]
+pub enum Scale {
+    Tiny,
+    Small,
+    Middle,
+    Large,
+}
+
+impl Graph {
+    pub fn draw(rng: &mut Rng, scale: Scale) -> Graph {
+        let (low, high, most) = match scale {
+            Scale::Tiny => (1, 3, 9),
+            Scale::Small => (2, 8, 20),
+            Scale::Middle => (9, 40, 120),
+            Scale::Large => (41, MOST_PROCESSES, MOST_ARCS),
+        };
+        let n = rng.within(low, high);
+        match rng.below(6) {
+            0 => Graph::ring(n, rng.within(1, 4)),
+            1 => Graph::star(rng, n),
+            _ => {
+                let m = rng.below(most.min(n * n) + 1);
+                Graph::random(rng, n, m)
+            }
+        }
+    }
+
+    /// A scale drawn so that small graphs are many and every size occurs.
+    pub fn any(rng: &mut Rng) -> Graph {
+        let scale = match rng.below(256) {
+            0 => return Graph::at_a_limit(rng),
+            1..=3 => Scale::Large,
+            4..=20 => Scale::Middle,
+            21..=124 => Scale::Small,
+            _ => Scale::Tiny,
+        };
+        Graph::draw(rng, scale)
+    }
+
+    /// N 128, with M 0 or 512.
+    fn at_a_limit(rng: &mut Rng) -> Graph {
+        match rng.below(3) {
+            0 => Graph { n: MOST_PROCESSES, waits: Vec::new() },
+            1 => Graph::ring(MOST_PROCESSES, 4),
+            _ => Graph::random(rng, MOST_PROCESSES, MOST_ARCS),
+        }
+    }
+
+    fn random(rng: &mut Rng, n: usize, m: usize) -> Graph {
+        let mut taken = vec![false; n * n];
+        let mut waits = Vec::new();
+        while waits.len() < m {
+            let pair = rng.below(n * n);
+            if !taken[pair] {
+                taken[pair] = true;
+                waits.push((pair / n + 1, pair % n + 1));
+            }
+        }
+        Graph { n, waits }
+    }
+
+    /// Every process waits for the next ones: strongly connected, so that D is 4 times M.
+    pub fn ring(n: usize, degree: usize) -> Graph {
+        let mut waits: Vec<_> = (0..n)
+            .flat_map(|i| (1..=degree.min(n)).map(move |j| (i + 1, (i + j) % n + 1)))
+            .collect();
+        waits.truncate(MOST_ARCS);
+        Graph { n, waits }
+    }
+
+    /// Many waits from and to one process, which makes the degrees and num large.
+    fn star(rng: &mut Rng, n: usize) -> Graph {
+        let middle = rng.within(1, n);
+        let mut waits = vec![(middle, middle)];
+        for other in (1..=n).filter(|&other| other != middle) {
+            if !rng.one_in(8) {
+                waits.push((middle, other));
+            }
+            if !rng.one_in(8) {
+                waits.push((other, middle));
+            }
+        }
+        rng.shuffle(&mut waits);
+        Graph { n, waits }
+    }
+
+    /// The waits as a list for the writer.
+    pub fn list(&self) -> Vec<u16> {
+        self.waits.iter().flat_map(|&(from, to)| [from as u16, to as u16]).collect()
+    }
+
+    /// A table of these waits with its chains in a drawn order.
+    pub fn table(&self, rng: &mut Rng) -> Vec<u8> {
+        let (n, m) = (self.n, self.waits.len());
+        let mut fields = vec![0; 2 + 2 * n + 4 * m];
+        (fields[0], fields[1]) = (n as u16, m as u16);
+        let mut order: Vec<usize> = (0..m).collect();
+        for chain in 0..2 {
+            rng.shuffle(&mut order);
+            for &arc in &order {
+                let (from, to) = self.waits[arc];
+                let end = [from, to][chain];
+                let first = 2 + 2 * (end - 1) + chain;
+                let record = 2 + 2 * n + 4 * arc;
+                fields[record + chain] = end as u16;
+                fields[record + 2 + chain] = fields[first];
+                fields[first] = arc as u16 + 1;
+            }
+        }
+        fields.into_iter().flat_map(u16::to_le_bytes).collect()
+    }
+
+    pub fn words_needed(&self) -> usize {
+        8 * self.n + 20 * self.waits.len() + 16
+    }
+
+    /// What 01 says of the end of a check ("The end of a check"), by searching the graph.
+    pub fn end(&self, start: usize) -> End {
+        let reachable = self.search(start, |&(from, to)| (from, to));
+        let reaching = self.search(start, |&(from, to)| (to, from));
+        let once = self.waits.iter().filter(|&&(from, _)| reachable[from]).count()
+            + self.waits.iter().filter(|&&(_, to)| reaching[to]).count();
+        let outside = (1..=self.n).filter(|&p| reachable[p] && !reaching[p]).count();
+        End { reachable, reaching, deliveries: 2 * once, outside }
+    }
+
+    /// Which processes the search meets from `start` along the arcs as turned; place 0 is empty.
+    fn search(
+        &self,
+        start: usize,
+        turned: impl Fn(&(usize, usize)) -> (usize, usize),
+    ) -> Vec<bool> {
+        let mut met = vec![false; self.n + 1];
+        met[start] = true;
+        let mut open = vec![start];
+        while let Some(process) = open.pop() {
+            for (from, to) in self.waits.iter().map(&turned) {
+                if from == process && !met[to] {
+                    met[to] = true;
+                    open.push(to);
+                }
+            }
+        }
+        met
+    }
+}
+
+/// The end of a check: by process from 1, who is reachable from the start and who reaches it;
+/// the number D; the number of processes outside.
+pub struct End {
+    pub reachable: Vec<bool>,
+    pub reaching: Vec<bool>,
+    pub deliveries: usize,
+    pub outside: usize,
+}

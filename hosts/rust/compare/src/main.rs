@@ -1,0 +1,116 @@
+//! Compares the proved library with the plain Rust, call by call, on more than a million calls
+//! drawn from a seeded generator.
+//!
+//!     compare [--seed NUMBER] [--family NAME] [--program PATH]
+//!
+//! The last line is `no difference in N calls`; a first difference ends the comparison with
+//! status 1 and is printed with all that is needed to make its call again.
+
+mod driver;
+mod families;
+mod graphs;
+mod layout;
+#[cfg(test)]
+mod planted;
+mod programs;
+mod rng;
+
+use calls::{Calls, Proved, STANDIN};
+use driver::{Driver, Outcome};
+use rng::Rng;
+use std::io::Write;
+use std::path::PathBuf;
+use std::process::ExitCode;
+use std::time::Instant;
+
+struct Options {
+    seed: u64,
+    family: Option<String>,
+    program: Option<PathBuf>,
+}
+
+fn options() -> Result<Options, String> {
+    let mut options = Options { seed: 1982, family: None, program: None };
+    let mut words = std::env::args().skip(1);
+    while let Some(word) = words.next() {
+        let value = words.next().ok_or_else(|| format!("{word} wants a value"))?;
+        match word.as_str() {
+            "--seed" => options.seed = value.parse().map_err(|_| format!("no seed: {value}"))?,
+            "--family" => options.family = Some(known_family(value)?),
+            "--program" => options.program = Some(value.into()),
+            _ => return Err(format!("unknown option {word}")),
+        }
+    }
+    Ok(options)
+}
+
+fn known_family(name: String) -> Result<String, String> {
+    let names = families::families::<Proved>().map(|(name, ..)| name);
+    match names.contains(&name.as_str()) {
+        true => Ok(name),
+        false => Err(format!("no family {name}; there are: {}", names.join("; "))),
+    }
+}
+
+/// Compares every family, or the one named, each with its share of `per_mille` of its calls.
+fn compare<L: Calls>(driver: &mut Driver<L>, options: &Options, per_mille: u64) -> Outcome<()> {
+    for (place, (name, least, family)) in families::families().into_iter().enumerate() {
+        if options.family.as_deref().is_some_and(|wanted| wanted != name) {
+            continue;
+        }
+        driver.begin_family(name);
+        // The name stands there even if a call should end the program.
+        print!("{name}: ");
+        let _ = std::io::stdout().flush();
+        let began = Instant::now();
+        let mut rng = Rng::new(options.seed.wrapping_mul(1009).wrapping_add(place as u64));
+        family(driver, &mut rng, least * per_mille / 1000)?;
+        let seconds = began.elapsed().as_secs_f64();
+        println!("{} calls, {seconds:.1} s", driver.calls_in_family());
+    }
+    Ok(())
+}
+
+/// A line for each call: how often it gave which number.
+fn print_answers<L: Calls>(driver: &Driver<L>) {
+    let mut last = "";
+    for (&(call, number), times) in driver.answers() {
+        if call != last {
+            print!("{}{call}:", if last.is_empty() { "" } else { "\n" });
+            last = call;
+        }
+        print!(" {number} x {times},");
+    }
+    println!();
+}
+
+fn main() -> ExitCode {
+    let options = match options() {
+        Ok(options) => options,
+        Err(message) => {
+            eprintln!("compare: {message}");
+            return ExitCode::from(2);
+        }
+    };
+    if STANDIN {
+        println!("STAND-IN: the plain Rust is compared with itself, not with the proved library");
+    }
+    let mut driver = Driver::new(&Proved, options.seed);
+    if let Err(difference) = compare(&mut driver, &options, 1000) {
+        println!("\n{difference}");
+        return ExitCode::FAILURE;
+    }
+    if let Some(program) = &options.program {
+        match programs::compare(program, options.seed) {
+            Ok(inputs) => println!("programs: the same output for {inputs} inputs"),
+            Err(difference) => {
+                println!("{difference}");
+                return ExitCode::FAILURE;
+            }
+        }
+    }
+    println!("how often each call gave which number:");
+    print_answers(&driver);
+    println!("no difference in {} calls", driver.calls());
+    ExitCode::SUCCESS
+}

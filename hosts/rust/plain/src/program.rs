@@ -1,0 +1,126 @@
+//! The check program of 01: bytes of standard input to bytes of standard output.
+
+use crate::areas::words_needed;
+use crate::runs::{Delivered, Indexed, Run};
+use crate::tables::{accept, leading_sizes, Table};
+use crate::{Message, Refusal};
+
+/// The longest input, in bytes.
+pub const LARGEST_INPUT: usize = 20_480;
+
+/// Appends what the program prints for this input.
+pub fn check_program(input: &[u8], out: &mut Vec<u8>) {
+    if let Err(refusal) = check(input, out) {
+        put_refused(out, refusal);
+    }
+}
+
+/// The parts of an input: start process, table, picks. Checks 13, 1, 2, 3, 12.
+fn split(input: &[u8]) -> Result<(usize, &[u8], &[u8]), Refusal> {
+    if input.len() > LARGEST_INPUT {
+        return Err(Refusal::InputLong);
+    }
+    let (start, rest) = input.split_at_checked(2).ok_or(Refusal::NoSizes)?;
+    let length = 2 * leading_sizes(rest)?.fields();
+    let (table, picks) = rest.split_at_checked(length).ok_or(Refusal::Length)?;
+    if picks.len() % 4 != 0 {
+        return Err(Refusal::PickCut);
+    }
+    Ok((number(start), table, picks))
+}
+
+fn number(field: &[u8]) -> usize {
+    usize::from(u16::from_le_bytes([field[0], field[1]]))
+}
+
+fn check(input: &[u8], out: &mut Vec<u8>) -> Result<(), Refusal> {
+    let (start, table, picks) = split(input)?;
+    let (bytes, waits) = accept(table)?;
+    let sizes = bytes.sizes();
+    if !(1..=sizes.n).contains(&start) {
+        return Err(Refusal::Start);
+    }
+    let mut words = vec![0; words_needed(sizes)];
+    let mut run = Run::begin(&mut words, table, sizes, waits, start);
+    let mut links = Indexed::new(&run);
+    for pick in picks.chunks_exact(4) {
+        let (from, to) = (number(&pick[..2]), number(&pick[2..]));
+        match run.pick(&mut links, from, to) {
+            Ok(message) => put_delivery(out, b"pick ", Delivered { from, to, message }),
+            Err(refusal) => {
+                put_link(out, b"pick ", from, to);
+                out.push(b' ');
+                put_refused(out, refusal);
+            }
+        }
+    }
+    while !run.is_over() {
+        let delivered = run.deliver_lowest(&mut links)?;
+        put_delivery(out, b"own ", delivered);
+    }
+    put_end(out, &run)
+}
+
+fn put_end(out: &mut Vec<u8>, run: &Run) -> Result<(), Refusal> {
+    for (process, record) in (1..).zip(run.records()) {
+        out.extend_from_slice(b"process ");
+        put_decimal(out, process);
+        let flags = [record.succeeding, record.preceding, record.subordinate].map(i64::from);
+        for value in flags.into_iter().chain([i64::from(record.cs), i64::from(record.num)]) {
+            out.push(b' ');
+            put_decimal(out, value);
+        }
+        out.push(b'\n');
+    }
+    let report = run.report()?;
+    put_line(out, b"over ", i64::from(report.deliveries));
+    out.extend_from_slice(if report.knot { b"verdict knot\n" } else { b"verdict none\n" });
+    put_line(out, b"outside ", i64::from(report.outside));
+    put_line(out, b"escape ", report.escape as i64);
+    out.extend_from_slice(if report.returned { b"mark returned\n" } else { b"mark held\n" });
+    Ok(())
+}
+
+fn put_refused(out: &mut Vec<u8>, refusal: Refusal) {
+    put_line(out, b"refused ", i64::from(refusal.number()));
+}
+
+fn put_link(out: &mut Vec<u8>, word: &[u8], from: usize, to: usize) {
+    out.extend_from_slice(word);
+    put_decimal(out, from as i64);
+    out.push(b' ');
+    put_decimal(out, to as i64);
+}
+
+fn put_delivery(out: &mut Vec<u8>, word: &[u8], delivered: Delivered) {
+    put_link(out, word, delivered.from, delivered.to);
+    match delivered.message {
+        Message::Suc => out.extend_from_slice(b" suc\n"),
+        Message::Pre => out.extend_from_slice(b" pre\n"),
+        Message::Ack(count) => put_line(out, b" ack ", i64::from(count)),
+    }
+}
+
+fn put_line(out: &mut Vec<u8>, words: &[u8], value: i64) {
+    out.extend_from_slice(words);
+    put_decimal(out, value);
+    out.push(b'\n');
+}
+
+fn put_decimal(out: &mut Vec<u8>, value: i64) {
+    if value < 0 {
+        out.push(b'-');
+    }
+    let mut digits = [0; 20];
+    let mut place = digits.len();
+    let mut rest = value.unsigned_abs();
+    loop {
+        place -= 1;
+        digits[place] = b'0' + (rest % 10) as u8;
+        rest /= 10;
+        if rest == 0 {
+            break;
+        }
+    }
+    out.extend_from_slice(&digits[place..]);
+}

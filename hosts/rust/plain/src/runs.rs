@@ -1,0 +1,410 @@
+//! The calls on a run area: start, pick, running on, the report, reading a record.
+
+use crate::areas::{
+    code_of, first_link, load, message_of, record_of, second_link, words_needed, words_of, Area,
+    Link, RecordWords, CHECK, DELIVERIES, HEADING, KNOT_CHECK, MOST_WAITING, START,
+};
+use crate::steps::{advance, advance_start, Message, Probe, Record, Sent};
+use crate::tables::{accept, Arc, Chain, Sizes, Table, Waits, Words};
+use crate::{Refusal, MOST_DELIVERIES, MOST_PROCESSES};
+
+/// How a running on stopped.
+#[derive(Clone, Copy, Debug, PartialEq, Eq)]
+pub enum Stopped {
+    Over,
+    Spent,
+    Refused(Refusal),
+}
+
+#[derive(Clone, Copy, Debug, PartialEq, Eq)]
+pub struct Report {
+    pub deliveries: u32,
+    /// The verdict: a knot, or none.
+    pub knot: bool,
+    pub outside: i32,
+    /// A process with subordinate 1, here the lowest, or 0.
+    pub escape: usize,
+    /// The mark: returned, or held.
+    pub returned: bool,
+}
+
+/// One delivery: who sent what to whom.
+#[derive(Clone, Copy, Debug, PartialEq, Eq)]
+pub struct Delivered {
+    pub from: usize,
+    pub to: usize,
+    pub message: Message,
+}
+
+/// How a run finds its links, and what it keeps of them from one delivery to the next.
+pub(crate) trait Links {
+    /// The link between two neighbours.
+    fn find(&self, table: &Words, waits: &Waits, from: usize, to: usize) -> usize;
+    fn note_sent(&mut self, from: usize, to: usize);
+    fn note_emptied(&mut self, from: usize, to: usize);
+}
+
+/// For a single delivery: every link is searched in its chain.
+struct Searched;
+
+impl Links for Searched {
+    fn find(&self, table: &Words, waits: &Waits, from: usize, to: usize) -> usize {
+        let arc_between = |from, to| {
+            let mut chain = table.chain(Chain::Out, from);
+            let found = chain.find(|(_, arc)| arc.to() == to);
+            found.expect("one waits for the other, in an accepted table").0
+        };
+        if waits.waits(from, to) {
+            first_link(arc_between(from, to))
+        } else {
+            second_link(arc_between(to, from))
+        }
+    }
+    fn note_sent(&mut self, _: usize, _: usize) {}
+    fn note_emptied(&mut self, _: usize, _: usize) {}
+}
+
+/// For many deliveries: where every link is, and which links hold a message.
+pub(crate) struct Indexed {
+    places: [[u16; MOST_PROCESSES]; MOST_PROCESSES],
+    /// Bit q − 1 of row p − 1: a message waits on the link from p to q.
+    receivers: [u128; MOST_PROCESSES],
+    /// Bit p − 1: row p − 1 is not 0.
+    senders: u128,
+}
+
+impl Links for Indexed {
+    fn find(&self, _: &Words, _: &Waits, from: usize, to: usize) -> usize {
+        usize::from(self.places[from - 1][to - 1])
+    }
+    fn note_sent(&mut self, from: usize, to: usize) {
+        self.receivers[from - 1] |= 1 << (to - 1);
+        self.senders |= 1 << (from - 1);
+    }
+    fn note_emptied(&mut self, from: usize, to: usize) {
+        self.receivers[from - 1] &= !(1 << (to - 1));
+        if self.receivers[from - 1] == 0 {
+            self.senders &= !(1 << (from - 1));
+        }
+    }
+}
+
+impl Indexed {
+    pub(crate) fn new(run: &Run) -> Indexed {
+        let mut links = Indexed {
+            places: [[0; MOST_PROCESSES]; MOST_PROCESSES],
+            receivers: [0; MOST_PROCESSES],
+            senders: 0,
+        };
+        for (number, arc) in (1..).zip(run.table.arcs()) {
+            let (from, to) = (arc.from(), arc.to());
+            links.add(run, from, to, first_link(number));
+            if !run.waits.waits(to, from) {
+                links.add(run, to, from, second_link(number));
+            }
+        }
+        links
+    }
+
+    fn add(&mut self, run: &Run, from: usize, to: usize, link: usize) {
+        self.places[from - 1][to - 1] = link as u16;
+        if run.links[link][0] != 0 {
+            self.note_sent(from, to);
+        }
+    }
+
+    /// The lowest sender, then the lowest receiver, among links with a message.
+    fn lowest(&self) -> Option<(usize, usize)> {
+        if self.senders == 0 {
+            return None;
+        }
+        let from = self.senders.trailing_zeros() as usize;
+        let to = self.receivers[from].trailing_zeros() as usize;
+        Some((from + 1, to + 1))
+    }
+}
+
+/// A well-formed area in its parts.
+pub(crate) struct Run<'a> {
+    heading: &'a mut [i32],
+    table: Words<'a>,
+    records: &'a mut [RecordWords],
+    links: &'a mut [Link],
+    waits: Waits,
+}
+
+impl<'a> Run<'a> {
+    /// The parts of the needed words, which are well formed.
+    fn new(words: &'a mut [i32], sizes: Sizes, waits: Waits) -> Run<'a> {
+        let (heading, rest) = words.split_at_mut(HEADING);
+        let (table, rest) = rest.split_at_mut(sizes.fields());
+        let (records, links) = rest.split_at_mut(6 * sizes.n);
+        Run {
+            heading,
+            table: Words::new(table, sizes.n),
+            records: records.as_chunks_mut().0,
+            links: links.as_chunks_mut().0,
+            waits,
+        }
+    }
+
+    fn test(words: &'a mut [i32]) -> Result<Run<'a>, Refusal> {
+        let (area, waits) = Area::test(words)?;
+        let sizes = area.table.sizes();
+        Ok(Run::new(&mut words[..words_needed(sizes)], sizes, waits))
+    }
+
+    /// Starts a check in the needed words, for an accepted table and start process.
+    pub(crate) fn begin(
+        words: &'a mut [i32],
+        table: &[u8],
+        sizes: Sizes,
+        waits: Waits,
+        start: usize,
+    ) -> Run<'a> {
+        words.fill(0);
+        words[CHECK] = KNOT_CHECK;
+        words[START] = start as i32;
+        for (word, &field) in words[HEADING..].iter_mut().zip(table.as_chunks().0) {
+            *word = i32::from(u16::from_le_bytes(field));
+        }
+        let mut run = Run::new(words, sizes, waits);
+        let mut num = run.broadcast(&mut Searched, start, Probe::Suc);
+        num += run.broadcast(&mut Searched, start, Probe::Pre);
+        let record = Record { succeeding: 1, preceding: 1, num, ..Record::default() };
+        run.records[start - 1] = words_of(&record);
+        run
+    }
+
+    fn start(&self) -> usize {
+        self.heading[START] as usize
+    }
+
+    pub(crate) fn is_over(&self) -> bool {
+        record_of(&self.records[self.start() - 1]).num == 0
+    }
+
+    /// A pick after 21: 25, 23, 24, 22.
+    pub(crate) fn pick(
+        &mut self,
+        links: &mut impl Links,
+        from: usize,
+        to: usize,
+    ) -> Result<Message, Refusal> {
+        let processes = 1..=self.records.len();
+        if !processes.contains(&from)
+            || !processes.contains(&to)
+            || !self.waits.neighbours(from, to)
+        {
+            return Err(Refusal::NoLink);
+        }
+        if self.is_over() {
+            return Err(Refusal::Over);
+        }
+        let link = links.find(&self.table, &self.waits, from, to);
+        if self.links[link][0] == 0 {
+            return Err(Refusal::Nothing);
+        }
+        self.deliver(links, from, to, link)
+    }
+
+    /// Delivers the oldest message of a link that has one, while the run is not over: 22.
+    fn deliver(
+        &mut self,
+        links: &mut impl Links,
+        from: usize,
+        to: usize,
+        link: usize,
+    ) -> Result<Message, Refusal> {
+        if self.heading[DELIVERIES] == MOST_DELIVERIES {
+            return Err(Refusal::Range);
+        }
+        let message = message_of(self.links[link][0]);
+        let mut record = record_of(&self.records[to - 1]);
+        let sent = if to == self.start() {
+            let reply = advance_start(&mut record, message, from as u32)?;
+            Sent { probes: None, reply }
+        } else {
+            let degree = |probe| self.table.chain(chain_of(probe), to).count() as u32;
+            advance(&mut record, message, from as u32, degree)?
+        };
+        let reply_link =
+            sent.reply.map(|reply| links.find(&self.table, &self.waits, to, reply.to as usize));
+        let before = self.links[link];
+        self.links[link] = [before[1], before[2], before[3], 0, 0, 0, 0, 0];
+        if !self.has_room(links, to, sent.probes, reply_link) {
+            self.links[link] = before;
+            return Err(Refusal::Range);
+        }
+        self.heading[DELIVERIES] += 1;
+        self.records[to - 1] = words_of(&record);
+        if self.links[link][0] == 0 {
+            links.note_emptied(from, to);
+        }
+        if let (Some(reply), Some(link)) = (sent.reply, reply_link) {
+            self.send(link, Message::Ack(reply.count));
+            links.note_sent(to, reply.to as usize);
+        }
+        if let Some(probe) = sent.probes {
+            self.broadcast(links, to, probe);
+        }
+        Ok(message)
+    }
+
+    /// Whether every link that the step sends on stays within four messages.
+    fn has_room(
+        &self,
+        links: &impl Links,
+        from: usize,
+        probes: Option<Probe>,
+        reply_link: Option<usize>,
+    ) -> bool {
+        let has_room = |link: usize, messages| load(&self.links[link]) + messages <= MOST_WAITING;
+        let reply_fits = reply_link.is_none_or(|link| has_room(link, 1));
+        let probes_fit = probes.is_none_or(|probe| {
+            self.table.chain(chain_of(probe), from).all(|(number, arc)| {
+                let (link, _) = self.probe_link(links, probe, number, arc);
+                has_room(link, 1 + usize::from(reply_link == Some(link)))
+            })
+        });
+        reply_fits && probes_fit
+    }
+
+    /// Sends probes along a chain: suc to successors, pre to predecessors. Gives their number.
+    fn broadcast(&mut self, links: &mut impl Links, from: usize, probe: Probe) -> u32 {
+        let message = match probe {
+            Probe::Suc => Message::Suc,
+            Probe::Pre => Message::Pre,
+        };
+        let table = self.table;
+        let mut sent = 0;
+        for (number, arc) in table.chain(chain_of(probe), from) {
+            let (link, to) = self.probe_link(links, probe, number, arc);
+            self.send(link, message);
+            links.note_sent(from, to);
+            sent += 1;
+        }
+        sent
+    }
+
+    fn send(&mut self, link: usize, message: Message) {
+        let link = &mut self.links[link];
+        link[load(link)] = code_of(message);
+    }
+
+    /// The link and the receiver of a probe sent along an arc.
+    fn probe_link(
+        &self,
+        links: &impl Links,
+        probe: Probe,
+        number: usize,
+        arc: Arc,
+    ) -> (usize, usize) {
+        let (from, to) = (arc.from(), arc.to());
+        match probe {
+            Probe::Suc => (first_link(number), to),
+            Probe::Pre if self.waits.waits(to, from) => {
+                (links.find(&self.table, &self.waits, to, from), from)
+            }
+            Probe::Pre => (second_link(number), from),
+        }
+    }
+
+    /// The next delivery in the fixed order, while the run is not over: 24, 22.
+    pub(crate) fn deliver_lowest(&mut self, links: &mut Indexed) -> Result<Delivered, Refusal> {
+        let (from, to) = links.lowest().ok_or(Refusal::Nothing)?;
+        let link = links.find(&self.table, &self.waits, from, to);
+        let message = self.deliver(links, from, to, link)?;
+        Ok(Delivered { from, to, message })
+    }
+
+    pub(crate) fn records(&self) -> impl Iterator<Item = Record> + '_ {
+        self.records.iter().map(record_of)
+    }
+
+    pub(crate) fn report(&self) -> Result<Report, Refusal> {
+        report_of(self.heading, self.records)
+    }
+}
+
+/// Suc probes go along the out-chain, pre probes along the in-chain.
+fn chain_of(probe: Probe) -> Chain {
+    match probe {
+        Probe::Suc => Chain::Out,
+        Probe::Pre => Chain::In,
+    }
+}
+
+fn report_of(heading: &[i32], records: &[RecordWords]) -> Result<Report, Refusal> {
+    let start = record_of(&records[heading[START] as usize - 1]);
+    if start.num != 0 {
+        return Err(Refusal::NotOver);
+    }
+    let escape = records.iter().position(|words| record_of(words).subordinate == 1);
+    let knot = start.cs == 0;
+    Ok(Report {
+        deliveries: heading[DELIVERIES] as u32,
+        knot,
+        outside: start.cs,
+        escape: escape.map_or(0, |place| place + 1),
+        returned: knot,
+    })
+}
+
+/// Starts a check in the front words of `area`: 1 to 9.
+pub fn start(table: &[u8], start: usize, area: &mut [i32]) -> Result<(), Refusal> {
+    let (bytes, waits) = accept(table)?;
+    let sizes = bytes.sizes();
+    if !(1..=sizes.n).contains(&start) {
+        return Err(Refusal::Start);
+    }
+    let words = area.get_mut(..words_needed(sizes)).ok_or(Refusal::AreaShort)?;
+    Run::begin(words, table, sizes, waits, start);
+    Ok(())
+}
+
+/// Delivers the oldest message of the link between two processes: 21, 25, 23, 24, 22.
+pub fn pick(area: &mut [i32], from: usize, to: usize) -> Result<Message, Refusal> {
+    Run::test(area)?.pick(&mut Searched, from, to)
+}
+
+/// Makes up to k deliveries in the fixed order, and gives how it stopped and how many it made.
+pub fn run_on(area: &mut [i32], k: u32) -> (Stopped, u32) {
+    let mut run = match Run::test(area) {
+        Ok(run) => run,
+        Err(refusal) => return (Stopped::Refused(refusal), 0),
+    };
+    if run.is_over() {
+        return (Stopped::Over, 0);
+    }
+    if k == 0 {
+        return (Stopped::Spent, 0);
+    }
+    let mut links = Indexed::new(&run);
+    let mut made = 0;
+    loop {
+        if let Err(refusal) = run.deliver_lowest(&mut links) {
+            return (Stopped::Refused(refusal), made);
+        }
+        made += 1;
+        if run.is_over() {
+            return (Stopped::Over, made);
+        }
+        if made == k {
+            return (Stopped::Spent, made);
+        }
+    }
+}
+
+/// The report of a run that is over: 21, 26.
+pub fn report(area: &[i32]) -> Result<Report, Refusal> {
+    let (area, _) = Area::test(area)?;
+    report_of(area.heading, area.records)
+}
+
+/// The record of one process: 21, 25.
+pub fn read_record(area: &[i32], process: usize) -> Result<Record, Refusal> {
+    let (area, _) = Area::test(area)?;
+    let place = process.checked_sub(1).ok_or(Refusal::NoLink)?;
+    area.records.get(place).map(record_of).ok_or(Refusal::NoLink)
+}

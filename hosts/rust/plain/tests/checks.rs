@@ -1,0 +1,312 @@
+//! 01's own examples, its table of checks, and the refusals of each call.
+
+use plain::*;
+
+fn table(n: usize, list: &[u16]) -> Vec<u8> {
+    let mut out = vec![0; 4 + 4 * 128 + 8 * 512];
+    let length = write_table(n, list, &mut out).expect("a right list");
+    out.truncate(length);
+    out
+}
+
+fn started(n: usize, list: &[u16], first: usize) -> Vec<i32> {
+    let table = table(n, list);
+    let mut area = vec![0; words_needed(read_table(&table).unwrap())];
+    start(&table, first, &mut area).unwrap();
+    area
+}
+
+fn printed(input: &[u8]) -> String {
+    let mut out = Vec::new();
+    check_program(input, &mut out);
+    String::from_utf8(out).unwrap()
+}
+
+fn field(bytes: &mut [u8], place: usize, value: u16) {
+    bytes[2 * place..2 * place + 2].copy_from_slice(&value.to_le_bytes());
+}
+
+#[test]
+fn the_example_of_01() {
+    let input = [1, 0, 2, 0, 1, 0, 1, 0, 0, 0, 0, 0, 1, 0, 1, 0, 2, 0, 0, 0, 0, 0, 1, 0, 2, 0];
+    let expected = "pick 1 2 suc\nown 2 1 ack 1\nprocess 1 1 1 0 1 0\nprocess 2 1 0 1 0 0\n\
+                    over 2\nverdict none\noutside 1\nescape 2\nmark held\n";
+    assert_eq!(printed(&input), expected);
+    assert_eq!(table(2, &[1, 2]), input[2..22]);
+}
+
+#[test]
+fn the_rows_to_be_proved() {
+    let rows: [(usize, &[u16], u32, bool, i32); 8] = [
+        (1, &[], 0, true, 0),
+        (1, &[1, 1], 4, true, 0),
+        (2, &[1, 2], 2, false, 1),
+        (2, &[2, 1], 2, true, 0),
+        (2, &[1, 2, 2, 1], 8, true, 0),
+        (3, &[1, 2, 2, 3, 3, 1], 12, true, 0),
+        (3, &[1, 2, 2, 1, 2, 3], 10, false, 1),
+        (3, &[1, 2, 2, 3, 3, 2], 6, false, 2),
+    ];
+    for (n, list, deliveries, knot, outside) in rows {
+        let mut area = started(n, list, 1);
+        assert_eq!(run_on(&mut area, deliveries), (Stopped::Over, deliveries), "{list:?}");
+        let report = report(&area).unwrap();
+        assert_eq!(report.deliveries, deliveries, "{list:?}");
+        assert_eq!((report.knot, report.returned), (knot, knot), "{list:?}");
+        assert_eq!(report.outside, outside, "{list:?}");
+        assert_eq!(report.escape == 0, knot, "{list:?}");
+    }
+}
+
+#[test]
+fn counts_1_and_minus_1_come_back_when_both_probes_go_first() {
+    let mut area = started(2, &[1, 2, 2, 1], 1);
+    assert_eq!(pick(&mut area, 1, 2), Ok(Message::Suc));
+    assert_eq!(pick(&mut area, 1, 2), Ok(Message::Pre));
+    let mut counts = Vec::new();
+    while report(&area).is_err() {
+        match pick(&mut area, 2, 1) {
+            Ok(Message::Ack(count)) => counts.push(count),
+            Ok(_) => {}
+            Err(refusal) => {
+                assert_eq!(refusal, Refusal::Nothing);
+                pick(&mut area, 1, 2).unwrap();
+            }
+        }
+    }
+    assert_eq!(counts, [1, -1]);
+}
+
+#[test]
+fn tables_are_refused_in_order() {
+    let right = table(3, &[1, 2, 2, 3, 3, 1, 1, 3]);
+    let damaged = |place: usize, value: u16| {
+        let mut bytes = right.clone();
+        field(&mut bytes, place, value);
+        read_table(&bytes)
+    };
+    assert_eq!(read_table(&right), Ok(Sizes { n: 3, m: 4 }));
+    assert_eq!(read_table(&right[..3]), Err(Refusal::NoSizes));
+    for (place, value) in [(0, 0), (0, 129), (1, 513)] {
+        assert_eq!(damaged(place, value), Err(Refusal::Sizes));
+    }
+    assert_eq!(damaged(0, 2), Err(Refusal::Length));
+    assert_eq!(read_table(&right[..right.len() - 1]), Err(Refusal::Length));
+    assert_eq!(read_table(&[&right[..], &[0]].concat()), Err(Refusal::Length));
+    for (place, value) in [(8, 0), (9, 4), (12, 65535)] {
+        assert_eq!(damaged(place, value), Err(Refusal::Ends));
+    }
+    for (place, value) in [(2, 5), (7, 5), (10, 5), (23, 65535)] {
+        assert_eq!(damaged(place, value), Err(Refusal::Places));
+    }
+    // Out-chain of 1 is 4, 1: it meets 1 for ever, meets 2, or misses 1.
+    for (place, value) in [(10, 1), (10, 4), (10, 2), (22, 0), (2, 1), (2, 0)] {
+        assert_eq!(damaged(place, value), Err(Refusal::Chains));
+    }
+    // Arcs 1 and 4 both from 1 to 2, in right chains.
+    let mut alike = table(3, &[1, 2, 2, 3, 3, 1, 1, 3]);
+    for (place, value) in [(5, 4), (7, 2), (21, 2), (23, 1)] {
+        field(&mut alike, place, value);
+    }
+    assert_eq!(read_table(&alike), Err(Refusal::Alike));
+}
+
+#[test]
+fn the_largest_tables_pass() {
+    assert_eq!(read_table(&table(128, &[])), Ok(Sizes { n: 128, m: 0 }));
+    let list = ring(128);
+    assert_eq!(read_table(&table(128, &list)), Ok(Sizes { n: 128, m: 512 }));
+    let mut area = started(128, &list, 77);
+    assert_eq!(run_on(&mut area, u32::MAX), (Stopped::Over, 2048));
+    assert_eq!(write_table(128, &[list, vec![1, 1]].concat(), &mut []), Err(Refusal::Sizes));
+}
+
+/// Every process waits for the next four.
+fn ring(n: u16) -> Vec<u16> {
+    (0..n).flat_map(|i| (1..5).flat_map(move |j| [i + 1, (i + j) % n + 1])).collect()
+}
+
+#[test]
+fn the_writer_refuses_in_order_and_keeps_what_is_past_the_table() {
+    let mut out = [7; 30];
+    for n in [0, 129, usize::MAX] {
+        assert_eq!(write_table(n, &[1, 2, 3], &mut out), Err(Refusal::OddList));
+        assert_eq!(write_table(n, &[1, 2], &mut out), Err(Refusal::Sizes));
+    }
+    assert_eq!(write_table(2, &[1, 2, 1, 2, 1, 3], &mut out), Err(Refusal::Ends));
+    assert_eq!(write_table(2, &[0, 2], &mut out), Err(Refusal::Ends));
+    assert_eq!(write_table(2, &[1, 2, 1, 2], &mut out[..3]), Err(Refusal::Alike));
+    assert_eq!(write_table(2, &[1, 2], &mut out[..19]), Err(Refusal::OutputShort));
+    assert_eq!(out, [7; 30]);
+    assert_eq!(write_table(2, &[1, 2], &mut out), Ok(20));
+    assert_eq!(out[20..], [7; 10]);
+}
+
+#[test]
+fn walks_keep_to_their_chain() {
+    let bytes = table(3, &[1, 2, 2, 3, 1, 3]);
+    assert_eq!(open(&bytes, Chain::Out, 1), Ok(3));
+    assert_eq!(next(&bytes, Chain::Out, 3), 1);
+    assert_eq!(next(&bytes, Chain::Out, 1), 0);
+    assert_eq!(open(&bytes, Chain::In, 3), Ok(3));
+    assert_eq!(next(&bytes, Chain::In, 3), 2);
+    assert_eq!(open(&bytes, Chain::Out, 3), Ok(0));
+    assert_eq!(open(&bytes, Chain::Out, 0), Err(Refusal::Start));
+    assert_eq!(open(&bytes, Chain::Out, 4), Err(Refusal::Start));
+    assert_eq!(open(&bytes[1..], Chain::Out, 4), Err(Refusal::Sizes));
+    for arc in [0, 4, usize::MAX] {
+        assert_eq!(next(&bytes, Chain::In, arc), 0);
+    }
+    assert_eq!(next(&bytes[..3], Chain::In, 1), 0);
+    // The record of arc 3 is not wholly there.
+    assert_eq!(next(&bytes[..bytes.len() - 1], Chain::Out, 3), 0);
+    assert_eq!(next(&bytes[..bytes.len() - 8], Chain::Out, 2), 0);
+}
+
+#[test]
+fn start_refuses_in_order_and_touches_only_its_words() {
+    let bytes = table(2, &[1, 2]);
+    let mut area = [9; 60];
+    assert_eq!(start(&bytes[..19], 0, &mut area), Err(Refusal::Length));
+    assert_eq!(start(&bytes, 0, &mut area[..3]), Err(Refusal::Start));
+    assert_eq!(start(&bytes, 3, &mut area), Err(Refusal::Start));
+    assert_eq!(start(&bytes, 1, &mut area[..51]), Err(Refusal::AreaShort));
+    assert_eq!(area, [9; 60]);
+    assert_eq!(start(&bytes, 1, &mut area), Ok(()));
+    let expected = [
+        1, 1, 0, 0, 0, 0, 0, 0, 0, 0, 0, 0, 0, 0, // heading
+        2, 1, 1, 0, 0, 1, 1, 2, 0, 0, // table
+        3, 0, 1, 0, 0, 0, 0, 0, 0, 0, 0, 0, // records
+        1, 0, 0, 0, 0, 0, 0, 0, 0, 0, 0, 0, 0, 0, 0, 0, // links
+        9, 9, 9, 9, 9, 9, 9, 9, // surplus
+    ];
+    assert_eq!(area, expected);
+}
+
+#[test]
+fn picks_and_readings_refuse_in_order() {
+    let mut area = started(3, &[1, 2, 2, 3], 1);
+    let before = area.clone();
+    for (from, to) in [(0, 1), (1, 0), (4, 1), (1, 4), (1, 3), (1, 1), (usize::MAX, 1)] {
+        assert_eq!(pick(&mut area, from, to), Err(Refusal::NoLink));
+    }
+    assert_eq!(pick(&mut area, 2, 1), Err(Refusal::Nothing));
+    assert_eq!(report(&area), Err(Refusal::NotOver));
+    assert_eq!(read_record(&area, 0), Err(Refusal::NoLink));
+    assert_eq!(read_record(&area, 4), Err(Refusal::NoLink));
+    assert_eq!(run_on(&mut area, 0), (Stopped::Spent, 0));
+    assert_eq!(area, before);
+    assert_eq!(run_on(&mut area, 3), (Stopped::Spent, 3));
+    assert_eq!(run_on(&mut area, 9), (Stopped::Over, 1));
+    assert_eq!(run_on(&mut area, 0), (Stopped::Over, 0));
+    assert_eq!(pick(&mut area, 2, 3), Err(Refusal::Over));
+    assert_eq!(pick(&mut area, 1, 3), Err(Refusal::NoLink));
+}
+
+#[test]
+fn every_damaged_word_that_leaves_its_range_is_seen() {
+    // A loop and an arc back, so that links are used, unused and empty.
+    let right = started(2, &[1, 2, 2, 1, 1, 1], 1);
+    for place in 0..right.len() {
+        for value in [-1, 9999, i32::MIN, i32::MAX] {
+            let mut area = right.clone();
+            area[place] = value;
+            let damaged = area.clone();
+            let sum = [33, 39].contains(&place);
+            // −1 is a sum's value like any other.
+            let expected = if sum && value == -1 { Ok(()) } else { Err(Refusal::Malformed) };
+            assert_eq!(read_record(&area, 1).map(|_| ()), expected, "{place} {value}");
+            if expected.is_err() {
+                assert_eq!(pick(&mut area, 1, 2), Err(Refusal::Malformed));
+                assert_eq!(run_on(&mut area, 5), (Stopped::Refused(Refusal::Malformed), 0));
+                assert_eq!(report(&area), Err(Refusal::Malformed));
+                assert_eq!(area, damaged);
+            }
+        }
+    }
+    for length in 0..right.len() {
+        assert_eq!(read_record(&right[..length], 1), Err(Refusal::Malformed));
+    }
+}
+
+#[test]
+fn a_father_must_be_a_neighbour() {
+    let mut area = started(3, &[1, 2], 1);
+    let father_of_2 = 14 + 2 + 6 + 4 + 6 + 3;
+    for (father, right) in [(0, true), (1, true), (2, false), (3, false), (4, false)] {
+        area[father_of_2] = father;
+        assert_eq!(read_record(&area, 2).is_ok(), right, "{father}");
+    }
+}
+
+/// The area of 1-2 after start, with its places: records from 24, first link 36, second 44.
+fn one_wait() -> Vec<i32> {
+    started(2, &[1, 2], 1)
+}
+
+fn refused_untouched(area: &[i32], from: usize, to: usize) {
+    let mut after = area.to_vec();
+    assert_eq!(pick(&mut after, from, to), Err(Refusal::Range));
+    assert_eq!(after, area);
+    let (stopped, _) = run_on(&mut after, 1);
+    assert_eq!(stopped, Stopped::Refused(Refusal::Range));
+    assert_eq!(after, area);
+}
+
+#[test]
+fn values_out_of_range_are_refused_with_22() {
+    let mut last = one_wait();
+    last[2] = 2048;
+    refused_untouched(&last, 1, 2);
+    let mut full = one_wait();
+    full[44..48].fill(256);
+    refused_untouched(&full, 1, 2);
+    let mut orphan = one_wait();
+    orphan[36] = 256;
+    refused_untouched(&orphan, 1, 2);
+    orphan[32] = 1;
+    refused_untouched(&orphan, 1, 2);
+    let mut wide = one_wait();
+    wide[31] = 128;
+    refused_untouched(&wide, 1, 2);
+    let mut start_wide = one_wait();
+    (start_wide[36], start_wide[44], start_wide[25]) = (0, 255, -128);
+    refused_untouched(&start_wide, 2, 1);
+}
+
+#[test]
+fn running_on_keeps_its_deliveries_when_it_is_refused() {
+    let mut area = one_wait();
+    area[26] = 2;
+    assert_eq!(run_on(&mut area, 9), (Stopped::Refused(Refusal::Nothing), 2));
+    assert_eq!((area[2], area[25], area[26]), (2, 1, 1));
+    assert_eq!(run_on(&mut area, 9), (Stopped::Refused(Refusal::Nothing), 0));
+    assert_eq!(run_on(&mut area, 0), (Stopped::Spent, 0));
+}
+
+#[test]
+fn the_program_refuses_in_order() {
+    let bytes = table(2, &[1, 2]);
+    let input = |start: u16, rest: &[u8]| [&start.to_le_bytes(), &bytes[..], rest].concat();
+    assert_eq!(printed(&vec![0; 20_481]), "refused 13\n");
+    assert_eq!(printed(&[]), "refused 1\n");
+    assert_eq!(printed(&input(1, &[])[..5]), "refused 1\n");
+    assert_eq!(printed(&[1, 0, 0, 0, 1, 0]), "refused 2\n");
+    assert_eq!(printed(&input(1, &[])[..21]), "refused 3\n");
+    assert_eq!(printed(&input(0, &[1, 0, 2])), "refused 12\n");
+    let mut damaged = input(0, &[]);
+    damaged[14] = 3;
+    assert_eq!(printed(&damaged), "refused 4\n");
+    assert_eq!(printed(&input(3, &[])), "refused 8\n");
+    assert_eq!(printed(&input(0, &[])), "refused 8\n");
+}
+
+#[test]
+fn refused_picks_print_their_number_and_the_program_goes_on() {
+    let bytes = table(2, &[1, 2]);
+    let picks = [2, 0, 1, 0, 9, 0, 1, 0, 1, 0, 2, 0, 2, 0, 1, 0, 2, 0, 1, 0];
+    let expected = "pick 2 1 refused 24\npick 9 1 refused 25\npick 1 2 suc\npick 2 1 ack 1\n\
+                    pick 2 1 refused 23\nprocess 1 1 1 0 1 0\nprocess 2 1 0 1 0 0\n\
+                    over 2\nverdict none\noutside 1\nescape 2\nmark held\n";
+    assert_eq!(printed(&[&[1, 0], &bytes[..], &picks].concat()), expected);
+}
