@@ -1,8 +1,8 @@
 -- Words as signed 32-bit numbers: what the machine's bits say of them.
---   word-back                == a signed local read back is the word that was put there
 --   word-read                == what a call says of a word that was read back, it says of the word
 --   word-number              == a number below 2 to the 31 is itself as a word
 --   word-is                  == the bits of a number are the bits of no other word
+--   word-zero                == the bits of the word 0 are 0
 --   word-not                 == other bits are those of another word
 --   word-same                == two words have the same bits exactly if they are the same
 --   word-high, word-low, word-low-number   == a word that is not below 0, and one that is
@@ -16,23 +16,24 @@ use lib.IntN.{ℤ, pos, negsuc, _-ℤ_, natAbs}
 use lib.Signed.{mag, leZ, nonNeg}
 use mir.Syntax.{w32}
 use mir.Val.{toZ, ofZ}
-use mir.Facts.{toZ-ofZ}
 use borrow.Author.Tests.{eq-eqb, ne-eqb, le-ltb}
 use Rattle.base.specs.Choice.{Same, same, apart, same?}
+use Rattle.steps.proofs.Counts.{signed-back}
 use Rattle.areas.specs.Area.{sameWord}
 
-pub word-back : (z : ℤ) → mag z < 2 ^ 31 → toZ w32 (ofZ w32 z) ≡ z
-word-back z h = toZ-ofZ {w = w32} {z = z} (record { sfits = h })
-
 pub word-read : {A : Type 0} {r : A} (f : ℤ → A) (z : ℤ) → mag z < 2 ^ 31 → r ≡ f (toZ w32 (ofZ w32 z)) → r ≡ f z
-word-read f z h e = e ∙ ap f (word-back z h)
+word-read f z h e = e ∙ ap f (signed-back z h)
 
 pub word-number : (n : ℕ) → n < 2 ^ 31 → toZ w32 n ≡ pos n
-word-number n h = word-back (pos n) h
+word-number n h = signed-back (pos n) h
 
 pub word-is : (z : ℤ) (n : ℕ) → mag z < 2 ^ 31 → n < 2 ^ 31 → ofZ w32 z ≡ n → z ≡ pos n
 word-is (pos a) n h k e = ap pos e
 word-is (negsuc a) n h k e = absurd (omega arith)
+
+pub word-zero : (z : ℤ) → natAbs z ≡ 0 → ofZ w32 z ≡ 0
+word-zero (pos n) e = e
+word-zero (negsuc n) e = absurd (omega arith)
 
 pub word-not : (z : ℤ) (n : ℕ) → (ofZ w32 z ≡ n → ⊥) → sameWord z (pos n) ≡ false
 unfolding sameWord

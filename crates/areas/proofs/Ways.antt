@@ -10,26 +10,26 @@
 --   arcTest-no, arcTest-back, arcTest-free   == an arc's two links
 --   AreaParts, areaTests-parts    == an area
 -- Assumes nothing.
-use Prim.Native.Nat.{ℕ, zero, suc, _+_, _-_, _*_, _/_, _%_, _≤_, _<_}
+use Prim.Native.Nat.{ℕ, _+_, _-_, _*_, _/_, _%_, _≤_, _<_}
 use mathlib.Core.Bool.{Bool, true, false, not, _&&_, false≢true}
 use mathlib.Core.List.{List}
-use mathlib.Core.Path.{_≡_, refl, sym, ap, _∙_}
+use mathlib.Core.Path.{_≡_, sym, ap, _∙_}
 use native.Mathlib.Omega.{arith}
 use borrow.Author.Tests.{eq-eqb, ne-eqb}
 use lib.IntN.{ℤ, pos}
 use lib.ListN.{getD}
 use Rattle.base.specs.Choice.{Tested, passed, failed, tested, and-left, and-right, and-both}
-use Rattle.base.specs.Sums.{allTo}
+use Rattle.base.specs.Sums.{allTo, allTo-cong}
 use Rattle.tables.specs.Table.{nOf, mOf, arcAt}
 use Rattle.tables.specs.Layout.{Right}
 use Rattle.tables.specs.Reading.{fieldsNumber}
 use Rattle.tables.specs.Waits.{waitsOf, neighbours}
+use Rattle.tables.specs.WaitsLaws.{waitsOf-sound, neighbours-ends}
 use Rattle.steps.specs.declared.Process.{Process}
 use Rattle.steps.specs.Step.{inRange}
 use Rattle.checks.specs.Run.{fatherRight}
 use Rattle.areas.specs.Area.{fieldCount, recordPlace, linkPlace, arcOf, knotCheck, flagsOf, hasBack, numberAt, fieldsIn, recordAt, sameWord}
 use Rattle.areas.specs.AreaTests.{sizesTest, fieldTest, counts, isFree, headTest, recordTest, linkTest, arcTest, areaTests}
-use Rattle.areas.specs.Arcs.{neighbours-between}
 use Rattle.areas.specs.Tells.{Tells, tells-map, tells-le, tells-eq, tells-id, tells-both, tells-same}
 use Rattle.areas.specs.WordTests.{sameWord-P, counts-of}
 use Rattle.areas.specs.Squares.{joinedBy, Square}
@@ -48,11 +48,6 @@ tells-last {b} {r} h f g = tells-same r b (f, g) h
 -- a call gave false, and its test passes: both cannot be
 pub failing : {b t : Bool} → b ≡ t → not b ≡ true → t ≡ true → ⊥
 failing {b} {t} e h p = false≢true (sym (ap not (e ∙ p)) ∙ h)
-
-allTo-cong : (n : ℕ) (p q : ℕ → Bool) → ((k : ℕ) → 1 ≤ k → k ≤ n → p k ≡ q k) → allTo n p ≡ allTo n q
-unfolding allTo
-allTo-cong zero p q h = refl
-allTo-cong (suc n) p q h = rw (allTo-cong n p q (λ k l u. h k l (omega arith)), h (suc n) (omega arith) (omega arith))
 
 -- ---- the head
 
@@ -103,11 +98,11 @@ module _ (w : List ℤ) (sq : List ℕ) (right : Right (fieldsIn w)) (square : S
   fatherRight-none e = rw (eq-eqb (x .father) 0 e)
 
   pub fatherRight-over : nOf (fieldsIn w) < x .father → fatherRight (waitsOf (fieldsIn w)) p x ≡ false
-  unfolding fatherRight
+  unfolding fatherRight waitsOf
   fatherRight-over h = rw (ne-eqb (x .father) 0 (λ e. omega arith)) (at (tested (neighbours (waitsOf (fieldsIn w)) p (x .father))))
     where
       at : Tested (neighbours (waitsOf (fieldsIn w)) p (x .father)) → neighbours (waitsOf (fieldsIn w)) p (x .father) ≡ false
-      at (passed e) = absurd (omega (arith, neighbours-between (fieldsIn w) right p (x .father) e .high-to))
+      at (passed e) = absurd (omega (arith, neighbours-ends (waitsOf (fieldsIn w)) (waitsOf-sound (fieldsIn w) right) p (x .father) e .3))
       at (failed e) = e
 
   pub fatherRight-joined : {b : Bool} → (x .father ≡ 0 → ⊥) → p ≤ 128 → x .father ≤ 128 → b ≡ joinedBy sq p (x .father) → b ≡ fatherRight (waitsOf (fieldsIn w)) p x

@@ -1,214 +1,166 @@
--- Which arc joins two processes, and at which word their link begins.
---   Joins t k a b        == k is an arc of the table, from a to b
---   arcOf? t a b         == none joins them and arcOf is 0, or arcOf is one that does
---   arcOf-is             == in a right table arcOf is the one arc that joins them
---   linkOf-first, linkOf-second   == the link from a to b begins with an arc from a to b, or in the second half of an arc from b to a
---   linkOf? t a b        == for neighbours: which of the two it is, in any table
---   linkOf-apart         == two links share no word
---   joins-waits, waits-joins, neighbours-joins   == arcs as waits
---   joins-between, neighbours-between   == the ends of an arc, and neighbours, are processes
+-- The arc that joins two processes, and where the links of an arc stand.
+--   Joins t a b k     == k is an arc of the table, and goes from a to b
+--   LinkAt t a b      == the link from a to b is the first of an arc from a to b, or the second of an arc from b to a
+-- Laws that are cited most:
+--   arcOf-P, arcOf-none, arcOf-waits   == what the number of an arc says: an arc with these ends; 0 exactly if a does not wait for b
+--   arcOf-arc, arcOf-is                == in a right table an arc is the arc of its ends
+--   arcIn-zero, arcIn-next, arcIn-right   == before the first arc, and one arc more: it takes the place of its ends, and changes no other
+--   linkOf-arc, linkOf-back, linkOf-at == the link of a pair stands with the pair's arc
+--   neighbours-arc                     == the ends of an arc are neighbours
 -- Assumes nothing.
-use Prim.Native.Nat.{ℕ, zero, suc, _+_, _≤_, _<_}
-use mathlib.Core.Bool.{Bool, true, false, _&&_, false≢true}
+use Prim.Native.Nat.{ℕ, zero, suc, _+_, _≤_}
+use mathlib.Core.Bool.{true, false, not, false≢true}
+use mathlib.Core.Logic.{_↔_}
 use mathlib.Core.Path.{_≡_, refl, sym, ap, _∙_}
-use mathlib.Core.Logic.{_⊎_, inl, inr}
+use lib.Dec.{eqb, eqb·suc-zero}
+use borrow.Author.Tests.{eqb-true, eq-eqb}
 use native.Mathlib.Omega.{arith}
-use borrow.Author.Tests.{eqb-true, eq-eqb, ne-eqb}
-use lib.Dec.{eqb}
-use Rattle.base.specs.Choice.{Same, same, apart, same?, Tested, passed, failed, tested, and-left, and-right, and-both, or-cases}
-use Rattle.base.specs.Sums.{anyTo-of, anyTo-found, Found}
-use Rattle.tables.specs.Table.{Fields, nOf, mOf, arcAt}
+use Rattle.base.specs.Choice.{choose, Tested, passed, failed, tested, Same, same, apart, same?, or-left}
+use Rattle.base.specs.Sums.{anyTo}
+use Rattle.tables.specs.Table.{Fields, mOf, arcAt}
+use Rattle.tables.specs.Layout.{IsArc, Alike, Right}
 use Rattle.tables.specs.Waits.{waitsOf, neighbours}
-use Rattle.tables.specs.Layout.{Right}
-use Rattle.areas.specs.Area.{arcIn, arcOf, linkOf, linkPlace}
-
--- k is one of the arcs 1 to m, from a to b
-pub record JoinsTo (t : Fields) (m k a b : ℕ) : Type 0 where
-  pub low : 1 ≤ k
-  pub high : k ≤ m
-  pub from : arcAt t k .from ≡ a
-  pub to : arcAt t k .to ≡ b
+use Rattle.tables.specs.WaitsLaws.{saysWait, saysWait-from, saysWait-to, waitsOf-P}
+use Rattle.areas.specs.Area.{arcIn, arcOf, linkPlace, linkOf, hasBack}
 
 abbrev pub Joins : Fields → ℕ → ℕ → ℕ → Type 0
-Joins t k a b = JoinsTo t (mOf t) k a b
+Joins t a b k = IsArc t k × (arcAt t k .from ≡ a) × (arcAt t k .to ≡ b)
 
--- the arc has these ends
-abbrev pub endsTest : Fields → ℕ → ℕ → ℕ → Bool
-endsTest t a b k = eqb (arcAt t k .from) a && eqb (arcAt t k .to) b
+-- ---- arcIn
 
-pub joins-test : (t : Fields) (m k a b : ℕ) → JoinsTo t m k a b → endsTest t a b k ≡ true
-joins-test t m k a b j =
-    and-both (eqb (arcAt t k .from) a) (eqb (arcAt t k .to) b) (eq-eqb (arcAt t k .from) a (j .from)) (eq-eqb (arcAt t k .to) b (j .to))
+pub arcIn-zero : (t : Fields) (a b : ℕ) → arcIn t a b 0 ≡ 0
+unfolding arcIn
+arcIn-zero t a b = refl
 
-pub test-joins : (t : Fields) (m k a b : ℕ) → 1 ≤ k → k ≤ m → endsTest t a b k ≡ true → JoinsTo t m k a b
-test-joins t m k a b l u e =
-    record {
-      low = l;
-      high = u;
-      from = eqb-true (arcAt t k .from) a (and-left (eqb (arcAt t k .from) a) (eqb (arcAt t k .to) b) e);
-      to = eqb-true (arcAt t k .to) b (and-right (eqb (arcAt t k .from) a) (eqb (arcAt t k .to) b) e);
-    }
+-- a number that is not 0 is that of an arc of 1 to m with these ends
+pub arcIn-P : (t : Fields) (a b m k : ℕ) → arcIn t a b m ≡ suc k → (suc k ≤ m) × (arcAt t (suc k) .from ≡ a) × (arcAt t (suc k) .to ≡ b)
+unfolding arcIn
+arcIn-P t a b zero k e = absurd (omega arith)
+arcIn-P t a b (suc m) k e = at (same? (arcIn t a b m) 0) (tested (saysWait t a b (suc m))) (λ u. arcIn-P t a b m k u)
+  where
+    goal : ℕ → Type 0
+    goal n = (suc k ≤ n) × (arcAt t (suc k) .from ≡ a) × (arcAt t (suc k) .to ≡ b)
+
+    here : saysWait t a b (suc m) ≡ true → suc m ≡ suc k → goal (suc m)
+    here p q = (omega arith, rw (← q) (saysWait-from t a b (suc m) p), rw (← q) (saysWait-to t a b (suc m) p))
+
+    more : goal m → goal (suc m)
+    more g = (omega arith, g .1, g .2)
+
+    at : Same (arcIn t a b m) 0 → Tested (saysWait t a b (suc m)) → (arcIn t a b m ≡ suc k → goal m) → goal (suc m)
+    at (same z q) (passed p) below = here p (rw (q, p) at e)
+    at (same z q) (failed p) below = absurd (let never : 0 ≡ suc k = rw (q, p) at e in omega arith)
+    at (apart z q) p below = more (below (rw q at e))
+
+-- some arc of 1 to m has these ends exactly if the number is not 0
+pub arcIn-any : (t : Fields) (a b m : ℕ) → anyTo m (saysWait t a b) ≡ not (eqb (arcIn t a b m) 0)
+unfolding arcIn anyTo
+arcIn-any t a b zero = refl
+arcIn-any t a b (suc m) = at (same? (arcIn t a b m) 0) (tested (saysWait t a b (suc m))) (arcIn-any t a b m)
+  where
+    at : Same (arcIn t a b m) 0 → Tested (saysWait t a b (suc m)) → anyTo m (saysWait t a b) ≡ not (eqb (arcIn t a b m) 0) → anyTo (suc m) (saysWait t a b) ≡ not (eqb (arcIn t a b (suc m)) 0)
+    at (same z q) (passed p) below = rw (below, q, p, eqb·suc-zero)
+    at (same z q) (failed p) below = rw (below, q, p)
+    at (apart z q) p below = rw (below, q, q)
+
+-- an arc before m is kept
+pub arcIn-kept : (t : Fields) (a b m k : ℕ) → arcIn t a b m ≡ suc k → arcIn t a b (suc m) ≡ suc k
+unfolding arcIn
+arcIn-kept t a b m k e = rw (e, eqb·suc-zero)
+
+-- where no arc before has these ends, arc m + 1 may
+pub arcIn-fresh : (t : Fields) (a b m : ℕ) → arcIn t a b m ≡ 0 → arcIn t a b (suc m) ≡ choose (saysWait t a b (suc m)) (suc m) (arcIn t a b m)
+unfolding arcIn
+arcIn-fresh t a b m e = rw e
+
+-- no arc of 1 to m has the ends of arc m + 1: the number of a pair after one arc more
+pub arcIn-next : (t : Fields) (a b m : ℕ) → ((j : ℕ) → 1 ≤ j → j ≤ m → Alike t j (suc m) → ⊥) → arcIn t a b (suc m) ≡ choose (saysWait t a b (suc m)) (suc m) (arcIn t a b m)
+arcIn-next t a b m unlike = at (arcIn t a b m) refl (tested (saysWait t a b (suc m)))
+  where
+    old : (k : ℕ) → arcIn t a b m ≡ suc k → saysWait t a b (suc m) ≡ true → ⊥
+    old k e p =
+        let j = arcIn-P t a b m k e in
+        unlike (suc k) (omega arith) (j .0) (j .1 ∙ sym (saysWait-from t a b (suc m) p), j .2 ∙ sym (saysWait-to t a b (suc m) p))
+
+    at : (n : ℕ) → arcIn t a b m ≡ n → Tested (saysWait t a b (suc m)) → arcIn t a b (suc m) ≡ choose (saysWait t a b (suc m)) (suc m) (arcIn t a b m)
+    at zero e p = arcIn-fresh t a b m e
+    at (suc k) e (passed p) = absurd (old k e p)
+    at (suc k) e (failed p) = rw p (arcIn-kept t a b m k e ∙ sym e)
+
+-- the same in a right table
+pub arcIn-right : (t : Fields) (a b m : ℕ) → Right t → suc m ≤ mOf t → arcIn t a b (suc m) ≡ choose (saysWait t a b (suc m)) (suc m) (arcIn t a b m)
+arcIn-right t a b m g h = arcIn-next t a b m (λ j l u s. omega (arith, g .unlike j (suc m) (l, omega arith) (omega arith, h) s))
 
 -- ---- arcOf
 
-pub data ArcTo (t : Fields) (m a b : ℕ) : Type 0 where
-  no-arc : arcIn t a b m ≡ 0 → ((k : ℕ) → JoinsTo t m k a b → ⊥) → ArcTo t m a b
-  an-arc : (k : ℕ) → arcIn t a b m ≡ k → JoinsTo t m k a b → ArcTo t m a b
-
-pub arcIn? : (t : Fields) (m a b : ℕ) → ArcTo t m a b
-unfolding arcIn
-arcIn? t zero a b = no-arc refl (λ k j. absurd (omega arith))
-arcIn? t (suc m) a b = more (arcIn? t m a b) (tested (endsTest t a b (suc m)))
-  where
-    earlier : (k : ℕ) → JoinsTo t (suc m) k a b → (k ≡ suc m → ⊥) → JoinsTo t m k a b
-    earlier k j e = record { low = j .low; high = omega arith; from = j .from; to = j .to }
-
-    last : endsTest t a b (suc m) ≡ false → ((k : ℕ) → JoinsTo t m k a b → ⊥) → (k : ℕ) → JoinsTo t (suc m) k a b → Same k (suc m) → ⊥
-    last p off k j (same e _) = false≢true (sym p ∙ ap (endsTest t a b) (sym e) ∙ joins-test t (suc m) k a b j)
-    last p off k j (apart e _) = off k (earlier k j e)
-
-    more : ArcTo t m a b → Tested (endsTest t a b (suc m)) → ArcTo t (suc m) a b
-    more (an-arc k e j) _ =
-        let o : eqb (arcIn t a b m) 0 ≡ false = rw e (ne-eqb k 0 (λ z. absurd (omega arith))) in
-        an-arc k (rw o e) (record { low = j .low; high = omega arith; from = j .from; to = j .to })
-    more (no-arc e off) (passed p) =
-        let o : eqb (arcIn t a b m) 0 ≡ true = rw e in
-        an-arc (suc m) (rw (o, p)) (test-joins t (suc m) (suc m) a b (omega arith) (omega arith) p)
-    more (no-arc e off) (failed p) =
-        let o : eqb (arcIn t a b m) 0 ≡ true = rw e in
-        no-arc (rw (o, p)) (λ k j. last p off k j (same? k (suc m)))
-
--- the arc between two processes, if there is one
-pub arcOf? : (t : Fields) (a b : ℕ) → ArcTo t (mOf t) a b
-arcOf? t a b = arcIn? t (mOf t) a b
-
-pub arcOf-none : (t : Fields) (a b : ℕ) → ((k : ℕ) → Joins t k a b → ⊥) → arcOf t a b ≡ 0
+pub arcOf-P : (t : Fields) (a b k : ℕ) → arcOf t a b ≡ suc k → Joins t a b (suc k)
 unfolding arcOf
-arcOf-none t a b h = at (arcOf? t a b)
+arcOf-P t a b k e = let p = arcIn-P t a b (mOf t) k e in ((omega arith, p .0), p .1, p .2)
+
+pub arcOf-waits : (t : Fields) (a b : ℕ) → waitsOf t .waits a b ≡ not (eqb (arcOf t a b) 0)
+unfolding arcOf waitsOf
+arcOf-waits t a b = arcIn-any t a b (mOf t)
+
+pub arcOf-none : (t : Fields) (a b : ℕ) → (arcOf t a b ≡ 0) ↔ (waitsOf t .waits a b ≡ false)
+arcOf-none t a b = (λ e. rw (arcOf-waits t a b, e), λ e. at (same? (arcOf t a b) 0) e)
   where
-    at : ArcTo t (mOf t) a b → arcIn t a b (mOf t) ≡ 0
-    at (no-arc e _) = e
-    at (an-arc k e j) = absurd (h k j)
+    at : Same (arcOf t a b) 0 → waitsOf t .waits a b ≡ false → arcOf t a b ≡ 0
+    at (same e q) h = e
+    at (apart e q) h = absurd (false≢true (sym h ∙ rw (arcOf-waits t a b, q)))
 
--- two arcs with the same ends are one
-pub joins-one : (t : Fields) → Right t → (j k a b : ℕ) → Joins t j a b → Joins t k a b → j ≡ k
-joins-one t r j k a b x y = r .unlike j k (x .low, x .high) (y .low, y .high) (x .from ∙ sym (y .from), x .to ∙ sym (y .to))
-
-pub arcOf-is : (t : Fields) → Right t → (k a b : ℕ) → Joins t k a b → arcOf t a b ≡ k
-unfolding arcOf
-arcOf-is t r k a b j = at (arcOf? t a b)
+-- in a right table an arc with these ends is the arc of these ends: "No two arcs agree in both from and to."
+pub arcOf-is : (t : Fields) → Right t → (a b k : ℕ) → Joins t a b k → arcOf t a b ≡ k
+arcOf-is t g a b k j = at (arcOf t a b) refl
   where
-    at : ArcTo t (mOf t) a b → arcIn t a b (mOf t) ≡ k
-    at (no-arc e h) = absurd (h k j)
-    at (an-arc l e i) = e ∙ joins-one t r l k a b i j
+    at : (n : ℕ) → arcOf t a b ≡ n → arcOf t a b ≡ k
+    at zero e = absurd (false≢true (sym (arcOf-none t a b .0 e) ∙ waitsOf-P t a b .1 (k, j .0, j .1, j .2)))
+    at (suc n) e =
+        let i = arcOf-P t a b n e in
+        e ∙ g .unlike (suc n) k (i .0) (j .0) (i .1 ∙ sym (j .1), i .2 ∙ sym (j .2))
 
--- ---- waits
+pub arcOf-arc : (t : Fields) → Right t → (k : ℕ) → IsArc t k → arcOf t (arcAt t k .from) (arcAt t k .to) ≡ k
+arcOf-arc t g k r = arcOf-is t g (arcAt t k .from) (arcAt t k .to) k (r, refl, refl)
 
-pub joins-waits : (t : Fields) (k a b : ℕ) → Joins t k a b → waitsOf t .waits a b ≡ true
-unfolding waitsOf
-joins-waits t k a b j = anyTo-of (mOf t) (endsTest t a b) k (j .low) (j .high) (joins-test t (mOf t) k a b j)
+-- ---- linkOf
 
-pub waits-joins : (t : Fields) (a b : ℕ) → waitsOf t .waits a b ≡ true → (k : ℕ) × Joins t k a b
-unfolding waitsOf
-waits-joins t a b e = at (anyTo-found (mOf t) (endsTest t a b) e)
-  where
-    at : Found (mOf t) (endsTest t a b) → (k : ℕ) × Joins t k a b
-    at f = (f .at, test-joins t (mOf t) (f .at) a b (f .low) (f .high) (f .passes))
-
--- an arc either way
-pub neighbours-joins : (t : Fields) (a b : ℕ) → neighbours (waitsOf t) a b ≡ true → ((k : ℕ) × Joins t k a b) ⊎ ((k : ℕ) × Joins t k b a)
-unfolding neighbours
-neighbours-joins t a b e = at (or-cases (waitsOf t .waits a b) (waitsOf t .waits b a) e)
-  where
-    at : (waitsOf t .waits a b ≡ true) ⊎ (waitsOf t .waits b a ≡ true) → ((k : ℕ) × Joins t k a b) ⊎ ((k : ℕ) × Joins t k b a)
-    at (inl p) = inl (waits-joins t a b p)
-    at (inr p) = inr (waits-joins t b a p)
-
--- neighbours are processes
-pub record Between (t : Fields) (a b : ℕ) : Type 0 where
-  pub low-from : 1 ≤ a
-  pub high-from : a ≤ nOf t
-  pub low-to : 1 ≤ b
-  pub high-to : b ≤ nOf t
-
-pub joins-between : (t : Fields) → Right t → (k a b : ℕ) → Joins t k a b → Between t a b
-joins-between t r k a b j =
-    let e = r .ends k (j .low, j .high) in
-    let f : arcAt t k .from ≡ a = j .from in
-    let g : arcAt t k .to ≡ b = j .to in
-    record {
-      low-from = rw f at (e .0 .0);
-      high-from = rw f at (e .0 .1);
-      low-to = rw g at (e .1 .0);
-      high-to = rw g at (e .1 .1);
-    }
-
-pub neighbours-between : (t : Fields) → Right t → (a b : ℕ) → neighbours (waitsOf t) a b ≡ true → Between t a b
-neighbours-between t r a b e = at (neighbours-joins t a b e)
-  where
-    at : ((k : ℕ) × Joins t k a b) ⊎ ((k : ℕ) × Joins t k b a) → Between t a b
-    at (inl p) = joins-between t r (p .0) a b (p .1)
-    at (inr p) =
-        let m = joins-between t r (p .0) b a (p .1) in
-        record { low-from = m .low-to; high-from = m .high-to; low-to = m .low-from; high-to = m .high-from }
-
--- ---- where a link begins
-
-pub linkOf-first : (t : Fields) → Right t → (k a b : ℕ) → Joins t k a b → linkOf t a b ≡ linkPlace t k
-unfolding linkOf
-linkOf-first t r k a b j = rw (arcOf-is t r k a b j, ne-eqb k 0 (λ z. absurd (omega arith)))
-
-pub linkOf-second : (t : Fields) → Right t → (k a b : ℕ) → Joins t k b a → arcOf t a b ≡ 0 → linkOf t a b ≡ linkPlace t k + 8
-unfolding linkOf
-linkOf-second t r k a b j e = rw (e, arcOf-is t r k b a j)
-
+-- where the link from a to b stands
 pub data LinkAt (t : Fields) (a b : ℕ) : Type 0 where
-  first-half : (k : ℕ) → Joins t k a b → linkOf t a b ≡ linkPlace t k → LinkAt t a b
-  second-half : (k : ℕ) → Joins t k b a → arcOf t a b ≡ 0 → linkOf t a b ≡ linkPlace t k + 8 → LinkAt t a b
+  forth : (k : ℕ) → Joins t a b k → linkOf t a b ≡ linkPlace t k → LinkAt t a b
+  back : (k : ℕ) → Joins t b a k → hasBack t k ≡ true → linkOf t a b ≡ linkPlace t k + 8 → LinkAt t a b
 
-pub linkOf? : (t : Fields) (a b : ℕ) → neighbours (waitsOf t) a b ≡ true → LinkAt t a b
-unfolding linkOf arcOf
-linkOf? t a b e = at (arcOf? t a b) (arcOf? t b a) (neighbours-joins t a b e)
+linkOf-forth : (t : Fields) (a b k : ℕ) → arcOf t a b ≡ suc k → linkOf t a b ≡ linkPlace t (suc k)
+unfolding linkOf
+linkOf-forth t a b k e = rw (e, eqb·suc-zero)
+
+linkOf-none : (t : Fields) (a b : ℕ) → arcOf t a b ≡ 0 → linkOf t a b ≡ linkPlace t (arcOf t b a) + 8
+unfolding linkOf
+linkOf-none t a b e = rw e
+
+hasBack-of : (t : Fields) (a b k : ℕ) → Joins t b a k → arcOf t a b ≡ 0 → hasBack t k ≡ true
+unfolding hasBack
+hasBack-of t a b k j e = rw (j .1, j .2) (eq-eqb (arcOf t a b) 0 e)
+
+pub linkOf-at : (t : Fields) (a b : ℕ) → neighbours (waitsOf t) a b ≡ true → LinkAt t a b
+unfolding neighbours
+linkOf-at t a b h = at (arcOf t a b) (arcOf t b a) refl refl
   where
-    at : ArcTo t (mOf t) a b → ArcTo t (mOf t) b a → ((k : ℕ) × Joins t k a b) ⊎ ((k : ℕ) × Joins t k b a) → LinkAt t a b
-    at (an-arc k p j) _ _ =
-        let o : eqb (arcIn t a b (mOf t)) 0 ≡ false = rw p (ne-eqb k 0 (λ z. absurd (omega arith))) in
-        first-half k j (rw (o, p))
-    at (no-arc p h) (an-arc k q j) _ =
-        let o : eqb (arcIn t a b (mOf t)) 0 ≡ true = rw p in
-        second-half k j p (rw (o, q))
-    at (no-arc p h) (no-arc q i) (inl x) = absurd (h (x .0) (x .1))
-    at (no-arc p h) (no-arc q i) (inr x) = absurd (i (x .0) (x .1))
+    at : (m n : ℕ) → arcOf t a b ≡ m → arcOf t b a ≡ n → LinkAt t a b
+    at (suc m) n e e′ = forth (suc m) (arcOf-P t a b m e) (linkOf-forth t a b m e)
+    at zero (suc n) e e′ = back (suc n) (arcOf-P t b a n e′) (hasBack-of t a b (suc n) (arcOf-P t b a n e′) e) (linkOf-none t a b e ∙ ap (λ (x : ℕ). linkPlace t x + 8) e′)
+    at zero zero e e′ = absurd (false≢true (rw (arcOf-none t a b .0 e, arcOf-none t b a .0 e′) at h))
 
-linkPlace-apart : (t : Fields) (k l i j : ℕ) → 1 ≤ k → 1 ≤ l → i < 16 → j < 16 → linkPlace t k + i ≡ linkPlace t l + j → (k ≡ l) × (i ≡ j)
-unfolding linkPlace
-linkPlace-apart t k l i j p q u v e = (omega arith, omega arith)
+-- the first link of an arc is that from its from to its to
+pub linkOf-arc : (t : Fields) → Right t → (k : ℕ) → IsArc t k → linkOf t (arcAt t k .from) (arcAt t k .to) ≡ linkPlace t k
+linkOf-arc t g zero r = absurd (omega arith)
+linkOf-arc t g (suc k) r = linkOf-forth t (arcAt t (suc k) .from) (arcAt t (suc k) .to) k (arcOf-arc t g (suc k) r)
 
--- two links share no word
-pub record SameLink (a b i x y j : ℕ) : Type 0 where
-  pub from : a ≡ x
-  pub to : b ≡ y
-  pub word : i ≡ j
+-- the second is that back, if the arc has one
+pub linkOf-back : (t : Fields) → Right t → (k : ℕ) → IsArc t k → hasBack t k ≡ true → linkOf t (arcAt t k .to) (arcAt t k .from) ≡ linkPlace t k + 8
+unfolding hasBack
+linkOf-back t g k r h =
+    linkOf-none t (arcAt t k .to) (arcAt t k .from) (eqb-true (arcOf t (arcAt t k .to) (arcAt t k .from)) 0 h) ∙ ap (λ (x : ℕ). linkPlace t x + 8) (arcOf-arc t g k r)
 
-pub linkOf-apart : (t : Fields) (a b i x y j : ℕ) → neighbours (waitsOf t) a b ≡ true → neighbours (waitsOf t) x y ≡ true → i < 8 → j < 8 → linkOf t a b + i ≡ linkOf t x y + j → SameLink a b i x y j
-linkOf-apart t a b i x y j m n u v e = at (linkOf? t a b m) (linkOf? t x y n)
-  where
-    sameArc : (k l a b x y : ℕ) → k ≡ l → Joins t k a b → Joins t l x y → (a ≡ x) × (b ≡ y)
-    sameArc k l a b x y q f g =
-        (sym (f .from) ∙ ap (λ (c : ℕ). arcAt t c .from) q ∙ g .from, sym (f .to) ∙ ap (λ (c : ℕ). arcAt t c .to) q ∙ g .to)
-
-    at : LinkAt t a b → LinkAt t x y → SameLink a b i x y j
-    at (first-half k f p) (first-half l g q) =
-        let h = linkPlace-apart t k l i j (f .low) (g .low) (omega arith) (omega arith) (omega arith) in
-        let s = sameArc k l a b x y (h .0) f g in
-        record { from = s .0; to = s .1; word = h .1 }
-    at (first-half k f p) (second-half l g z q) =
-        let h : (k ≡ l) × (i ≡ 8 + j) = linkPlace-apart t k l i (8 + j) (f .low) (g .low) (omega arith) (omega arith) (omega arith) in
-        absurd (omega arith)
-    at (second-half k f z p) (first-half l g q) =
-        let h : (k ≡ l) × (8 + i ≡ j) = linkPlace-apart t k l (8 + i) j (f .low) (g .low) (omega arith) (omega arith) (omega arith) in
-        absurd (omega arith)
-    at (second-half k f z p) (second-half l g z′ q) =
-        let h : (k ≡ l) × (8 + i ≡ 8 + j) = linkPlace-apart t k l (8 + i) (8 + j) (f .low) (g .low) (omega arith) (omega arith) (omega arith) in
-        let s = sameArc k l b a y x (h .0) f g in
-        record { from = s .1; to = s .0; word = omega arith }
+-- the ends of an arc are neighbours
+pub neighbours-arc : (t : Fields) (k : ℕ) → IsArc t k → neighbours (waitsOf t) (arcAt t k .from) (arcAt t k .to) ≡ true
+unfolding neighbours
+neighbours-arc t k r = or-left _ _ (waitsOf-P t (arcAt t k .from) (arcAt t k .to) .1 (k, r, refl, refl))

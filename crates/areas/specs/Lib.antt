@@ -10,8 +10,6 @@ pub mod StoredLaws
 pub mod WriteLaws
 pub mod ReadLaws
 pub mod AreaLaws
-pub mod ArcNumbers
-pub mod Places
 pub mod Tells
 pub mod WordTests
 pub mod Reads

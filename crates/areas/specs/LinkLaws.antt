@@ -5,27 +5,30 @@
 --   messagesAt-stop, messagesAt-more   == the messages from a word on, where it is 0 and where it is not
 --   messagesAt-at, messagesAt-length   == each message is that of its word, and there are at most as many as words
 --   slotWord-at, linkWord-at, linkWord-past, countsSmall-at, countsSmall-of   == the words of a link, and its counts, one by one
---   sameWord-of           == the test of two words that are the same passes
 --   linkTest-parts        == the test of a link: messages up to the first 0, and zeros from there on
 -- Assumes nothing.
 use Prim.Native.Nat.{ℕ, zero, suc, _+_, _-_, _≤_, _<_}
-use mathlib.Core.Bool.{Bool, true, false, _&&_, false≢true}
+use mathlib.Core.Bool.{Bool, true, _&&_}
 use mathlib.Core.List.{List, [], _∷_}
 use mathlib.Core.Path.{_≡_, refl, sym, ap, _∙_}
 use native.Mathlib.Nat.{add-zero, le-of-suc-le-suc}
 use native.Mathlib.Omega.{arith}
-use borrow.Author.Tests.{eqb-true, eq-eqb, ne-eqb, le-leb, lt-ltb, ltb-true, ltb-false}
-use lib.Dec.{leb, ltb}
-use lib.IntN.{ℤ, pos, negsuc, natAbs, _-ℤ_, +ℤ-comm, -ℤ-+ℤ-cancel}
+use borrow.Author.Tests.{eq-eqb, ne-eqb, le-leb}
+use lib.Dec.{leb}
+use lib.IntN.{ℤ, pos, natAbs, _-ℤ_, +ℤ-comm, -ℤ-+ℤ-cancel}
 use lib.ListN.{length, getD}
-use Rattle.base.specs.Choice.{choose, Same, same, apart, same?, Tested, passed, failed, tested, and-left, and-right, and-both}
-use Rattle.base.specs.Sums.{allTo, allTo-at, allTo-of}
+use Rattle.base.specs.Choice.{Same, same, apart, same?, Below, below, beyond, below?, and-left, and-right, and-both}
+use Rattle.base.specs.Sums.{allTo}
 use Rattle.steps.specs.declared.Message.{Message}
 use Rattle.steps.specs.declared.Message.the-variants.{Suc, Pre, Ack}
 use Rattle.steps.specs.Step.{countSmall}
 use Rattle.checks.specs.Run.{countsSmall, linkRight}
 use Rattle.areas.specs.Area.{codeOf, slotWord, linkWord, numberAt, messageOf, messagesAt, sameWord}
 use Rattle.areas.specs.AreaTests.{linkTest, isFree}
+use Rattle.areas.specs.Tells.{Tells, tells-map, tells-id, tells-both, tells-below, tells-same}
+use Rattle.areas.specs.WordTests.{sameWord-P}
+use Rattle.areas.specs.RunLaws.{linkRight-P, linkWord-slot, linkWord-free, slotWord-past}
+use Rattle.areas.specs.RegionTests.{linkTest-P}
 
 -- "messages of the three kinds with counts in range"
 abbrev pub messageWord : ℤ → Bool
@@ -80,11 +83,11 @@ module _ (w : List ℤ) where
   messagesAt-at i (suc k) (suc j) h = at (same? (numberAt w i) 0) (messagesAt-at (suc i) k j)
     where
       at : Same (numberAt w i) 0 → (j < length (messagesAt w (suc i) k) → getD (messagesAt w (suc i) k) j Suc ≡ messageOf (getD w (suc i + j) (pos 0))) → getD (messagesAt w i (suc k)) (suc j) Suc ≡ messageOf (getD w (i + suc j) (pos 0))
-      at (same e _) below = let z : suc j < 0 = rw (messagesAt-stop i k e) at h in absurd (omega arith)
-      at (apart e _) below =
+      at (same e _) rest = let z : suc j < 0 = rw (messagesAt-stop i k e) at h in absurd (omega arith)
+      at (apart e _) rest =
           let q : i + suc j ≡ suc i + j = omega arith in
           let g : suc j < suc (length (messagesAt w (suc i) k)) = rw (messagesAt-more i k e) at h in
-          rw (messagesAt-more i k e, q) (below (omega arith))
+          rw (messagesAt-more i k e, q) (rest (omega arith))
 
 -- ---- the words and the counts of a link
 
@@ -94,23 +97,15 @@ slotWord-at [] j h = absurd (omega arith)
 slotWord-at (m ∷ ms) zero h = refl
 slotWord-at (m ∷ ms) (suc j) h = slotWord-at ms j (le-of-suc-le-suc h)
 
-pub slotWord-past : (ms : List Message) (j : ℕ) → length ms ≤ j → slotWord ms j ≡ pos 0
-unfolding slotWord
-slotWord-past [] j h = refl
-slotWord-past (m ∷ ms) zero h = absurd (omega arith)
-slotWord-past (m ∷ ms) (suc j) h = slotWord-past ms j (le-of-suc-le-suc h)
-
 pub linkWord-at : (ms : List Message) (j : ℕ) → length ms ≤ 4 → j < length ms → linkWord ms j ≡ codeOf (getD ms j Suc)
-unfolding linkWord
-linkWord-at ms j u h = rw (lt-ltb j 4 (omega arith)) (slotWord-at ms j h)
+linkWord-at ms j u h = linkWord-slot ms j (omega arith) ∙ slotWord-at ms j h
 
 pub linkWord-past : (ms : List Message) (j : ℕ) → length ms ≤ j → linkWord ms j ≡ pos 0
-unfolding linkWord
-linkWord-past ms j h = at (tested (ltb j 4))
+linkWord-past ms j h = at (below? j 4)
   where
-    at : Tested (ltb j 4) → choose (ltb j 4) (slotWord ms j) (pos 0) ≡ pos 0
-    at (passed e) = rw e (slotWord-past ms j h)
-    at (failed e) = rw e
+    at : Below j 4 → linkWord ms j ≡ pos 0
+    at (below u _) = linkWord-slot ms j u ∙ slotWord-past ms j h
+    at (beyond u _) = linkWord-free ms j u
 
 pub countsSmall-at : (ms : List Message) (j : ℕ) → countsSmall ms ≡ true → j < length ms → countSmall (getD ms j Suc) ≡ true
 unfolding countsSmall
@@ -124,27 +119,6 @@ countsSmall-of [] f = refl
 countsSmall-of (m ∷ ms) f = and-both (countSmall m) (countsSmall ms) (f 0 (omega arith)) (countsSmall-of ms (λ j h. f (suc j) (omega arith)))
 
 -- ---- linkTest
-
-sameWord-true : (x y : ℤ) → sameWord x y ≡ true → x ≡ y
-unfolding sameWord
-sameWord-true (pos a) (pos b) e = ap pos (eqb-true a b e)
-sameWord-true (pos a) (negsuc b) e = absurd (false≢true e)
-sameWord-true (negsuc a) (pos b) e = absurd (false≢true e)
-sameWord-true (negsuc a) (negsuc b) e = ap negsuc (eqb-true a b e)
-
-pub sameWord-of : (x y : ℤ) → x ≡ y → sameWord x y ≡ true
-unfolding sameWord
-sameWord-of x y e = rw (← e) (at x)
-  where
-    at : (z : ℤ) → sameWord z z ≡ true
-    at (pos n) = eq-eqb n n refl
-    at (negsuc n) = eq-eqb n n refl
-
--- two tests that pass for the same are the same
-alike : (a b : Bool) → (a ≡ true → b ≡ true) → (b ≡ true → a ≡ true) → a ≡ b
-alike true b f g = sym (f refl)
-alike false true f g = g refl
-alike false false f g = refl
 
 module _ (w : List ℤ) (i : ℕ) where
   -- the messages of the link, and the word j of it
@@ -165,12 +139,6 @@ module _ (w : List ℤ) (i : ℕ) where
   abbrev zeros : Bool
   zeros = allTo (8 - length here) (λ j. isFree w (i + length here + (j - 1)))
 
-  abbrev row : ℕ → Bool
-  row j = sameWord (word (j - 1)) (linkWord here (j - 1))
-
-  abbrev message : ℕ → Bool
-  message j = messageWord (word (j - 1))
-
   few : length here ≤ 4
   few = messagesAt-length w i 4
 
@@ -181,59 +149,47 @@ module _ (w : List ℤ) (i : ℕ) where
   at-code : (j : ℕ) → j < length here → linkWord here j ≡ codeOf (messageOf (word j))
   at-code j h = linkWord-at here j few h ∙ ap codeOf (at-word j h)
 
-  from-test : linkTest w i ≡ true → Holds
-  unfolding linkTest linkRight
-  from-test e = record { words = words; small = and-right (leb (length here) 4) (countsSmall here) (and-left (linkRight here) (allTo 8 row) e) }
+  test-P : Tells (linkTest w i) Holds
+  unfolding linkRight
+  test-P =
+      tells-map
+      (λ s. record { words = s .1; small = linkRight-P here (s .0) .1 })
+      (λ h. (and-both (leb (length here) 4) (countsSmall here) (le-leb (length here) 4 few) (h .small), h .words))
+      (linkTest-P w i)
+
+  Message-at : ℕ → Type 0
+  Message-at j = (word j ≡ codeOf (messageOf (word j))) × (countSmall (messageOf (word j)) ≡ true)
+
+  Free-at : ℕ → Type 0
+  Free-at j = getD w (i + length here + j) (pos 0) ≡ pos 0
+
+  parts-P : Tells (messages && zeros) Holds
+  unfolding Message-at Free-at
+  parts-P =
+      tells-map to from
+      (tells-both
+      (tells-below (length here) (λ j. messageWord (word j)) Message-at (λ j. tells-both (sameWord-P (word j) (codeOf (messageOf (word j)))) (tells-id (countSmall (messageOf (word j))))))
+      (tells-below (8 - length here) (λ j. isFree w (i + length here + j)) Free-at (λ j. sameWord-P (getD w (i + length here + j) (pos 0)) (pos 0))))
     where
-      words : (j : ℕ) → j < 8 → word j ≡ linkWord here j
-      words j h =
-          let q : j + 1 - 1 ≡ j = omega arith in
-          sameWord-true (word j) (linkWord here j) (rw q at (allTo-at 8 row (and-right (linkRight here) (allTo 8 row) e) (j + 1) (omega arith) (omega arith)))
+      Said : Type 0
+      Said = ((j : ℕ) → j < length here → Message-at j) × ((j : ℕ) → j < 8 - length here → Free-at j)
 
-  to-test : Holds → linkTest w i ≡ true
-  unfolding linkTest linkRight
-  to-test h =
-      and-both (linkRight here) (allTo 8 row)
-      (and-both (leb (length here) 4) (countsSmall here) (le-leb (length here) 4 few) (h .small))
-      (allTo-of 8 row (λ j l u. sameWord-of (word (j - 1)) (linkWord here (j - 1)) (h .words (j - 1) (omega arith))))
+      at : Said → (j : ℕ) → j < 8 → Below j (length here) → word j ≡ linkWord here j
+      at s j u (below h _) = s .0 j h .0 ∙ sym (at-code j h)
+      at s j u (beyond h _) =
+          let q : i + length here + (j - length here) ≡ i + j = omega arith in
+          (rw q at (s .1 (j - length here) (omega arith))) ∙ sym (linkWord-past here j h)
 
-  from-parts : (messages && zeros) ≡ true → Holds
-  from-parts e = record { words = λ j u. at j u (tested (ltb j (length here))); small = countsSmall-of here (λ j u. rw (at-word j u) (and-right (sameWord (word j) (codeOf (messageOf (word j)))) (countSmall (messageOf (word j))) (one j u))) }
-    where
-      one : (j : ℕ) → j < length here → messageWord (word j) ≡ true
-      one j u =
-          let q : j + 1 - 1 ≡ j = omega arith in
-          rw q at (allTo-at (length here) message (and-left messages zeros e) (j + 1) (omega arith) (omega arith))
+      to : Said → Holds
+      to s = record { words = λ j u. at s j u (below? j (length here)); small = countsSmall-of here (λ j u. rw (at-word j u) (s .0 j u .1)) }
 
-      free : (j : ℕ) → j < 8 → length here ≤ j → isFree w (i + j) ≡ true
-      free j u h =
-          let q : i + length here + (j - length here + 1 - 1) ≡ i + j = omega arith in
-          rw q at (allTo-at (8 - length here) (λ k. isFree w (i + length here + (k - 1))) (and-right messages zeros e) (j - length here + 1) (omega arith) (omega arith))
-
-      at : (j : ℕ) → j < 8 → Tested (ltb j (length here)) → word j ≡ linkWord here j
-      at j u (passed p) =
-          let h : j < length here = ltb-true j (length here) p in
-          sameWord-true (word j) (codeOf (messageOf (word j))) (and-left (sameWord (word j) (codeOf (messageOf (word j)))) (countSmall (messageOf (word j))) (one j h)) ∙ sym (at-code j h)
-      at j u (failed p) =
-          let h : length here ≤ j = ltb-false j (length here) p in
-          sameWord-true (word j) (pos 0) (free j u h) ∙ sym (linkWord-past here j h)
-
-  to-parts : Holds → (messages && zeros) ≡ true
-  to-parts h =
-      and-both messages zeros
-      (allTo-of (length here) message (λ j l u. one (j - 1) (omega arith)))
-      (allTo-of (8 - length here) (λ k. isFree w (i + length here + (k - 1))) (λ j l u. free (j - 1) (omega arith)))
-    where
-      one : (j : ℕ) → j < length here → messageWord (word j) ≡ true
-      one j u =
-          and-both (sameWord (word j) (codeOf (messageOf (word j)))) (countSmall (messageOf (word j)))
-          (sameWord-of (word j) (codeOf (messageOf (word j))) (h .words j (omega (arith, few)) ∙ at-code j u))
-          (rw (← at-word j u) (countsSmall-at here j (h .small) u))
-
-      free : (j : ℕ) → j < 8 - length here → isFree w (i + length here + j) ≡ true
-      free j u =
+      free : Holds → (j : ℕ) → j < 8 - length here → Free-at j
+      free h j u =
           let q : i + length here + j ≡ i + (length here + j) = omega arith in
-          rw q (sameWord-of (word (length here + j)) (pos 0) (h .words (length here + j) (omega arith) ∙ linkWord-past here (length here + j) (omega arith)))
+          rw q (h .words (length here + j) (omega arith) ∙ linkWord-past here (length here + j) (omega arith))
+
+      from : Holds → Said
+      from h = (λ j u. (h .words j (omega (arith, few)) ∙ at-code j u, rw (← at-word j u) (countsSmall-at here j (h .small) u)), free h)
 
   pub linkTest-parts : linkTest w i ≡ (messages && zeros)
-  linkTest-parts = alike (linkTest w i) (messages && zeros) (λ e. to-parts (from-test e)) (λ e. to-test (from-parts e))
+  linkTest-parts = tells-same (linkTest w i) (messages && zeros) test-P parts-P

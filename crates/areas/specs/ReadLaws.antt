@@ -2,7 +2,6 @@
 --   fieldsIn-stored     == the table
 --   runOf t w           == the run in the words w of an area whose table has the fields t: runIn w is runOf (fieldsIn w) w
 --   runIn-stored        == the run
---   fieldsIn-shut, runIn-held   == what is read from any words has no field past its last, and is a run that its table's area holds
 -- Assumes nothing.
 use Prim.Native.Nat.{ℕ, zero, suc, _+_, _*_, _/_, _%_, _≤_, _<_}
 use mathlib.Core.Bool.{true, _&&_}
@@ -13,33 +12,21 @@ use borrow.Author.Tests.{lt-ltb, le-ltb, leb-true, ne-eqb}
 use lib.Dec.{leb}
 use lib.ListN.{length, getD}
 use lib.IntN.{ℤ, pos, natAbs}
-use Rattle.base.specs.Choice.{choose, Tested, passed, failed, tested, and-left, and-right}
+use Rattle.base.specs.Choice.{choose, Tested, passed, failed, tested, Below, below, beyond, below?, and-left, and-right}
 use Rattle.tables.specs.Table.{Fields, nOf}
 use Rattle.tables.specs.Waits.{Waits, waitsOf, neighbours}
 use Rattle.tables.specs.Layout.{Right}
+use Rattle.tables.specs.WaitsLaws.{waitsOf-sound, neighbours-ends}
 use Rattle.steps.specs.declared.Message.{Message}
 use Rattle.steps.specs.declared.Process.{Process}
 use Rattle.steps.specs.Step.{countSmall, idle}
 use Rattle.checks.specs.Run.{Run, countsSmall, wellFormed}
 use Rattle.areas.specs.Area.{fieldPlace, fieldCount, recordPlace, linkOf, flagsOf, recordWord, codeOf, slotWord, linkWord, stored, numberAt, cut, fieldsIn, recordAt, messagesAt, runIn}
 use Rattle.areas.specs.Held.{Shut, Held}
-use Rattle.areas.specs.Words.{Below, below, beyond, below?}
-use Rattle.areas.specs.Arcs.{neighbours-between}
 use Rattle.areas.specs.StoredLaws.{stored-start-word, stored-count-word, stored-field-word, stored-record-word, stored-link-word}
 use Rattle.areas.specs.RunLaws.{WellFormed, wellFormed-P, InRange, processRight-inRange, linkRight-P, linkWord-slot, codeOf-some, messageOf-codeOf}
 
 -- ---- the table
-
-pub cut-size : (u : Fields) (j : ℕ) → j < 2 → cut u j ≡ u j
-unfolding cut
-cut-size u j h = rw (lt-ltb j (fieldCount u) (omega arith))
-
-pub cut-past : (u : Fields) (j : ℕ) → fieldCount u ≤ j → cut u j ≡ 0
-unfolding cut
-cut-past u j h = rw (le-ltb j (fieldCount u) h)
-
-pub cut-shut : (u : Fields) → Shut (cut u)
-cut-shut u j h = cut-past u j (omega (arith, cut-size u 0 (omega arith), cut-size u 1 (omega arith)))
 
 -- fields that agree up to the last of t, cut there, are t
 pub cut-same : (u t : Fields) → Shut t → ((j : ℕ) → j < fieldCount t → u j ≡ t j) → cut u ≡ t
@@ -52,10 +39,6 @@ cut-same u t s h = fun-ext (λ j. at j (below? j (fieldCount t)))
     at : (j : ℕ) → Below j (fieldCount t) → cut u j ≡ t j
     at j (below l _) = rw (lt-ltb j (fieldCount u) (omega (arith, count))) (h j l)
     at j (beyond l _) = rw (le-ltb j (fieldCount u) (omega (arith, count))) (sym (s j l))
-
-pub fieldsIn-shut : (w : List ℤ) → Shut (fieldsIn w)
-unfolding fieldsIn
-fieldsIn-shut w = cut-shut (λ j. numberAt w (fieldPlace j))
 
 pub fieldsIn-stored : (t : Fields) (r : Run) (w : List ℤ) → Shut t → fieldsIn (stored t r w) ≡ t
 unfolding fieldsIn
@@ -77,13 +60,6 @@ runOf t w = record { waits = waitsOf t; start = numberAt w 1; count = numberAt w
 pub runIn-runOf : (w : List ℤ) → runIn w ≡ runOf (fieldsIn w) w
 unfolding runIn runOf processIn linkIn
 runIn-runOf w = refl
-
-pub runOf-held : (t : Fields) (w : List ℤ) → Held t (runOf t w)
-unfolding runOf processIn linkIn
-runOf-held t w = record { waits = refl; processes = λ p e. rw e; links = λ a b e. rw e }
-
-pub runIn-held : (w : List ℤ) → Held (fieldsIn w) (runIn w)
-runIn-held w = rw (runIn-runOf w) (runOf-held (fieldsIn w) w)
 
 -- ---- a record is read back
 
@@ -160,8 +136,8 @@ module _ (t : Fields) (s : Right t) (r : Run) (w : List ℤ) (g : Held t r) (f :
       at : Tested (neighbours (waitsOf t) a b) → linkIn t (stored t r w) a b ≡ r .link a b
       at (failed e) = rw e (sym (g .links a b e))
       at (passed e) =
-          let m = neighbours-between t s a b e in
-          let c = linkRight-P (r .link a b) (f .links a b (m .low-from) (rw size (m .high-from)) (m .low-to) (rw size (m .high-to))) in
+          let m = neighbours-ends (waitsOf t) (waitsOf-sound t s) a b e in
+          let c = linkRight-P (r .link a b) (f .links a b (m .0) (rw (g .waits) (m .1)) (m .2) (rw (g .waits) (m .3))) in
           rw e
           (messagesAt-of (r .link a b) (stored t r w) (linkOf t a b) 4 (c .0) (c .1)
           (λ j h. stored-link-word t r w a b j (pos 0) e (omega arith) ∙ linkWord-slot (r .link a b) j h))
@@ -180,4 +156,4 @@ pub runIn-stored : (t : Fields) (r : Run) (w : List ℤ) → Right t → Shut t 
 runIn-stored t r w s h g e =
     runIn-runOf (stored t r w)
     ∙ ap (λ (u : Fields). runOf u (stored t r w)) (fieldsIn-stored t r w h)
-    ∙ runOf-stored t s r w g (wellFormed-P r e)
+    ∙ runOf-stored t s r w g (wellFormed-P r .0 e)

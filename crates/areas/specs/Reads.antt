@@ -1,6 +1,6 @@
 -- What is read from an area, value by value.
 --   fieldsIn-n, fieldsIn-m, fieldsIn-at, fieldsIn-shut   == the fields of the copied table
---   runIn-n, runIn-process, runIn-forth, runIn-back, runIn-held   == the run: its records, the two links of an arc, and nothing besides
+--   runIn-n, runIn-process, runIn-link, runIn-forth, runIn-back, runIn-held   == the run: its records, its links, the two links of an arc, and nothing besides
 -- Assumes nothing.
 use Prim.Native.Nat.{ℕ, _+_, _≤_, _<_}
 use mathlib.Core.Bool.{true}
@@ -12,9 +12,10 @@ use native.Mathlib.Omega.{arith}
 use Rattle.tables.specs.Table.{Fields, nOf, mOf, arcAt}
 use Rattle.tables.specs.Layout.{Process, IsArc, Right}
 use Rattle.tables.specs.Waits.{waitsOf, neighbours}
+use Rattle.tables.specs.WaitsLaws.{neighbours-swap}
 use Rattle.areas.specs.Area.{fieldPlace, fieldCount, recordPlace, linkPlace, linkOf, hasBack, cut, numberAt, fieldsIn, recordAt, messagesAt, runIn}
 use Rattle.areas.specs.Held.{Shut, Held}
-use Rattle.areas.specs.ArcNumbers.{linkOf-arc, linkOf-back, neighbours-arc, neighbours-swap}
+use Rattle.areas.specs.Arcs.{linkOf-arc, linkOf-back, neighbours-arc}
 
 -- ---- cut
 
@@ -76,4 +77,4 @@ runIn-forth w g k r = runIn-link w _ _ (neighbours-arc (fieldsIn w) k r) ∙ ap 
 
 pub runIn-back : (w : List ℤ) → Right (fieldsIn w) → (k : ℕ) → IsArc (fieldsIn w) k → hasBack (fieldsIn w) k ≡ true → runIn w .link (arcAt (fieldsIn w) k .to) (arcAt (fieldsIn w) k .from) ≡ messagesAt w (linkPlace (fieldsIn w) k + 8) 4
 runIn-back w g k r h =
-    runIn-link w _ _ (neighbours-swap (fieldsIn w) _ _ ∙ neighbours-arc (fieldsIn w) k r) ∙ ap (λ (i : ℕ). messagesAt w i 4) (linkOf-back (fieldsIn w) g k r h)
+    runIn-link w _ _ (neighbours-swap (waitsOf (fieldsIn w)) _ _ ∙ neighbours-arc (fieldsIn w) k r) ∙ ap (λ (i : ℕ). messagesAt w i 4) (linkOf-back (fieldsIn w) g k r h)

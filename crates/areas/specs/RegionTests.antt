@@ -6,7 +6,7 @@
 --   ArcRight, arcTest-P         == the messages on an arc's links are right, and its words are those of the layout
 -- Assumes nothing.
 use Prim.Native.Nat.{ℕ, zero, suc, _+_, _-_, _≤_, _<_}
-use mathlib.Core.Bool.{true, false, _&&_, false≢true}
+use mathlib.Core.Bool.{true, _&&_, false≢true}
 use mathlib.Core.List.{List}
 use mathlib.Core.Path.{_≡_, refl, sym, _∙_, subst}
 use lib.Dec.{ltb}
@@ -27,7 +27,7 @@ use Rattle.checks.specs.Run.{linkRight, fatherRight, processRight}
 use Rattle.areas.specs.Area.{fieldPlace, recordPlace, linkPlace, knotCheck, headWord, recordWord, linkWord, hasBack, arcWord, numberAt, fieldsIn, recordAt, messagesAt, runIn, sameWord}
 use Rattle.areas.specs.AreaTests.{fieldTest, counts, isFree, headTest, recordTest, linkTest, arcTest}
 use Rattle.areas.specs.Tells.{Tells, tells-map, tells-le, tells-id, tells-both, tells-passed, tells-failed, tells-all, tells-below}
-use Rattle.areas.specs.Places.{arcWord-forth, arcWord-back, arcWord-free}
+use Rattle.areas.specs.WordLaws.{arcWord-forth, arcWord-back, arcWord-free}
 use Rattle.areas.specs.WordTests.{sameWord-P}
 use Rattle.areas.specs.Reads.{fieldsIn-n, runIn-process, runIn-held, runIn-forth, runIn-back}
 
@@ -202,7 +202,7 @@ module _ (w : List ℤ) (g : Right (fieldsIn w)) (k : ℕ) (r : IsArc (fieldsIn 
       i = linkPlace (fieldsIn w) k
 
       at : (j : ℕ) → arcWord (fieldsIn w) (runIn w) k (8 + j) ≡ pos 0
-      at j = arcWord-free (fieldsIn w) (runIn w) k j h
+      at j = arcWord-free (fieldsIn w) (runIn w) k (8 + j) (omega arith) h
 
       to : ((j : ℕ) → (1 ≤ j) × (j ≤ 8) → word w (i + (7 + j)) ≡ pos 0) → Second
       to s = (λ e. absurd (false≢true (sym h ∙ e)), λ j u. subst (λ (n : ℕ). word w n ≡ pos 0) (omega arith) (s (suc j) (omega arith)) ∙ sym (at j))

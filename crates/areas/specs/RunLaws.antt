@@ -1,5 +1,5 @@
 -- The parts of a well-formed run by name, and messages as words.
---   WellFormed r               == what `wellFormed r` says, part by part; wellFormed-P and wellFormed-of lead there and back
+--   WellFormed r               == what `wellFormed r` says, part by part, by wellFormed-P
 --   InRange x                  == what `inRange x` says of the values that a record's words hold
 --   linkRight-P                == at most 4 messages, with counts in range
 --   codeOf-some, messageOf-codeOf   == a message in range is a word other than 0, and is read back from it
@@ -10,18 +10,19 @@ use mathlib.Core.Bool.{Bool, true, _&&_}
 use mathlib.Core.List.{List, [], _∷_}
 use mathlib.Core.Path.{_≡_, refl, ap, _∙_}
 use native.Mathlib.Omega.{arith}
-use borrow.Author.Tests.{leb-true, le-leb, ne-eqb, lt-ltb, le-ltb}
+use borrow.Author.Tests.{leb-true, ne-eqb, lt-ltb, le-ltb}
 use lib.Dec.{leb}
 use lib.ListN.{length}
 use lib.IntN.{ℤ, pos, negsuc, _+ℤ_, _-ℤ_, natAbs, +ℤ-comm, +ℤ-negℤ-cancel}
-use Rattle.base.specs.Choice.{and-left, and-right, and-both}
-use Rattle.base.specs.Sums.{allTo, allTo-at, allTo-of}
+use Rattle.base.specs.Choice.{and-left, and-right}
+use Rattle.base.specs.Sums.{allTo}
 use Rattle.steps.specs.declared.Message.{Message}
 use Rattle.steps.specs.declared.Message.the-variants.{Suc, Pre, Ack}
 use Rattle.steps.specs.declared.Process.{Process}
 use Rattle.steps.specs.Step.{small, inRange, countSmall}
 use Rattle.checks.specs.Run.{Run, countsSmall, linkRight, processRight, wellFormed}
 use Rattle.areas.specs.Area.{codeOf, slotWord, linkWord, messageOf}
+use Rattle.areas.specs.Tells.{Tells, tells-map, tells-le, tells-id, tells-both, tells-all}
 
 -- ---- a well-formed run
 
@@ -32,43 +33,16 @@ pub record WellFormed (r : Run) : Type 0 where
   pub processes : (p : ℕ) → 1 ≤ p → p ≤ r .waits .n → processRight r p ≡ true
   pub links : (a b : ℕ) → 1 ≤ a → a ≤ r .waits .n → 1 ≤ b → b ≤ r .waits .n → linkRight (r .link a b) ≡ true
 
-pub wellFormed-P : (r : Run) → wellFormed r ≡ true → WellFormed r
+pub wellFormed-P : (r : Run) → Tells (wellFormed r) (WellFormed r)
 unfolding wellFormed
-wellFormed-P r e =
-    let s : Bool = leb 1 (r .start) in
-    let n : Bool = leb (r .start) (r .waits .n) in
-    let c : Bool = leb (r .count) 2048 in
-    let p : Bool = allTo (r .waits .n) (processRight r) in
-    let l : Bool = allTo (r .waits .n) (λ a. allTo (r .waits .n) (λ b. linkRight (r .link a b))) in
-    let e₄ : (s && n && c && p) ≡ true = and-left (s && n && c && p) l e in
-    let e₃ : (s && n && c) ≡ true = and-left (s && n && c) p e₄ in
-    let e₂ : (s && n) ≡ true = and-left (s && n) c e₃ in
-    record {
-      start-low = leb-true 1 (r .start) (and-left s n e₂);
-      start-high = leb-true (r .start) (r .waits .n) (and-right s n e₂);
-      count = leb-true (r .count) 2048 (and-right (s && n) c e₃);
-      processes = λ q u v. allTo-at (r .waits .n) (processRight r) (and-right (s && n && c) p e₄) q u v;
-      links = λ a b u v u′ v′.
-          allTo-at (r .waits .n) (λ b. linkRight (r .link a b))
-          (allTo-at (r .waits .n) (λ a. allTo (r .waits .n) (λ b. linkRight (r .link a b))) (and-right (s && n && c && p) l e) a u v) b u′ v′;
-    }
-
-pub wellFormed-of : (r : Run) → WellFormed r → wellFormed r ≡ true
-unfolding wellFormed
-wellFormed-of r g =
-    let s : Bool = leb 1 (r .start) in
-    let n : Bool = leb (r .start) (r .waits .n) in
-    let c : Bool = leb (r .count) 2048 in
-    let p : Bool = allTo (r .waits .n) (processRight r) in
-    let l : Bool = allTo (r .waits .n) (λ a. allTo (r .waits .n) (λ b. linkRight (r .link a b))) in
-    and-both (s && n && c && p) l
-    (and-both (s && n && c) p
-    (and-both (s && n) c
-    (and-both s n (le-leb 1 (r .start) (g .start-low)) (le-leb (r .start) (r .waits .n) (g .start-high)))
-    (le-leb (r .count) 2048 (g .count)))
-    (allTo-of (r .waits .n) (processRight r) (g .processes)))
-    (allTo-of (r .waits .n) (λ a. allTo (r .waits .n) (λ b. linkRight (r .link a b)))
-    (λ a u v. allTo-of (r .waits .n) (λ b. linkRight (r .link a b)) (λ b u′ v′. g .links a b u v u′ v′)))
+wellFormed-P r =
+    tells-map
+    (λ s. record { start-low = s .0 .0 .0 .0; start-high = s .0 .0 .0 .1; count = s .0 .0 .1; processes = λ p l u. s .0 .1 p (l, u); links = λ a b l u l′ u′. s .1 a (l, u) b (l′, u′) })
+    (λ s. ((((s .start-low, s .start-high), s .count), λ p q. s .processes p (q .0) (q .1)), λ a q b q′. s .links a b (q .0) (q .1) (q′ .0) (q′ .1)))
+    (tells-both (tells-both (tells-both (tells-both (tells-le 1 (r .start)) (tells-le (r .start) (r .waits .n))) (tells-le (r .count) 2048)) (each (processRight r))) (tells-all (r .waits .n) (λ a. allTo (r .waits .n) (λ b. linkRight (r .link a b))) (λ a. (b : ℕ) → (1 ≤ b) × (b ≤ r .waits .n) → linkRight (r .link a b) ≡ true) (λ a l u. each (λ b. linkRight (r .link a b)))))
+  where
+    each : (p : ℕ → Bool) → Tells (allTo (r .waits .n) p) ((k : ℕ) → (1 ≤ k) × (k ≤ r .waits .n) → p k ≡ true)
+    each p = tells-all (r .waits .n) p (λ k. p k ≡ true) (λ k l u. tells-id (p k))
 
 -- ---- a record in range
 

@@ -18,7 +18,7 @@ use Rattle.tables.specs.Waits.{waitsOf, neighbours, outDegree, inDegree}
 use Rattle.tables.specs.Chains.{joins, degree}
 use Rattle.areas.specs.Area.{linkPlace, linkOf}
 use Rattle.areas.specs.Squares.{cell, joinsBy, joinedBy, placeBy, Square}
-use Rattle.areas.specs.ArcNumbers.{arcOf-waits}
+use Rattle.areas.specs.Arcs.{arcOf-waits}
 
 module _ (t : Fields) (sq : List ℕ) (s : Square t sq) where
   -- a number that is not 0 says that a waits for b

@@ -16,7 +16,7 @@ use Rattle.tables.specs.Waits.{waitsOf, neighbours}
 use Rattle.checks.specs.Run.{Run}
 use Rattle.areas.specs.Area.{areaLength, fieldPlace, fieldCount, recordPlace, linkPlace, linkOf, knotCheck, recordWord, linkWord, arcWord, wordOf, stored}
 use Rattle.areas.specs.Words.{front, front-long, front-at, front-past, front-of, front-cong, front-again}
-use Rattle.areas.specs.Arcs.{LinkAt, first-half, second-half, linkOf?}
+use Rattle.areas.specs.Arcs.{LinkAt, forth, back, linkOf-at}
 use Rattle.areas.specs.WordLaws.{wordOf-head, wordOf-free, wordOf-field, wordOf-record, wordOf-arc, wordOf-link}
 
 -- the words that start needs for a table
@@ -49,11 +49,11 @@ unfolding linkPlace
 linkPlace-fits t k l u = omega arith
 
 pub linkOf-fits : (t : Fields) (a b : ℕ) → neighbours (waitsOf t) a b ≡ true → linkOf t a b + 8 ≤ areaOf t
-linkOf-fits t a b n = at (linkOf? t a b n)
+linkOf-fits t a b n = at (linkOf-at t a b n)
   where
     at : LinkAt t a b → linkOf t a b + 8 ≤ areaOf t
-    at (first-half k j e) = omega (arith, linkPlace-fits t k (j .low) (j .high))
-    at (second-half k j z e) = omega (arith, linkPlace-fits t k (j .low) (j .high))
+    at (forth k j e) = omega (arith, linkPlace-fits t k (j .0 .0) (j .0 .1))
+    at (back k j y e) = omega (arith, linkPlace-fits t k (j .0 .0) (j .0 .1))
 
 -- ---- the words by what they hold
 

@@ -1,5 +1,6 @@
 -- Word by word: which word of an area stands where, and that every word of an area is one of these.
 --   wordOf-head, wordOf-free, wordOf-field, wordOf-record, wordOf-arc, wordOf-link   == the words of the heading, the copied table, a record, an arc's two links, one link
+--   arcWord-forth, arcWord-back, arcWord-free   == the words of an arc's two links, and zeros where it has no link back
 --   Place t k         == word k is of the heading, of the table, of a record, or of an arc's links; place? finds which
 -- Assumes nothing.
 use Prim.Native.Nat.{ℕ, zero, suc, _+_, _-_, _*_, _/_, _%_, _≤_, _<_}
@@ -8,12 +9,12 @@ use mathlib.Core.Path.{_≡_, refl, ap₂, _∙_}
 use native.Mathlib.Omega.{arith}
 use borrow.Author.Tests.{lt-ltb, le-ltb}
 use lib.IntN.{pos}
+use Rattle.base.specs.Choice.{Below, below, beyond, below?}
 use Rattle.tables.specs.Table.{Fields, nOf, mOf, arcAt}
 use Rattle.tables.specs.Waits.{waitsOf, neighbours}
 use Rattle.checks.specs.Run.{Run}
-use Rattle.areas.specs.Area.{areaLength, fieldPlace, fieldCount, recordPlace, linkPlace, arcOf, linkOf, headWord, recordWord, linkWord, hasBack, arcWord, wordOf}
-use Rattle.areas.specs.Words.{Below, below, beyond, below?}
-use Rattle.areas.specs.Arcs.{Joins, LinkAt, first-half, second-half, linkOf?}
+use Rattle.areas.specs.Area.{areaLength, fieldPlace, fieldCount, recordPlace, linkPlace, linkOf, headWord, recordWord, linkWord, hasBack, arcWord, wordOf}
+use Rattle.areas.specs.Arcs.{LinkAt, forth, back, linkOf-at}
 
 -- ---- the words of each kind
 
@@ -82,38 +83,32 @@ wordOf-arc t r k j l h = wordOf-inLinks t r (linkPlace t k + j) k j (linkPlace-i
 -- ---- an arc's links
 
 -- the first eight words of an arc
-pub arcWord-first : (t : Fields) (r : Run) (k j : ℕ) → j < 8 → arcWord t r k j ≡ linkWord (r .link (arcAt t k .from) (arcAt t k .to)) j
+pub arcWord-forth : (t : Fields) (r : Run) (k j : ℕ) → j < 8 → arcWord t r k j ≡ linkWord (r .link (arcAt t k .from) (arcAt t k .to)) j
 unfolding arcWord
-arcWord-first t r k j h = rw (lt-ltb j 8 h)
+arcWord-forth t r k j h = rw (lt-ltb j 8 h)
 
 -- the next eight, with the link back and without
-pub arcWord-second : (t : Fields) (r : Run) (k j : ℕ) → hasBack t k ≡ true → arcWord t r k (8 + j) ≡ linkWord (r .link (arcAt t k .to) (arcAt t k .from)) j
+pub arcWord-back : (t : Fields) (r : Run) (k j : ℕ) → hasBack t k ≡ true → arcWord t r k (8 + j) ≡ linkWord (r .link (arcAt t k .to) (arcAt t k .from)) j
 unfolding arcWord
-arcWord-second t r k j b =
+arcWord-back t r k j b =
     let e : 8 + j - 8 ≡ j = omega arith in
     rw (le-ltb (8 + j) 8 (omega arith), b, e)
 
-pub arcWord-without : (t : Fields) (r : Run) (k j : ℕ) → 8 ≤ j → hasBack t k ≡ false → arcWord t r k j ≡ pos 0
+pub arcWord-free : (t : Fields) (r : Run) (k j : ℕ) → 8 ≤ j → hasBack t k ≡ false → arcWord t r k j ≡ pos 0
 unfolding arcWord
-arcWord-without t r k j h b = rw (le-ltb j 8 h, b)
-
-pub hasBack-of : (t : Fields) (k a b : ℕ) → Joins t k b a → arcOf t a b ≡ 0 → hasBack t k ≡ true
-unfolding hasBack
-hasBack-of t k a b j e = rw (j .from, j .to, e)
+arcWord-free t r k j h b = rw (le-ltb j 8 h, b)
 
 -- the link between two neighbours, wherever it stands
 pub wordOf-link : (t : Fields) (r : Run) (a b j : ℕ) → neighbours (waitsOf t) a b ≡ true → j < 8 → wordOf t r (linkOf t a b + j) ≡ linkWord (r .link a b) j
-wordOf-link t r a b j n h = at (linkOf? t a b n)
+wordOf-link t r a b j n h = at (linkOf-at t a b n)
   where
     at : LinkAt t a b → wordOf t r (linkOf t a b + j) ≡ linkWord (r .link a b) j
-    at (first-half k i e) =
-        rw e (wordOf-arc t r k j (i .low) (omega arith) ∙ arcWord-first t r k j h ∙ ap₂ (λ (x y : ℕ). linkWord (r .link x y) j) (i .from) (i .to))
-    at (second-half k i z e) =
+    at (forth k i e) =
+        rw e (wordOf-arc t r k j (i .0 .0) (omega arith) ∙ arcWord-forth t r k j h ∙ ap₂ (λ (x y : ℕ). linkWord (r .link x y) j) (i .1) (i .2))
+    at (back k i y e) =
         let s : linkPlace t k + 8 + j ≡ linkPlace t k + (8 + j) = omega arith in
         rw (e, s)
-        (wordOf-arc t r k (8 + j) (i .low) (omega arith)
-        ∙ arcWord-second t r k j (hasBack-of t k a b i z)
-        ∙ ap₂ (λ (x y : ℕ). linkWord (r .link x y) j) (i .to) (i .from))
+        (wordOf-arc t r k (8 + j) (i .0 .0) (omega arith) ∙ arcWord-back t r k j y ∙ ap₂ (λ (x y : ℕ). linkWord (r .link x y) j) (i .2) (i .1))
 
 -- ---- every word is one of these
 

@@ -2,35 +2,21 @@
 --   front n f w       == f 0 to f (n − 1), then w from its word n on
 --   wordsTo-..        == length and words of wordsTo
 --   front-..          == length and words of front, what a store does to it, and when two are the same
---   below? m n        == m is below n or not, with the test's value
 --   Outside i m k     == k is not one of the m indices from i on
 -- Assumes nothing.
 use Prim.Native.Nat.{ℕ, zero, suc, _+_, _-_, _≤_, _<_}
-use mathlib.Core.Bool.{Bool, true, false}
 use mathlib.Core.List.{List, [], _∷_, _++_}
 use mathlib.Core.Path.{_≡_, refl, sym, ap, _∙_}
 use mathlib.Core.Logic.{_⊎_, inl, inr}
 use native.Mathlib.Nat.{le-of-suc-le-suc}
 use native.Mathlib.Omega.{arith}
-use borrow.Author.Tests.{ltb-true, ltb-false, eq-eqb, ne-eqb}
-use lib.Dec.{eqb, ltb}
+use borrow.Author.Tests.{eq-eqb, ne-eqb}
+use lib.Dec.{eqb}
 use lib.ListN.{length, getD, drop, set, length-append, length-drop, length-set, List·getD-append}
 use lib.Seq.{sets, ext-getD, getD-append-add, getD-drop, getD-set-same, getD-set-other}
 use lib.IntN.{ℤ, pos}
-use Rattle.base.specs.Choice.{choose, Same, same, apart, same?}
+use Rattle.base.specs.Choice.{choose, Same, same, apart, same?, Below, below, beyond, below?}
 use Rattle.areas.specs.Area.{wordsTo}
-
--- one number is below another or not, with the test's value
-pub data Below (m n : ℕ) : Type 0 where
-  below : m < n → ltb m n ≡ true → Below m n
-  beyond : n ≤ m → ltb m n ≡ false → Below m n
-
-belowBy : (m n : ℕ) (b : Bool) → ltb m n ≡ b → Below m n
-belowBy m n true e = below (ltb-true m n e) e
-belowBy m n false e = beyond (ltb-false m n e) e
-
-pub below? : (m n : ℕ) → Below m n
-below? m n = belowBy m n (ltb m n) refl
 
 -- ---- wordsTo
 

@@ -17,19 +17,19 @@ use lib.Dec.{eqb}
 use lib.ListN.{length, getD, set}
 use lib.Seq.{sets}
 use lib.IntN.{ℤ, pos}
-use Rattle.base.specs.Choice.{Same, same, apart, same?, Tested, passed, failed, tested, and-left, and-right}
+use Rattle.base.specs.Choice.{Same, same, apart, same?, Below, below, beyond, below?, Tested, passed, failed, tested, and-left, and-right}
 use Rattle.tables.specs.Table.{Fields, nOf, mOf, arcAt}
 use Rattle.tables.specs.Waits.{waitsOf, neighbours}
 use Rattle.tables.specs.Layout.{Right}
 use Rattle.steps.specs.declared.Message.{Message}
 use Rattle.steps.specs.declared.Process.{Process}
 use Rattle.checks.specs.Run.{Run}
-use Rattle.areas.specs.Area.{recordPlace, linkPlace, arcOf, linkOf, headWord, recordWord, codeOf, slotWord, linkWord, hasBack, arcWord, wordOf, stored}
+use Rattle.areas.specs.Area.{recordPlace, linkPlace, linkOf, headWord, recordWord, codeOf, slotWord, linkWord, hasBack, arcWord, wordOf, stored}
 use Rattle.areas.specs.Held.{putProcess, putLink, putCount}
 use Rattle.areas.specs.HeldLaws.{putProcess-at, putProcess-off, putLink-at, putLink-off}
-use Rattle.areas.specs.Words.{front-set, front-sets, Outside, Below, below, beyond, below?}
-use Rattle.areas.specs.Arcs.{linkOf-first, linkOf-second}
-use Rattle.areas.specs.WordLaws.{wordOf-head, wordOf-field, wordOf-record, wordOf-arc, wordOf-link, arcWord-first, arcWord-second, arcWord-without, Place, in-head, in-table, in-record, in-links, place?}
+use Rattle.areas.specs.Words.{front-set, front-sets, Outside}
+use Rattle.areas.specs.Arcs.{linkOf-arc, linkOf-back}
+use Rattle.areas.specs.WordLaws.{wordOf-head, wordOf-field, wordOf-record, wordOf-arc, wordOf-link, arcWord-forth, arcWord-back, arcWord-free, Place, in-head, in-table, in-record, in-links, place?}
 use Rattle.areas.specs.RunLaws.{linkWord-slot, linkWord-free}
 use Rattle.areas.specs.StoredLaws.{areaOf, stored-front, recordPlace-fits, linkOf-fits}
 
@@ -165,28 +165,26 @@ linkWord-same r a b ms x y i h = at (tested (eqb x a && eqb y b))
 module _ (t : Fields) (s : Right t) (r : Run) (a b : ℕ) (ms : List Message) where
   -- the words of an arc's links, but for those of the link from a to b that differ
   arcWord-link : (k c j : ℕ) → 1 ≤ c → c ≤ mOf t → j < 16 → k ≡ linkPlace t c + j → ((i : ℕ) → i < 8 → k ≡ linkOf t a b + i → linkWord ms i ≡ linkWord (r .link a b) i) → arcWord t (putLink r a b ms) c j ≡ arcWord t r c j
-  unfolding hasBack
   arcWord-link k c j l u h e f = at (below? j 8) (tested (hasBack t c))
     where
       back : hasBack t c ≡ true → 8 ≤ j → arcAt t c .to ≡ a → arcAt t c .from ≡ b → linkWord ms (j - 8) ≡ linkWord (r .link a b) (j - 8)
       back y v p q =
-          let z : arcOf t a b ≡ 0 = eqb-true (arcOf t a b) 0 (rw (p, q) at y) in
-          let o : linkOf t a b ≡ linkPlace t c + 8 = linkOf-second t s c a b (record { low = l; high = u; from = q; to = p }) z in
+          let o : linkOf t a b ≡ linkPlace t c + 8 = rw (p, q) at (linkOf-back t s c (l, u) y) in
           f (j - 8) (omega arith) (omega arith)
 
       at : Below j 8 → Tested (hasBack t c) → arcWord t (putLink r a b ms) c j ≡ arcWord t r c j
       at (below v _) _ =
-          arcWord-first t (putLink r a b ms) c j v
+          arcWord-forth t (putLink r a b ms) c j v
           ∙ linkWord-same r a b ms (arcAt t c .from) (arcAt t c .to) j
-          (λ p q. f j v (e ∙ ap (λ (n : ℕ). n + j) (sym (linkOf-first t s c a b (record { low = l; high = u; from = p; to = q })))))
-          ∙ sym (arcWord-first t r c j v)
-      at (beyond v _) (failed n) = arcWord-without t (putLink r a b ms) c j v n ∙ sym (arcWord-without t r c j v n)
+          (λ p q. f j v (e ∙ ap (λ (n : ℕ). n + j) (sym (rw (p, q) at (linkOf-arc t s c (l, u))))))
+          ∙ sym (arcWord-forth t r c j v)
+      at (beyond v _) (failed n) = arcWord-free t (putLink r a b ms) c j v n ∙ sym (arcWord-free t r c j v n)
       at (beyond v _) (passed y) =
           let g : j ≡ 8 + (j - 8) = omega arith in
           rw g
-          (arcWord-second t (putLink r a b ms) c (j - 8) y
+          (arcWord-back t (putLink r a b ms) c (j - 8) y
           ∙ linkWord-same r a b ms (arcAt t c .to) (arcAt t c .from) (j - 8) (back y v)
-          ∙ sym (arcWord-second t r c (j - 8) y))
+          ∙ sym (arcWord-back t r c (j - 8) y))
 
   -- the words of the link from a to b that differ are all that changes
   wordOf-putLink : (k : ℕ) → k < areaOf t → ((i : ℕ) → i < 8 → k ≡ linkOf t a b + i → linkWord ms i ≡ linkWord (r .link a b) i) → wordOf t (putLink r a b ms) k ≡ wordOf t r k

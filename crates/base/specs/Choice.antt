@@ -1,13 +1,18 @@
 -- Choice by a test.
 --   choose b x y   == x if the test b passed, y if not
 --   bit b          == 1 if the test b passed, 0 if not
--- Each law is named choose-.., bit-.. after its definition. Assumes nothing.
-use Prim.Native.Nat.{ℕ, _≤_, _+_, _*_}
-use mathlib.Core.Bool.{Bool, true, false, not, _&&_, _||_}
-use mathlib.Core.Path.{_≡_, refl, sym, subst}
+--   tested b, same? m n, below? m n   == a test and its value, to be split by clauses in a helper
+-- Laws that are cited most:
+--   bit-≤1         == it is at most 1
+--   and-left, and-right, and-both, and-three, or-cases, or-left, or-right, or-none   == both of two tests, or one of them
+--   value-not, value-yes   == what a branch on a negated test says, where a callee's promise gives the test's value
+-- Assumes nothing.
+use Prim.Native.Nat.{ℕ, _≤_, _<_}
+use mathlib.Core.Bool.{Bool, true, false, not, _&&_, _||_, false≢true}
+use mathlib.Core.Path.{_≡_, refl, sym, _∙_}
 use mathlib.Core.Logic.{_⊎_, inl, inr}
-use lib.Dec.{T, eqb, eqb→eq}
-use borrow.Author.Tests.{eqb-true, eqb-false}
+use lib.Dec.{eqb, ltb}
+use borrow.Author.Tests.{eqb-true, eqb-false, ltb-true, ltb-false, not-true, not-false}
 use native.Mathlib.Omega.{arith}
 
 module _ {ℓ} {A : Type ℓ} where
@@ -44,6 +49,25 @@ sameBy m n false e = apart (eqb-false m n e) e
 pub same? : (m n : ℕ) → Same m n
 same? m n = sameBy m n (eqb m n) refl
 
+-- one number is below another or not, with the test's value
+pub data Below (m n : ℕ) : Type 0 where
+  below : m < n → ltb m n ≡ true → Below m n
+  beyond : n ≤ m → ltb m n ≡ false → Below m n
+
+belowBy : (m n : ℕ) (b : Bool) → ltb m n ≡ b → Below m n
+belowBy m n true e = below (ltb-true m n e) e
+belowBy m n false e = beyond (ltb-false m n e) e
+
+pub below? : (m n : ℕ) → Below m n
+below? m n = belowBy m n (ltb m n) refl
+
+-- the branch on a negated test was taken: the test failed; it was left: the test passed
+pub value-not : {b v : Bool} → b ≡ v → not b ≡ true → v ≡ false
+value-not {b} p h = sym p ∙ not-true b h
+
+pub value-yes : {b v : Bool} → b ≡ v → not b ≡ false → v ≡ true
+value-yes {b} p h = sym p ∙ not-false b h
+
 -- both of two tests, from their conjunction, and back
 pub and-left : (a b : Bool) → (a && b) ≡ true → a ≡ true
 and-left true b e = refl
@@ -57,6 +81,9 @@ pub and-both : (a b : Bool) → a ≡ true → b ≡ true → (a && b) ≡ true
 and-both true b p q = q
 and-both false b p q = p
 
+pub and-three : (a b c : Bool) → (a && b && c) ≡ true → (a ≡ true) × (b ≡ true) × (c ≡ true)
+and-three a b c e = (and-left a b (and-left (a && b) c e), and-right a b (and-left (a && b) c e), and-right (a && b) c e)
+
 pub or-cases : (a b : Bool) → (a || b) ≡ true → (a ≡ true) ⊎ (b ≡ true)
 or-cases true b e = inl refl
 or-cases false b e = inr e
@@ -68,3 +95,7 @@ or-left false b p = elim b [ true ↦ refl | false ↦ p ]
 pub or-right : (a b : Bool) → b ≡ true → (a || b) ≡ true
 or-right true b p = refl
 or-right false b p = p
+
+pub or-none : (a b : Bool) → (a || b) ≡ false → (a ≡ false) × (b ≡ false)
+or-none true b e = absurd (false≢true (sym e))
+or-none false b e = (refl, e)

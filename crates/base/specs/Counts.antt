@@ -4,7 +4,7 @@
 --   InRange ks m   == each member of ks is 1 to m
 -- Laws that are cited most:
 --   sumTo-some, sumTo-one, sumTo-full, sumTo-least   == sums whose parts are 0 or 1, or at least 1
---   countTo-one, sumTo-pick, sumTo-pick-two   == a test that at most one number passes, and one part picked out of a sum
+--   countTo-most, countTo-one, sumTo-pick, sumTo-pick-two   == a test that at most one number passes, and one part picked out of a sum
 --   occ-of, occ-found, occ-twice, occ-once    == what is counted stands in the list, and where
 --   sumOver-occ, sumOver-length, occ-length   == a sum over a list is a sum over 1 to m, each number as often as it occurs
 -- Assumes nothing.
@@ -18,7 +18,7 @@ use lib.ListN.{length, getD}
 use native.Mathlib.Nat.{zero-mul, one-mul, mul-one, add-mul}
 use native.Mathlib.Omega.{arith}
 use Rattle.base.specs.Choice.{bit, bit-≤1, Tested, passed, failed, tested, Same, same, apart, same?}
-use Rattle.base.specs.Sums.{sumTo, anyTo, spot, spot-at, spot-off, sumTo-cong, sumTo-add, sumTo-zero, sumTo-part, sumTo-spot, sumTo-scale, sumTo-most, Found, anyTo-of, anyTo-found}
+use Rattle.base.specs.Sums.{sumTo, countTo, anyTo, spot, spot-at, spot-off, sumTo-cong, sumTo-add, sumTo-zero, sumTo-part, sumTo-spot, sumTo-scale, sumTo-most, Found, anyTo-of, anyTo-found}
 
 unfoldable pub occ : ℕ → List ℕ → ℕ
 occ k [] = 0
@@ -97,6 +97,11 @@ pub sumTo-least : (n : ℕ) (f : ℕ → ℕ) → ((k : ℕ) → 1 ≤ k → k �
 unfolding sumTo
 sumTo-least zero f h = omega arith
 sumTo-least (suc n) f h = omega (arith, sumTo-least n f (λ k l u. h k l (omega arith)), h (suc n) (omega arith) (omega arith))
+
+-- of 1 to n at most n pass a test
+pub countTo-most : (n : ℕ) (p : ℕ → Bool) → countTo n p ≤ n
+unfolding countTo
+countTo-most n p = omega (arith, sumTo-most n 1 (λ k. bit (p k)) (λ k l u. bit-≤1 (p k)))
 
 -- how many pass a test that at most one passes
 pub countTo-one : (n : ℕ) (p : ℕ → Bool) → ((j k : ℕ) → 1 ≤ j → j ≤ n → 1 ≤ k → k ≤ n → p j ≡ true → p k ≡ true → j ≡ k) → sumTo n (λ k. bit (p k)) ≡ bit (anyTo n p)

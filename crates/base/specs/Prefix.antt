@@ -1,12 +1,14 @@
 -- Laws for loops that test the numbers 1 to n in turn, with k the next number: what holds before the first turn, after one more turn, at a
 -- number that fails and after the last.
 --   allTo-none, allTo-more, allTo-stop, allTo-last   == each of 1 to n passes
+--   allTo-next    == one more turn, with k the number of turns so far
 --   allTo-not     == each fails exactly if not some passes
---   anyTo-more    == some passes, with one number more
+--   anyTo-none, anyTo-next   == some of 1 to n passes, with k the number of turns so far
 -- Assumes nothing.
 use Prim.Native.Nat.{ℕ, zero, suc, _+_, _-_, _≤_}
 use mathlib.Core.Bool.{Bool, true, false, not, _&&_, _||_}
 use mathlib.Core.Path.{_≡_, refl, sym, ap, _∙_}
+use native.Mathlib.Numerals.{add-one}
 use native.Mathlib.Omega.{arith}
 use Rattle.base.specs.Choice.{Tested, passed, failed, tested, and-both}
 use Rattle.base.specs.Sums.{allTo, anyTo, allTo-at}
@@ -19,10 +21,6 @@ pub anyTo-none : (p : ℕ → Bool) → anyTo 0 p ≡ false
 unfolding anyTo
 anyTo-none p = refl
 
--- the number k, as the successor of the one before it
-before : (k : ℕ) → 1 ≤ k → suc (k - 1) ≡ k
-before k l = omega arith
-
 allTo-suc : (n : ℕ) (p : ℕ → Bool) → allTo (suc n) p ≡ (allTo n p && p (suc n))
 unfolding allTo
 allTo-suc n p = refl
@@ -31,12 +29,14 @@ anyTo-suc : (n : ℕ) (p : ℕ → Bool) → anyTo (suc n) p ≡ (anyTo n p || p
 unfolding anyTo
 anyTo-suc n p = refl
 
+pub allTo-next : (k : ℕ) (p : ℕ → Bool) → allTo k p ≡ true → p (k + 1) ≡ true → allTo (k + 1) p ≡ true
+allTo-next k p e here = rw add-one (allTo-suc k p ∙ and-both (allTo k p) (p (suc k)) e (rw add-one at here))
+
 pub allTo-more : (k : ℕ) (p : ℕ → Bool) → 1 ≤ k → allTo (k - 1) p ≡ true → p k ≡ true → allTo (k + 1 - 1) p ≡ true
 allTo-more k p l e here =
-    let last : suc (k - 1) ≡ k = before k l in
-    let all : allTo (suc (k - 1)) p ≡ true = allTo-suc (k - 1) p ∙ and-both (allTo (k - 1) p) (p (suc (k - 1))) e (ap p last ∙ here) in
-    let end : suc (k - 1) ≡ k + 1 - 1 = omega arith in
-    sym (ap (λ (j : ℕ). allTo j p) end) ∙ all
+    let last : k - 1 + 1 ≡ k = omega arith in
+    let end : k + 1 - 1 ≡ k - 1 + 1 = omega arith in
+    ap (λ (j : ℕ). allTo j p) end ∙ allTo-next (k - 1) p e (ap p last ∙ here)
 
 pub allTo-stop : (n k : ℕ) (p : ℕ → Bool) → 1 ≤ k → k ≤ n → p k ≡ false → allTo n p ≡ false
 allTo-stop n k p l u here = at (tested (allTo n p))
@@ -59,8 +59,5 @@ allTo-not zero p = allTo-none (λ k. not (p k)) ∙ sym (ap not (anyTo-none p))
 allTo-not (suc n) p =
     allTo-suc n (λ k. not (p k)) ∙ not-and (allTo n (λ k. not (p k))) (anyTo n p) (p (suc n)) (allTo-not n p) ∙ sym (ap not (anyTo-suc n p))
 
-pub anyTo-more : (k : ℕ) (p : ℕ → Bool) → 1 ≤ k → anyTo (k + 1 - 1) p ≡ (anyTo (k - 1) p || p k)
-anyTo-more k p l =
-    let last : suc (k - 1) ≡ k = before k l in
-    let end : k + 1 - 1 ≡ suc (k - 1) = omega arith in
-    ap (λ (j : ℕ). anyTo j p) end ∙ anyTo-suc (k - 1) p ∙ ap (λ (j : ℕ). anyTo (k - 1) p || p j) last
+pub anyTo-next : (k : ℕ) (p : ℕ → Bool) → anyTo (k + 1) p ≡ (anyTo k p || p (k + 1))
+anyTo-next k p = rw add-one (anyTo-suc k p)

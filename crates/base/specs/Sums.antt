@@ -5,9 +5,9 @@
 --   anyTo n p      == some of 1 to n passes the test p
 --   spot i v k     == v at the index i, and 0 at every other
 -- Each law is named after its definition. Assumes nothing.
-use Prim.Native.Nat.{ℕ, zero, suc, _+_, _*_, _≤_, _<_}
-use mathlib.Core.Bool.{Bool, true, false, not, _&&_, _||_}
-use mathlib.Core.Path.{_≡_, refl, sym, ap, _∙_, subst}
+use Prim.Native.Nat.{ℕ, zero, suc, _+_, _*_, _≤_}
+use mathlib.Core.Bool.{Bool, true, false, _&&_, _||_}
+use mathlib.Core.Path.{_≡_, refl, sym, _∙_, subst}
 use mathlib.Core.Logic.{⊎-elim}
 use lib.Dec.{eqb}
 use native.Mathlib.Omega.{arith}
@@ -174,6 +174,17 @@ unfolding allTo
 allTo-of zero p h = refl
 allTo-of (suc n) p h =
     and-both (allTo n p) (p (suc n)) (allTo-of n p (λ k l u. h k l (omega arith))) (h (suc n) (omega arith) (omega arith))
+
+-- tests that agree from 1 to n
+pub allTo-cong : (n : ℕ) (p q : ℕ → Bool) → ((k : ℕ) → 1 ≤ k → k ≤ n → p k ≡ q k) → allTo n p ≡ allTo n q
+unfolding allTo
+allTo-cong zero p q h = refl
+allTo-cong (suc n) p q h = rw (allTo-cong n p q (λ k l u. h k l (omega arith)), h (suc n) (omega arith) (omega arith))
+
+pub anyTo-cong : (n : ℕ) (p q : ℕ → Bool) → ((k : ℕ) → 1 ≤ k → k ≤ n → p k ≡ q k) → anyTo n p ≡ anyTo n q
+unfolding anyTo
+anyTo-cong zero p q h = refl
+anyTo-cong (suc n) p q h = rw (anyTo-cong n p q (λ k l u. h k l (omega arith)), h (suc n) (omega arith) (omega arith))
 
 pub anyTo-of : (n : ℕ) (p : ℕ → Bool) (k : ℕ) → 1 ≤ k → k ≤ n → p k ≡ true → anyTo n p ≡ true
 unfolding anyTo

@@ -1,7 +1,5 @@
 // The fixed order of running on: "lowest sender first and then lowest receiver among links with a message". It stands alone so that another
 // order is another function beside it.
-use areas::squares;
-use areas::words;
 use checks::Delivery;
 use moves::delivering;
 use steps::Message;
@@ -30,19 +28,6 @@ pub enum Lowest {
     Refused(u32),
 }
 
-// How many messages wait on the link from a to b; 0 if there is no link.
-pub fn waiting(area: &[i32], square: &[u16; 16641], n: usize, m: usize, a: usize, b: usize) -> usize
-    requires { ⌜ Ready (now area) (now square) n m ⌝ }
-    requires { ⌜ (1 ≤ a) × (a ≤ n) ⌝ }
-    requires { ⌜ (1 ≤ b) × (b ≤ n) ⌝ }
-    ensures { λ r. ⌜ r ≡ length (runIn (now (area .entry)) .link a b) ⌝ }
-{
-    if !squares::joined(square, a, b) {
-        return 0;
-    }
-    words::link_length(area, squares::place(square, n, m, a, b))
-}
-
 // How many messages wait on all links from a.
 pub fn load_of(area: &[i32], square: &[u16; 16641], n: usize, m: usize, a: usize) -> usize
     requires { ⌜ Ready (now area) (now square) n m ⌝ }
@@ -53,7 +38,7 @@ pub fn load_of(area: &[i32], square: &[u16; 16641], n: usize, m: usize, a: usize
     let end = n + 1;
     let mut l = 0;
     for b in 1..end {
-        l += waiting(area, square, n, m, a, b);
+        l += delivering::load(area, square, n, m, a, b);
     }
     l
 }
@@ -108,7 +93,7 @@ pub fn choose(
     'scan: for a in 1..end {
         if loads[a] != 0 {
             for b in 1..end {
-                if waiting(area, square, n, m, a, b) != 0 {
+                if delivering::load(area, square, n, m, a, b) != 0 {
                     from = a;
                     to = b;
                     break 'scan;

@@ -2,28 +2,26 @@
 --   sum-spot            == many spots at one index are one spot of their sum
 --   pending-moved       == how a delivery changes what is pending from i to j, for every pair
 --   pending-probes, pending-acks   == what waits on a link is pending
---   neighbours-swap     == neighbours are so both ways
 --   allowed-neighbours  == probes go to neighbours alone
---   probe-or-ack        == a message is a probe or an acknowledgement
 --   between-neighbours  == messages wait between neighbours alone
 --   diffusing-kept      == a delivery keeps Diffusing
 -- Assumes nothing.
 use Prim.Native.Nat.{ℕ, _+_, _*_, _≤_}
 use mathlib.Core.Bool.{Bool, true, false, _||_}
 use mathlib.Core.Path.{_≡_, refl, ap, _∙_}
-use mathlib.Core.Logic.{_⊎_, inl, inr, ⊎-elim}
+use mathlib.Core.Logic.{_⊎_, inl, inr}
 use native.Mathlib.Nat.{add-mul, eq-zero-or-pos}
 use native.Mathlib.Omega.{arith}
 use lib.Dec.{eqb}
-use Rattle.base.specs.Choice.{choose, bit, Same, same, apart, same?, or-left, or-right, or-cases}
+use Rattle.base.specs.Choice.{choose, bit, Same, same, apart, same?}
 use Rattle.base.specs.Sums.{sumTo, spot, spot-at, spot-off, sumTo-cong, sumTo-add, sumTo-zero, sumTo-spot}
 use Rattle.tables.specs.Waits.{Waits, Sound, outDegree, inDegree, neighbours}
+use Rattle.tables.specs.WaitsLaws.{neighbours-swap}
 use Rattle.steps.specs.declared.Message.{Message}
-use Rattle.steps.specs.declared.Message.the-variants.{Suc, Pre, Ack}
 use Rattle.steps.specs.Step.{Turn}
 use Rattle.checks.specs.Run.{Run, sentTo, replyTo}
 use Rattle.checks.specs.Lists.{IsProcess}
-use Rattle.ending.specs.Weights.{load, isProbe, isAck, edge, spot2, total, sumOf, heirOf, pending, allowed, sends, sucsOf, presOf}
+use Rattle.ending.specs.Weights.{load, isProbe, isAck, probe-or-ack, edge, spot2, total, sumOf, heirOf, pending, allowed, sends, sucsOf, presOf}
 use Rattle.ending.specs.Moved.{Moved, sum-moved, sumOf-moved, total-moved}
 use Rattle.ending.specs.Sent.{sent-probe, sent-ack, sum-probes}
 use Rattle.ending.specs.Effect.{Effect}
@@ -99,10 +97,6 @@ pub pending-acks : (s : ℕ) (r : Run) (i j : ℕ) → load isAck (r .link j i) 
 unfolding pending
 pending-acks s r i j = omega arith
 
-pub neighbours-swap : (w : Waits) (i j : ℕ) → neighbours w i j ≡ true → neighbours w j i ≡ true
-unfolding neighbours
-neighbours-swap w i j e = ⊎-elim (or-right (w .waits j i) (w .waits i j)) (or-left (w .waits j i) (w .waits i j)) (or-cases (w .waits i j) (w .waits j i) e)
-
 -- a probe goes along a wait, one way or the other
 pub allowed-neighbours : (w : Waits) (r : Run) (i j : ℕ) → 1 ≤ allowed w r i j → neighbours w i j ≡ true
 unfolding allowed neighbours
@@ -118,15 +112,10 @@ pub between-neighbours : {w : Waits} {s : ℕ} {r : Run} → Diffusing w s r →
 between-neighbours {w} {s} {r} df {a} {b} pa pb h = at (eq-zero-or-pos (load isProbe (r .link a b)))
   where
     at : (load isProbe (r .link a b) ≡ 0) ⊎ (1 ≤ load isProbe (r .link a b)) → neighbours w a b ≡ true
-    at (inl e) = neighbours-swap w b a (allowed-neighbours w r b a (omega (arith, pending-acks s r b a, df .pair b a pb pa)))
+    at (inl e) = neighbours-swap w a b ∙ (allowed-neighbours w r b a (omega (arith, pending-acks s r b a, df .pair b a pb pa)))
     at (inr e) = allowed-neighbours w r a b (omega (arith, pending-probes s r a b, df .pair a b pa pb))
 
 -- ---- a delivery
-
-pub probe-or-ack : (m : Message) → isProbe m + isAck m ≡ 1
-probe-or-ack Suc = refl
-probe-or-ack Pre = refl
-probe-or-ack (Ack c) = refl
 
 module _ {w : Waits} {s : ℕ} {r q : Run} {a b : ℕ} {m : Message} {t : Turn} (df : Diffusing w s r) (pa : IsProcess w a) (pb : IsProcess w b) (mv : Moved w r a b m t q) (ef : Effect (eqb b s) m (outDegree w b) (inDegree w b) a (r .process b) t) where
   sum-pending : (i : ℕ) → sumTo (w .n) (λ j. pending s q i j) + spot b (isAck m) i ≡ sumTo (w .n) (λ j. pending s r i j) + spot b (sucsOf t * outDegree w b + presOf t * inDegree w b) i
@@ -195,7 +184,7 @@ module _ {w : Waits} {s : ℕ} {r q : Run} {a b : ℕ} {m : Message} {t : Turn} 
 
   -- the message that is delivered waited between neighbours
   sender-neighbour : neighbours w b a ≡ true
-  sender-neighbour = neighbours-swap w a b (between-neighbours df pa pb (omega (arith, probe-or-ack m, mv .waited isProbe, mv .waited isAck)))
+  sender-neighbour = neighbours-swap w b a ∙ (between-neighbours df pa pb (omega (arith, probe-or-ack m, mv .waited isProbe, mv .waited isAck)))
 
   kept-fathers : (j : ℕ) → IsProcess w j → (q .process j .father ≡ 0) ⊎ (neighbours w j (q .process j .father) ≡ true)
   kept-fathers j pj = at (same? j b) father-cases

@@ -11,22 +11,14 @@ use lib.Dec.{eqb}
 use Rattle.base.specs.Choice.{choose, bit, Same, same, apart, same?}
 use Rattle.base.specs.Sums.{sumTo, countTo, spot, spot-off, sumTo-cong, sumTo-add, sumTo-spot}
 use Rattle.tables.specs.Waits.{Waits, Sound, outDegree, inDegree}
-use Rattle.steps.specs.declared.Message.{Message}
 use Rattle.steps.specs.declared.Message.the-variants.{Suc, Pre}
 use Rattle.steps.specs.Step.{idle}
 use Rattle.checks.specs.Run.{one, started, startRun}
 use Rattle.checks.specs.Lists.{IsProcess}
 use Rattle.ending.specs.Weights.{load, isProbe, isAck, edge, total, sumOf, heirOf, pending, allowed, sends}
 use Rattle.ending.specs.Invariants.{Diffusing}
+use Rattle.ending.specs.Sent.{sent-first}
 use Rattle.ending.specs.Counting.{sum-spot}
-
--- the weight of the start's links: a suc for each successor, a pre for each predecessor
-first-load : (μ : Message → ℕ) (c d : Bool) → load μ (one c Suc ++ one d Pre) ≡ bit c * μ Suc + bit d * μ Pre
-unfolding load
-first-load μ true true = omega arith
-first-load μ true false = omega arith
-first-load μ false true = omega arith
-first-load μ false false = omega arith
 
 module _ (w : Waits) (s : ℕ) where
   -- what the start sends to j
@@ -42,7 +34,7 @@ module _ (w : Waits) (s : ℕ) where
   start-probes i j = at (eqb i s)
     where
       at : (c : Bool) → load isProbe (choose c (one (w .waits s j) Suc ++ one (w .waits j s) Pre) []) ≡ choose c (edge w s j + edge w j s) 0
-      at true = first-load isProbe (w .waits s j) (w .waits j s) ∙ omega arith
+      at true = sent-first isProbe (w .waits s j) (w .waits j s) ∙ omega arith
       at false = refl
 
   start-acks : (i j : ℕ) → load isAck (startRun w s .link i j) ≡ 0
@@ -50,7 +42,7 @@ module _ (w : Waits) (s : ℕ) where
   start-acks i j = at (eqb i s)
     where
       at : (c : Bool) → load isAck (choose c (one (w .waits s j) Suc ++ one (w .waits j s) Pre) []) ≡ 0
-      at true = first-load isAck (w .waits s j) (w .waits j s) ∙ omega arith
+      at true = sent-first isAck (w .waits s j) (w .waits j s) ∙ omega arith
       at false = refl
 
   start-heir : (i j : ℕ) → heirOf (eqb j s) (startRun w s .process j) i ≡ 0

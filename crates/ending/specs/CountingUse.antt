@@ -21,9 +21,9 @@ use Rattle.tables.specs.Waits.{Waits, Sound, neighbours}
 use Rattle.steps.specs.declared.Message.{Message}
 use Rattle.checks.specs.Run.{Run}
 use Rattle.checks.specs.Lists.{IsProcess}
-use Rattle.ending.specs.Weights.{load, isProbe, isAck, total, sumOf, heirOf, pending, allowed, sends}
+use Rattle.ending.specs.Weights.{load, isProbe, isAck, probe-or-ack, total, sumOf, heirOf, pending, allowed, sends}
 use Rattle.ending.specs.Invariants.{Tidy, Diffusing}
-use Rattle.ending.specs.Counting.{pending-probes, pending-acks, probe-or-ack, between-neighbours}
+use Rattle.ending.specs.Counting.{pending-probes, pending-acks, between-neighbours}
 
 -- a message waits on some link
 pub record SomeWaits (w : Waits) (r : Run) : Type 0 where

@@ -4,41 +4,39 @@
 --   promised         == of a run that holds the invariants and was made by A deliveries, all that the promise says
 --   ending           == THE THEOREM: after every list of calls on an accepted start, the promise holds
 -- Assumes nothing.
-use Prim.Native.Nat.{ℕ, zero, suc, _+_, _*_, _≤_}
-use mathlib.Core.Bool.{Bool, true, false, not, _&&_, _||_, true≢false, false≢true}
-use mathlib.Core.List.{List, [], _∷_, _++_, List·Memᴰ, List·Memᴰ·append-cases, List·Memᴰ·eq-of-singleton, List·Memᴰ·not-nil}
+use Prim.Native.Nat.{ℕ, zero, suc, _+_, _≤_}
+use mathlib.Core.Bool.{Bool, true, false, not, _||_, false≢true}
+use mathlib.Core.List.{List, [], _∷_, List·Memᴰ, List·Memᴰ·append-cases, List·Memᴰ·eq-of-singleton, List·Memᴰ·not-nil}
 use mathlib.Core.Path.{_≡_, refl, sym, ap, _∙_, subst}
-use mathlib.Core.Logic.{_⊎_, ⊎-elim, _↔_}
+use mathlib.Core.Logic.{⊎-elim, _↔_}
 use native.Mathlib.Omega.{arith}
-use borrow.Author.Tests.{eqb-true, eqb-false, eq-eqb, ne-eqb}
+use borrow.Author.Tests.{eqb-true, eqb-false}
 use lib.Dec.{eqb, ltb}
-use lib.ListN.{length}
-use lib.IntN.{ℤ, pos}
+use lib.IntN.{pos}
 use Rattle.base.specs.Choice.{choose, bit, Tested, passed, failed, tested, Same, same, apart, same?}
 use Rattle.base.specs.Sums.{sumTo, countTo, sumTo-parts, sumTo-zero}
 use Rattle.tables.specs.Waits.{Waits, Sound, neighbours}
+use Rattle.tables.specs.WaitsLaws.{neighbours-ends}
 use Rattle.steps.specs.declared.Message.{Message}
-use Rattle.steps.specs.declared.Process.{Process}
 use Rattle.checks.specs.declared.Delivery.{Delivery}
 use Rattle.checks.specs.declared.Delivery.the-variants.{Delivered}
 use Rattle.checks.specs.declared.Ran.{Ran}
 use Rattle.checks.specs.declared.Ran.the-variants.{Spent}
-use Rattle.checks.specs.declared.Verdict.{Verdict}
 use Rattle.checks.specs.declared.Verdict.the-variants.{Knot, Free}
 use Rattle.checks.specs.declared.Report.{Report}
 use Rattle.checks.specs.declared.Reading.{Reading}
 use Rattle.checks.specs.declared.Reading.the-variants.{Found}
-use Rattle.checks.specs.Run.{Run, over, startRun, after, accepts, wellFormed}
-use Rattle.checks.specs.Calls.{Picked, refused, delivered, deliver, pick, Choice, nobody, pair, waiting, lowest, RanOn, deliverOn, goOn, runFrom, runOn, Escape, named, none, verdictOf, markOf, reported, report, readRecord, deliveryNumber, ranNumber, ranMade, reportNumber, readingNumber}
-use Rattle.checks.specs.Reach.{reaches, inKnot, outsider, outsiders, dOf}
+use Rattle.checks.specs.Run.{Run, over, startRun, after}
+use Rattle.checks.specs.Calls.{Picked, refused, delivered, deliver, pick, Choice, nobody, pair, lowest, RanOn, deliverOn, goOn, runFrom, runOn, Escape, named, none, verdictOf, markOf, reported, report, readRecord, deliveryNumber, ranNumber, ranMade, reportNumber, readingNumber}
+use Rattle.checks.specs.Reach.{inKnot, outsider, outsiders, dOf}
 use Rattle.checks.specs.Lists.{Call, picking, runningOn, reporting, reading, Passed, acceptedPick, passedBy, IsProcess, endSum, Ended, Waiting, Promise}
 use Rattle.checks.specs.Lists
-use Rattle.ending.specs.Weights.{sends, sumOf}
+use Rattle.ending.specs.Weights.{sumOf}
 use Rattle.ending.specs.Holds.{Holds, holds-start, holds-after, holds-formed, holds-accepts, holds-count}
 use Rattle.ending.specs.CountingUse.{SomeWaits, something-waits, link-neighbours, link-short, rest-empty, count-at-rest, count-below}
 use Rattle.ending.specs.Tree.{all-rest}
 use Rattle.ending.specs.SumBounds.{cs-end}
-use Rattle.ending.specs.ChooserLaws.{lowest-none, lowest-pair}
+use Rattle.ending.specs.ChooserLaws.{lowest-pair}
 use Rattle.ending.specs.SpreadEnd.{sends-most, succ-end, prec-end, sub-end, sends-end, outsiders-sum, knot-end}
 
 -- ---- one call
@@ -81,15 +79,6 @@ deliver-kept r h a b pa pb (m ∷ rest) l =
     subst (λ (p : Picked). PickKept r p) (sym (delivered-is r h a b pa pb m rest l))
     (record { kept = after-kept r h a b pa pb m rest l; no22 = λ e. absurd (eqb-false 0 22 refl e) })
 
--- neighbours are processes
-neighbour-in : (w : Waits) → Sound w → (a b : ℕ) → neighbours w a b ≡ true → IsProcess w a × IsProcess w b
-unfolding neighbours
-neighbour-in w sd a b e =
-    ⊎-elim
-    (λ (f : w .waits a b ≡ true). ((sd .from-low a b f, sd .from-high a b f), (sd .to-low a b f, sd .to-high a b f)))
-    (λ (f : w .waits b a ≡ true). ((sd .to-low b a f, sd .to-high b a f), (sd .from-low b a f, sd .from-high b a f)))
-    (Rattle.base.specs.Choice.or-cases (w .waits a b) (w .waits b a) e)
-
 pick-kept : (r : Run) → Holds r → (a b : ℕ) → PickKept r (pick r a b)
 unfolding pick
 pick-kept r h a b = rw (holds-formed r h) (at (tested (neighbours (r .waits) a b)) (tested (over r)))
@@ -98,8 +87,8 @@ pick-kept r h a b = rw (holds-formed r h) (at (tested (neighbours (r .waits) a b
     at (failed e) o = rw e (refused-kept r h 25 (λ q. absurd (eqb-false 25 22 refl q)))
     at (passed e) (passed o) = rw (e, o) (refused-kept r h 23 (λ q. absurd (eqb-false 23 22 refl q)))
     at (passed e) (failed o) =
-        let i : IsProcess (r .waits) a × IsProcess (r .waits) b = neighbour-in (r .waits) (h .sound) a b e in
-        rw (e, o) (deliver-kept r h a b (i .0) (i .1) (r .link a b) refl)
+        let i = neighbours-ends (r .waits) (h .sound) a b e in
+        rw (e, o) (deliver-kept r h a b (i .0, i .1) (i .2, i .3) (r .link a b) refl)
 
 -- ---- running on
 

@@ -16,7 +16,7 @@ use mathlib.Core.Path.{_≡_, refl, sym, ap, _∙_}
 use lib.Dec.{eqb}
 use lib.IntN.{ℤ, pos, negsuc}
 use borrow.Author.Tests.{eqb-true}
-use Rattle.base.specs.Choice.{choose, Tested, passed, failed, tested, and-left, and-right}
+use Rattle.base.specs.Choice.{choose, Tested, passed, failed, tested, and-left, and-right, and-three}
 use Rattle.base.specs.Sums.{sumTo, countTo, allTo, anyTo}
 use Rattle.tables.specs.Waits.{Waits, outDegree, inDegree, neighbours}
 use Rattle.steps.specs.Step.{small, inRange, countSmall, rule1, setSucceeding, setPreceding, newSubordinate, gained, rule3, rule4, acknowledged, turn, startTurn, numSuffices, replyFits, fitting}
@@ -144,12 +144,6 @@ overAfter-P d (Ran.Over made) h = ap Ran.Over (eqb-true made d h)
 overAfter-P d (Spent made) h = absurd (false≢true h)
 overAfter-P d (Ran.Refused n made) h = absurd (false≢true h)
 
--- each of three tests, from their conjunction
-three : (a b c : Bool) → (a && b && c) ≡ true → (a ≡ true) × (b ≡ true) × (c ≡ true)
-three a b c h =
-    let ab : (a && b) ≡ true = and-left (a && b) c h in
-    (and-left a b ab, and-right a b ab, and-right (a && b) c h)
-
 -- a report passes the process that it names as escape on, and is the same else
 reports-P : (x : PRow) (r : Run) → reports x (report r 0) ≡ true → (e : ℕ) → report r e ≡ Report.Over (x .d) (verdict x) (pos (x .outside)) e (markOf (verdict x))
 unfolding report reported reports
@@ -164,7 +158,7 @@ reports-P x r h e = at (tested (wellFormed r)) (tested (over r))
     at : Tested (wellFormed r) → Tested (over r) → choose (not (wellFormed r)) (Report.Refused 21) (choose (not (over r)) (Report.Refused 26) (reported r e)) ≡ Report.Over (x .d) (verdict x) (pos (x .outside)) e (markOf (verdict x))
     at (failed f) _ = absurd (false≢true (rw f at h))
     at (passed f) (failed g) = absurd (false≢true (rw (f, g) at h))
-    at (passed f) (passed g) = rw (f, g) (same (three (eqb (r .count) (x .d)) (agree (isKnot (verdictOf cs)) (x .knot)) (isAt cs (x .outside)) (rw (f, g) at h)))
+    at (passed f) (passed g) = rw (f, g) (same (and-three (eqb (r .count) (x .d)) (agree (isKnot (verdictOf cs)) (x .knot)) (isAt cs (x .outside)) (rw (f, g) at h)))
 
 -- ---- each row
 
@@ -172,7 +166,7 @@ reports-P x r h e = at (tested (wellFormed r)) (tested (over r))
 pub row-holds : (x : PRow) → List·Memᴰ x rows → (dOf (waitsFrom x) 1 ≡ x .d) × (inKnot (waitsFrom x) 1 ≡ x .knot) × (outsiders (waitsFrom x) 1 ≡ x .outside)
 unfolding holds defined
 row-holds x m =
-    let t : (eqb (dOf (waitsFrom x) 1) (x .d) ≡ true) × (agree (inKnot (waitsFrom x) 1) (x .knot) ≡ true) × (eqb (outsiders (waitsFrom x) 1) (x .outside) ≡ true) = three (eqb (dOf (waitsFrom x) 1) (x .d)) (agree (inKnot (waitsFrom x) 1) (x .knot)) (eqb (outsiders (waitsFrom x) 1) (x .outside)) (and-left (defined x) (runs x) (all-at holds rows rows-hold x m)) in
+    let t : (eqb (dOf (waitsFrom x) 1) (x .d) ≡ true) × (agree (inKnot (waitsFrom x) 1) (x .knot) ≡ true) × (eqb (outsiders (waitsFrom x) 1) (x .outside) ≡ true) = and-three (eqb (dOf (waitsFrom x) 1) (x .d)) (agree (inKnot (waitsFrom x) 1) (x .knot)) (eqb (outsiders (waitsFrom x) 1) (x .outside)) (and-left (defined x) (runs x) (all-at holds rows rows-hold x m)) in
     (eqb-true _ _ t.0, agree-P _ _ t.1, eqb-true _ _ t.2)
 
 -- running on from the start makes D deliveries and is over, and the report then gives the row, whichever process it names as escape

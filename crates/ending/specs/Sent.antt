@@ -1,18 +1,19 @@
 -- What a step puts on the links of its process, in weights.
 --   sent-suc, sent-pre, sent-probe, sent-ack   == how many messages of a kind a step of b puts on the link to q
+--   sent-first      == the weight of what the start puts on a link: a suc to a successor, a pre to a predecessor
 --   sent-count      == a weight of counts: only the acknowledgement has one
 --   sum-probes      == the probes sent on all links: as many as the degrees say
 --   reply-load      == the weight of an acknowledgement stands on the link to the process it is for
 --   sum-reply       == the acknowledgement stands on one link
 -- Assumes nothing.
-use Prim.Native.Nat.{ℕ, zero, suc, _+_, _*_, _≤_}
+use Prim.Native.Nat.{ℕ, _+_, _*_, _≤_}
 use mathlib.Core.Bool.{Bool, true, false}
-use mathlib.Core.List.{List, [], _∷_, _++_}
-use mathlib.Core.Path.{_≡_, refl, sym, ap, _∙_}
-use native.Mathlib.Nat.{one-mul, zero-mul, add-zero, zero-add}
+use mathlib.Core.List.{_++_}
+use mathlib.Core.Path.{_≡_, refl, _∙_}
+use native.Mathlib.Nat.{one-mul, zero-mul}
 use native.Mathlib.Omega.{arith}
 use lib.Dec.{eqb}
-use lib.IntN.{ℤ, pos}
+use lib.IntN.{ℤ}
 use Rattle.base.specs.Choice.{choose, bit}
 use Rattle.base.specs.Sums.{sumTo, spot, sumTo-cong, sumTo-add, sumTo-spot, sumTo-scale, sumTo-zero, countTo}
 use Rattle.tables.specs.Waits.{Waits, outDegree, inDegree}
@@ -24,13 +25,17 @@ use Rattle.steps.specs.declared.Reply.{Reply}
 use Rattle.steps.specs.declared.Reply.the-variants.{To}
 use Rattle.steps.specs.Step.{Turn}
 use Rattle.checks.specs.Run.{one, replyTo, probesTo, sentTo}
-use Rattle.ending.specs.Weights.{load, load-append, isSuc, isPre, isProbe, isAck, countOf, edge, sucsOf, presOf, replyCount}
+use Rattle.ending.specs.Weights.{load, load-append, isSuc, isPre, isProbe, isAck, edge, sucsOf, presOf}
 
 -- one message or none
 one-load : (μ : Message → ℕ) (b : Bool) (m : Message) → load μ (one b m) ≡ bit b * μ m
 unfolding load
 one-load μ true m = omega arith
 one-load μ false m = omega arith
+
+-- what the start puts on its links
+pub sent-first : (μ : Message → ℕ) (x y : Bool) → load μ (one x Suc ++ one y Pre) ≡ bit x * μ Suc + bit y * μ Pre
+sent-first μ x y = omega (arith, load-append μ (one x Suc) (one y Pre), one-load μ x Suc, one-load μ y Pre)
 
 -- a weight of the acknowledgement part and of the probe part
 split : (w : Waits) (b : ℕ) (t : Turn) (q : ℕ) (μ : Message → ℕ) → load μ (sentTo w b t q) ≡ load μ (replyTo (t .reply) q) + load μ (probesTo w b (t .probes) q)

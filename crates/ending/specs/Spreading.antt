@@ -26,7 +26,7 @@ use Rattle.checks.specs.Reach.{Reaches, here, along}
 use Rattle.checks.specs.Lists.{IsProcess}
 use Rattle.ending.specs.Weights.{load, isSuc, isPre, edge, spot2, sucsOf, presOf}
 use Rattle.ending.specs.Moved.{Moved, spot2-at, spot2-off-x, spot2-off-y}
-use Rattle.ending.specs.Sent.{sent-suc, sent-pre}
+use Rattle.ending.specs.Sent.{sent-first, sent-suc, sent-pre}
 use Rattle.ending.specs.Effect.{Effect}
 use Rattle.ending.specs.Invariants.{Tidy, Spread}
 use Rattle.ending.specs.Reachable.{reaches-trans}
@@ -65,14 +65,6 @@ module _ {w : Waits} {s : ℕ} {r : Run} where
       }
 
 -- ---- start
-
--- what the start puts on its links, in the weight of either probe
-sent-first : (μ : Message → ℕ) (x y : Bool) → load μ (one x Suc ++ one y Pre) ≡ bit x * μ Suc + bit y * μ Pre
-unfolding load
-sent-first μ true true = omega arith
-sent-first μ true false = omega arith
-sent-first μ false true = omega arith
-sent-first μ false false = omega arith
 
 side-start : {flag : Process → ℕ} {μ : Message → ℕ} {e : ℕ → ℕ → Bool} {R : ℕ → Type 0} (w : Waits) (s : ℕ) → R s → flag (started w s) ≡ 1 → flag idle ≡ 0 → ((j : ℕ) → edge w s j * μ Suc + edge w j s * μ Pre ≡ bit (e s j)) → Side w flag μ e R (startRun w s)
 unfolding startRun load

@@ -6,7 +6,7 @@
 --   treed-kept       == a delivery keeps it
 --   all-rest         == once the start's num is 0, so is every other
 -- Assumes nothing.
-use Prim.Native.Nat.{ℕ, _+_, _≤_}
+use Prim.Native.Nat.{ℕ, _≤_}
 use mathlib.Core.Bool.{false}
 use mathlib.Core.Path.{_≡_, refl, _∙_}
 use native.Mathlib.Omega.{arith}
@@ -15,12 +15,11 @@ use Rattle.base.specs.Choice.{choose, bit, Same, same, apart, same?}
 use Rattle.base.specs.Sums.{sumTo-part}
 use Rattle.tables.specs.Waits.{Waits}
 use Rattle.steps.specs.declared.Message.{Message}
-use Rattle.steps.specs.declared.Message.the-variants.{Suc, Pre, Ack}
 use Rattle.steps.specs.declared.Process.{Process}
 use Rattle.steps.specs.Step.{Turn, idle}
 use Rattle.checks.specs.Run.{Run, started, startRun}
 use Rattle.checks.specs.Lists.{IsProcess}
-use Rattle.ending.specs.Weights.{load, isProbe, isAck, heirOf, pending}
+use Rattle.ending.specs.Weights.{load, isProbe, isAck, probe-or-ack, heirOf, pending}
 use Rattle.ending.specs.Moved.{Moved}
 use Rattle.ending.specs.Effect.{Effect}
 use Rattle.ending.specs.Invariants.{Diffusing, Leads, at-start, over-busy, Treed}
@@ -74,12 +73,6 @@ treed-start w s = record { leads = λ j _ off busy. at j (same? j s) off busy }
     at j (apart _ f) off busy = let none : 1 ≤ 0 = rw f at busy in absurd (omega arith)
 
 -- ---- a delivery
-
--- a message that is no acknowledgement is a probe
-probe-or-ack : (m : Message) → isProbe m + isAck m ≡ 1
-probe-or-ack Suc = refl
-probe-or-ack Pre = refl
-probe-or-ack (Ack c) = refl
 
 module _ {w : Waits} {s : ℕ} {r q : Run} {a b o i : ℕ} {m : Message} {t : Turn} (dr : Diffusing w s r) (dq : Diffusing w s q) (tr : Treed w s r) (pa : IsProcess w a) (pb : IsProcess w b) (mv : Moved w r a b m t q) (ef : Effect (eqb b s) m o i a (r .process b) t) where
   -- a busy process keeps its father

@@ -12,10 +12,11 @@
 --   allowed w r i j     == how many probes i has sent to j since the start
 --   sends w r           == how many probes all processes have sent since the start
 --   both x, bothOff s i x   == 1 if a process is succeeding and preceding; the same with 0 for the start
+--   load-append, probe-or-ack   == lists one after the other weigh their sum; a message is a probe or an acknowledgement
 --   replyCount, sucsOf, presOf   == what a step sends: the count of its acknowledgement (0 if none), 1 if it broadcasts suc, 1 if it broadcasts pre
 -- Assumes nothing.
-use Prim.Native.Nat.{ℕ, zero, suc, _+_, _*_}
-use mathlib.Core.Bool.{Bool, true, false}
+use Prim.Native.Nat.{ℕ, suc, _+_, _*_}
+use mathlib.Core.Bool.{Bool}
 use mathlib.Core.List.{List, [], _∷_, _++_}
 use mathlib.Core.Path.{_≡_, refl}
 use native.Mathlib.Omega.{arith}
@@ -62,6 +63,12 @@ abbrev pub isAck : Message → ℕ
 isAck Suc = 0
 isAck Pre = 0
 isAck (Ack c) = 1
+
+-- a message that is no acknowledgement is a probe
+pub probe-or-ack : (m : Message) → isProbe m + isAck m ≡ 1
+probe-or-ack Suc = refl
+probe-or-ack Pre = refl
+probe-or-ack (Ack c) = refl
 
 abbrev pub countOf : Message → ℤ
 countOf Suc = pos 0

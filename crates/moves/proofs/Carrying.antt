@@ -26,8 +26,7 @@ use Rattle.moves.specs.Fit.{Fit}
 use Rattle.moves.specs.Ready.{Ready, right-fit}
 use Rattle.moves.specs.DeliveryLaws.{off, changed}
 use Rattle.moves.specs.CarryLaws.{carried-ends, fit-off, off-father, fit-changed, reply-room, fit-replied, probes-room, fit-sent, carried-count, fit-carried}
-use Rattle.moves.proofs.Stores.{sizes}
-use Rattle.moves.proofs.Picks.{size}
+use Rattle.moves.specs.ReadyLaws.{ready-n, ready-sizes}
 use Rattle.moves.proofs.Holding.{Holding, holding-run, holding-ready, holding-next}
 
 module _ {w : List ℤ} {sq : List ℕ} {n m : ℕ} (y : Ready w sq n m) {a b : ℕ} {x : Process} {p : Probes} {z : Reply} (k : Carried (runIn w) a b x p z) where
@@ -38,12 +37,12 @@ module _ {w : List ℤ} {sq : List ℕ} {n m : ℕ} (y : Ready w sq n m) {a b : 
   f = right-fit w (y .right)
 
   pub between : (1 ≤ b) × (b ≤ n)
-  between = let e = carried-ends (fieldsIn w) r f a b x p z k in (e .2, omega (arith, e .3, size y))
+  between = let e = carried-ends (fieldsIn w) r f a b x p z k in (e .2, omega (arith, e .3, ready-n y))
 
   pub take-asks : Ready w sq n m × (((a ≤ 128) × (b ≤ 128)) × (neighbours (runIn w .waits) a b ≡ true))
   take-asks =
       let e = carried-ends (fieldsIn w) r f a b x p z k in
-      (y, (omega (arith, e .1, e .3, size y, sizes y), k .joined))
+      (y, (omega (arith, e .1, e .3, ready-n y, ready-sizes y), k .joined))
 
   pub taken-off : {u : List ℤ} → u ≡ keeping w (putLink (runIn w) a b (tailOf (runIn w .link a b))) → Holding w u (off r a b)
   taken-off e = record { is = e; fit = fit-off (fieldsIn w) r f a b x p z k }
@@ -62,7 +61,7 @@ module _ {w : List ℤ} {sq : List ℕ} {n m : ℕ} (y : Ready w sq n m) {a b : 
         (holding-ready y h, (between, (k .replies, rw (holding-run y h) room)))
       where
         room : (q : ℕ) (c : ℤ) → z ≡ To q c → (q ≤ n) × (neighbours (changed r a b x .waits) b q ≡ true) × (length (changed r a b x .link b q) ≤ 3)
-        room q c e = let g = reply-room (fieldsIn w) r f a b x p z k q c e in (omega (arith, g .0, size y), g .1, g .2)
+        room q c e = let g = reply-room (fieldsIn w) r f a b x p z k q c e in (omega (arith, g .0, ready-n y), g .1, g .2)
 
     pub reply-sent : {u : List ℤ} → u ≡ keeping v (answered (runIn v) b z) → Holding w u (answered (changed r a b x) b z)
     reply-sent e = holding-next y h (λ q. answered q b z) e (fit-replied (fieldsIn w) r f a b x p z k)
@@ -73,7 +72,7 @@ module _ {w : List ℤ} {sq : List ℕ} {n m : ℕ} (y : Ready w sq n m) {a b : 
         (holding-ready y h, (between, rw (holding-run y h) room))
       where
         room : (c : Chain) → p ≡ probesOf c → (q : ℕ) → 1 ≤ q → q ≤ n → joins c (answered (changed r a b x) b z .waits) b q ≡ true → length (answered (changed r a b x) b z .link b q) ≤ 3
-        room c e q l u j = probes-room (fieldsIn w) r f a b x p z k c e q l (omega (arith, size y)) j
+        room c e q l u j = probes-room (fieldsIn w) r f a b x p z k c e q l (omega (arith, ready-n y)) j
 
     pub probes-sent : {u : List ℤ} → u ≡ keeping v (spreadBy p (runIn v) b) → Holding w u (spreadBy p (answered (changed r a b x) b z) b)
     probes-sent e = holding-next y h (λ q. spreadBy p q b) e (fit-sent (fieldsIn w) r f a b x p z k)

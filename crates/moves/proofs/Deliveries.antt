@@ -9,16 +9,17 @@
 use Prim.Native.Nat.{ℕ, suc, _^_, _≤_, _<_}
 use mathlib.Core.Bool.{Bool, true, false, not}
 use mathlib.Core.List.{List, _∷_}
-use mathlib.Core.Path.{_≡_, refl, sym, ap, _∙_, subst}
+use mathlib.Core.Path.{_≡_, refl, sym, ap, _∙_}
 use native.Mathlib.Omega.{arith}
 use lib.Dec.{leb}
-use lib.IntN.{ℤ, pos, negsuc, natAbs}
+use lib.IntN.{ℤ, pos, natAbs}
 use lib.ListN.{length, getD}
 use lib.Signed.{mag}
 use mir.Syntax.{w32}
 use mir.Val.{toZ, ofZ}
 use Rattle.base.specs.Sums.{allTo}
-use Rattle.tables.specs.Waits.{Waits, waitsOf, neighbours}
+use Rattle.tables.specs.Waits.{neighbours}
+use Rattle.tables.specs.WaitsLaws.{neighbours-ends}
 use Rattle.steps.specs.declared.Message.{Message}
 use Rattle.steps.specs.declared.Process.{Process}
 use Rattle.steps.specs.declared.Probes.{Probes}
@@ -26,7 +27,7 @@ use Rattle.steps.specs.declared.Reply.{Reply}
 use Rattle.steps.specs.declared.Stepped.{Stepped}
 use Rattle.steps.specs.declared.Stepped.the-variants.{Taken}
 use Rattle.steps.specs.Step.{countSmall}
-use Rattle.steps.proofs.Flags.{value-not, value-yes}
+use Rattle.base.specs.Choice.{value-not, value-yes}
 use Rattle.checks.specs.declared.Delivery.{Delivery}
 use Rattle.checks.specs.declared.Delivery.the-variants.{Delivered}
 use Rattle.checks.specs.Run.{accepts}
@@ -35,16 +36,16 @@ use Rattle.areas.specs.Area.{fieldsIn, messageOf, messagesAt, runIn, keeping}
 use Rattle.areas.specs.Squares.{joinedBy, placeBy}
 use Rattle.areas.specs.StoredLaws.{linkOf-fits}
 use Rattle.areas.specs.AreaLaws.{stored-same}
-use Rattle.areas.specs.Reads.{runIn-held}
-use Rattle.areas.proofs.Signs.{word-back, word-is}
+use Rattle.steps.proofs.Counts.{signed-back}
+use Rattle.areas.proofs.Signs.{word-is, word-zero}
 use Rattle.moves.specs.Rooms.{loadAfter}
 use Rattle.moves.specs.Delivering.{steppedAt, carriedOut, Carried}
 use Rattle.moves.specs.Fit.{Fit}
 use Rattle.moves.specs.Ready.{Ready, right-fit}
-use Rattle.moves.specs.ChangeLaws.{neighbours-ends}
 use Rattle.moves.specs.AcceptLaws.{roomy, message-small, accepts-refused, accepts-full, accepts-crowded, carried-of, deliver-answer, deliver-run, deliver-refused, deliver-empty}
-use Rattle.moves.proofs.Stores.{sizes, joined, link-place, link-within}
-use Rattle.moves.proofs.Picks.{size, first-none, first-some, first-fits}
+use Rattle.moves.specs.ReadyLaws.{ready-n, ready-sizes}
+use Rattle.moves.proofs.Stores.{by-table, joined, link-place, link-within}
+use Rattle.moves.proofs.Picks.{first-none, first-some, first-fits}
 
 -- the answer and the area that a delivery leaves
 abbrev pub Outcome : List ℤ → ℕ → ℕ → Delivery → List ℤ → Type 0
@@ -54,11 +55,6 @@ Outcome w a b d v =
 -- a refusal leaves the area as it was
 refusal : {w : List ℤ} {sq : List ℕ} {n m : ℕ} → Ready w sq n m → (a b k : ℕ) → deliver (runIn w) a b (runIn w .link a b) ≡ refused k (runIn w) → Outcome w a b (Delivery.Refused k) w
 refusal {w} y a b k e = rw e (refl, sym (stored-same w (y .right)))
-
--- no bits are 0 but those of 0
-zero-bits : (z : ℤ) → natAbs z ≡ 0 → ofZ w32 z ≡ 0
-zero-bits (pos n) e = e
-zero-bits (negsuc n) e = absurd (omega arith)
 
 -- the oldest message on the link from a to b
 pub record Oldest (w : List ℤ) (sq : List ℕ) (n m a b : ℕ) (x : Message) : Type 0 where
@@ -72,19 +68,18 @@ pub record Oldest (w : List ℤ) (sq : List ℕ) (n m a b : ℕ) (x : Message) :
 
 module _ {w : List ℤ} {sq : List ℕ} {n m : ℕ} (y : Ready w sq n m) {a b : ℕ} (j : neighbours (runIn w .waits) a b ≡ true) (lu : (a ≤ n) × (b ≤ n)) where
   low : a ≤ 128
-  low = omega (arith, sizes y)
+  low = omega (arith, ready-sizes y)
 
   high : b ≤ 128
-  high = omega (arith, sizes y)
+  high = omega (arith, ready-sizes y)
 
   pub place-asks : ((a ≤ 128) × (b ≤ 128)) × (((n ≤ 128) × (m ≤ 512)) × (joinedBy sq a b ≡ true))
-  place-asks = ((low, high), (sizes y, joined y j low high))
+  place-asks = ((low, high), (ready-sizes y, joined y j low high))
 
   module _ {i : ℕ} (e : i ≡ placeBy sq n m a b) where
     pub place-small : i < 11280
     place-small =
-        let g : neighbours (waitsOf (fieldsIn w)) a b ≡ true = subst (λ (v : Waits). neighbours v a b ≡ true) (runIn-held w .waits) j in
-        omega (arith, link-place y j low high e, linkOf-fits (fieldsIn w) a b g, sizes y, y .n-is, y .m-is)
+        omega (arith, link-place y j low high e, linkOf-fits (fieldsIn w) a b (by-table y j low high), ready-sizes y, y .n-is, y .m-is)
 
     pub place-within : i < length w
     place-within = omega (arith, link-within y j low high e)
@@ -95,7 +90,7 @@ module _ {w : List ℤ} {sq : List ℕ} {n m : ℕ} (y : Ready w sq n m) {a b : 
           refusal y a b 24 (deliver-empty (runIn w) a b (first-none y j low high e (ap natAbs (word-is (getD w i (pos 0)) 0 h (omega arith) z))))
 
       pub message-asks : natAbs (toZ w32 (ofZ w32 (getD w i (pos 0)))) ≤ 65535
-      message-asks = rw (word-back (getD w i (pos 0)) h) (first-fits y j low high e)
+      message-asks = rw (signed-back (getD w i (pos 0)) h) (first-fits y j low high e)
 
       pub oldest-of : (ofZ w32 (getD w i (pos 0)) ≡ 0 → ⊥) → {x : Message} → x ≡ messageOf (toZ w32 (ofZ w32 (getD w i (pos 0)))) → Oldest w sq n m a b x
       oldest-of z {x} g =
@@ -104,7 +99,7 @@ module _ {w : List ℤ} {sq : List ℕ} {n m : ℕ} (y : Ready w sq n m) {a b : 
             near = j;
             ends = lu;
             rest = messagesAt w (suc i) 3;
-            link = rw (g, word-back (getD w i (pos 0)) h) (first-some y j low high e (λ q. z (zero-bits (getD w i (pos 0)) q)));
+            link = rw (g, signed-back (getD w i (pos 0)) h) (first-some y j low high e (λ q. z (word-zero (getD w i (pos 0)) q)));
           }
 
 -- ---- from there on
@@ -130,7 +125,7 @@ module _ {w : List ℤ} {sq : List ℕ} {n m a b : ℕ} {x : Message} (h : Oldes
   module _ {s : Stepped} {q : Process} {p : Probes} {z : Reply} (t : s ≡ steppedAt (runIn w) a b x) (o : s ≡ Taken q p z) where
     -- the room that code counts, over the N that it is given
     room-is : {v : Bool} → v ≡ allTo n (λ i. leb (loadAfter (runIn w) a b p z i) 4) → roomy (runIn w) a b p z ≡ v
-    room-is e = rw (size (h .ready)) (sym e)
+    room-is e = rw (ready-n (h .ready)) (sym e)
 
     pub links-full : (v : Bool) → v ≡ allTo n (λ i. leb (loadAfter (runIn w) a b p z i) 4) → not v ≡ true → Outcome w a b (Delivery.Refused 22) w
     links-full v e k =

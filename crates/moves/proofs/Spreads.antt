@@ -7,12 +7,12 @@
 use Prim.Native.Nat.{ℕ, suc, _-_, _≤_}
 use mathlib.Core.Bool.{true, false}
 use mathlib.Core.List.{List, [], _∷_, _++_}
-use mathlib.Core.Path.{_≡_, sym, ap, _∙_, subst}
+use mathlib.Core.Path.{_≡_, sym, ap, _∙_}
 use native.Mathlib.Omega.{arith}
 use lib.ListN.{length}
 use lib.IntN.{ℤ}
 use Rattle.tables.specs.declared.Chain.{Chain}
-use Rattle.tables.specs.Waits.{Waits, neighbours}
+use Rattle.tables.specs.Waits.{neighbours}
 use Rattle.tables.specs.Chains.{joins}
 use Rattle.steps.specs.declared.Message.{Message}
 use Rattle.steps.specs.Step.{countSmall}
@@ -20,14 +20,12 @@ use Rattle.checks.specs.Run.{Run}
 use Rattle.areas.specs.Area.{fieldsIn, runIn, keeping}
 use Rattle.areas.specs.Held.{putLink}
 use Rattle.areas.specs.Squares.{joinsBy}
-use Rattle.areas.specs.SquareLaws.{joinsBy-is}
-use Rattle.areas.specs.Reads.{runIn-held}
 use Rattle.areas.specs.AreaLaws.{stored-same}
 use Rattle.moves.specs.Changes.{probeOf, spreadTo, spread}
 use Rattle.moves.specs.Fit.{Fit}
 use Rattle.moves.specs.Ready.{Ready, right-fit, keeping-run, keeping-again, keeping-length, ready-kept}
-use Rattle.moves.specs.ChangeLaws.{joins-neighbours, probe-small, fit-size, spreadTo-none, spreadTo-sent, spreadTo-passed, spreadTo-link, fit-spreadTo}
-use Rattle.moves.proofs.Stores.{sizes}
+use Rattle.moves.specs.ChangeLaws.{joins-neighbours, probe-small, spreadTo-none, spreadTo-sent, spreadTo-passed, spreadTo-link, fit-spreadTo}
+use Rattle.moves.specs.ReadyLaws.{ready-n, ready-sizes, ready-joins}
 
 -- each process that the probe goes to has room for it on its link
 abbrev pub Room : List ℤ → ℕ → Chain → ℕ → Type 0
@@ -39,8 +37,8 @@ module _ {w : List ℤ} {sq : List ℕ} {n m : ℕ} (y : Ready w sq n m) (c : Ch
 
   by-waits : (q : ℕ) → q ≤ n → joinsBy sq c b q ≡ joins c (runIn w .waits) b q
   by-waits q u =
-      let s = sizes y in
-      subst (λ (v : Waits). joinsBy sq c b q ≡ joins c v b q) (sym (runIn-held w .waits)) (joinsBy-is (fieldsIn w) sq (y .square) c b q (omega arith) (omega arith))
+      let s = ready-sizes y in
+      ready-joins y c b q (omega arith) (omega arith)
 
   pub first : w ≡ keeping w (spreadTo c (runIn w) b (1 - 1))
   first = rw (spreadTo-none c (runIn w) b (right-fit w (y .right) .sound)) (sym (stored-same w (y .right)))
@@ -51,7 +49,7 @@ module _ {w : List ℤ} {sq : List ℕ} {n m : ℕ} (y : Ready w sq n m) (c : Ch
   pub last : {v : List ℤ} (k : ℕ) → k ≡ n → v ≡ keeping w (spreadTo c (runIn w) b k) → v ≡ keeping w (spread c (runIn w) b)
   unfolding spread
   last k g e =
-      let f : runIn w .waits .n ≡ k = fit-size (fieldsIn w) (runIn w) (right-fit w (y .right)) ∙ sym (y .n-is) ∙ sym g in
+      let f : runIn w .waits .n ≡ k = ready-n y ∙ sym g in
       e ∙ ap (λ (i : ℕ). keeping w (spreadTo c (runIn w) b i)) (sym f)
 
   -- one process more: q, after the first k
@@ -71,7 +69,7 @@ module _ {w : List ℤ} {sq : List ℕ} {n m : ℕ} (y : Ready w sq n m) (c : Ch
 
     pub asked : joinsBy sq c b q ≡ true → {x : Message} → x ≡ probeOf c → Ready v sq n m × (((b ≤ 128) × (q ≤ 128)) × ((neighbours (runIn v .waits) b q ≡ true) × ((countSmall x ≡ true) × (length (runIn v .link b q) ≤ 3))))
     asked t p =
-        let s = sizes y in
+        let s = ready-sizes y in
         let j = sym (by-waits q u) ∙ t in
         (rw e (ready-kept w (y .right) (spreadTo c (runIn w) b k) (fit k (omega arith)) sq n m y), ((omega arith, omega arith), (rw waits-are (joins-neighbours c (runIn w .waits) b q j), (rw p (probe-small c), rw link-is (room q (omega arith) u j)))))
 

@@ -1,8 +1,9 @@
--- What code knows of a tested area: its sizes, where its records and links stand, and what a store at one of these places leaves.
---   sizes, long               == N and M are in range, and the area has the words for them
+-- What code knows of a tested area: where its records and links stand, and what a store at one of these places leaves.
+--   long                      == the area has the words for its N and M
 --   record-place, record-within   == where the record of p stands, and that it stands inside
 --   joined, link-place, link-within, link-room   == by the square, neighbours, where their link stands, that it stands inside, and has room
---   read-process, link-is     == the words of a record, and those of a link, are those of the run
+--   read-process, link-is, slot-word   == the words of a record, and those of a link, are those of the run
+--   by-table                  == neighbours in the run are so in the table
 --   store-process, store-take, store-push, store-count   == what is left by a store is the area with a changed run in it
 -- Assumes nothing.
 use Prim.Native.Nat.{ℕ, suc, _+_, _-_, _*_, _≤_, _<_}
@@ -19,15 +20,16 @@ use Rattle.steps.specs.declared.Process.{Process}
 use Rattle.areas.specs.Area.{recordPlace, linkOf, recordWord, codeOf, slotWord, fieldsIn, recordAt, messagesAt, runIn, keeping}
 use Rattle.areas.specs.Held.{putProcess, putLink, putCount}
 use Rattle.areas.specs.Squares.{joinedBy, placeBy}
-use Rattle.areas.specs.SquareLaws.{joinedBy-is, placeBy-is}
+use Rattle.areas.specs.SquareLaws.{placeBy-is}
 use Rattle.areas.specs.RunLaws.{linkWord-slot, slotWord-past}
 use Rattle.areas.specs.StoredLaws.{linkOf-fits, stored-link-word}
-use Rattle.areas.specs.AreaLaws.{stored-same}
+use Rattle.areas.specs.AreaLaws.{areaRight-table, stored-same}
 use Rattle.areas.specs.Reads.{runIn-process, runIn-link, runIn-held}
 use Rattle.areas.specs.WriteLaws.{stored-record, stored-link, stored-push, stored-count}
 use Rattle.moves.specs.Changes.{tailOf}
-use Rattle.moves.specs.Ready.{Ready, right-table, right-long, right-fit}
-use Rattle.moves.specs.ChangeLaws.{link-right}
+use Rattle.moves.specs.Ready.{Ready, right-long}
+use Rattle.moves.specs.ReadyLaws.{runIn-few, ready-joined}
+use Rattle.moves.specs.DeliveryLaws.{tail-length}
 
 -- the words of what stays on a link
 slot-tail : (ms : List Message) (j : ℕ) → slotWord (tailOf ms) j ≡ slotWord ms (suc j)
@@ -35,14 +37,7 @@ unfolding slotWord
 slot-tail [] j = refl
 slot-tail (m ∷ ms) j = refl
 
-tail-length : (ms : List Message) → length ms ≤ 4 → length (tailOf ms) ≤ 3
-tail-length [] h = omega arith
-tail-length (m ∷ ms) h = omega arith
-
 module _ {w : List ℤ} {sq : List ℕ} {n m : ℕ} (y : Ready w sq n m) where
-  pub sizes : (n ≤ 128) × (m ≤ 512)
-  sizes = let s = right-table w (y .right) .right .sizes in omega (arith, y .n-is, y .m-is)
-
   pub long : 16 + 8 * n + 20 * m ≤ length w
   long = omega (arith, y .n-is, y .m-is, right-long w (y .right))
 
@@ -72,16 +67,16 @@ module _ {w : List ℤ} {sq : List ℕ} {n m : ℕ} (y : Ready w sq n m) where
   -- ---- links
 
   module _ {a b : ℕ} (j : neighbours (runIn w .waits) a b ≡ true) (l : a ≤ 128) (u : b ≤ 128) where
-    by-table : neighbours (waitsOf (fieldsIn w)) a b ≡ true
+    pub by-table : neighbours (waitsOf (fieldsIn w)) a b ≡ true
     by-table = subst (λ (v : Waits). neighbours v a b ≡ true) (runIn-held w .waits) j
 
     pub joined : joinedBy sq a b ≡ true
-    joined = joinedBy-is (fieldsIn w) sq (y .square) a b l u ∙ by-table
+    joined = ready-joined y a b l u ∙ j
 
     pub link-is : runIn w .link a b ≡ messagesAt w (linkOf (fieldsIn w) a b) 4
     link-is = runIn-link w a b by-table
 
-    slot-word : (k : ℕ) → k < 4 → getD w (linkOf (fieldsIn w) a b + k) (pos 0) ≡ slotWord (runIn w .link a b) k
+    pub slot-word : (k : ℕ) → k < 4 → getD w (linkOf (fieldsIn w) a b + k) (pos 0) ≡ slotWord (runIn w .link a b) k
     slot-word k h =
         ap (λ (v : List ℤ). getD v (linkOf (fieldsIn w) a b + k) (pos 0)) (sym (stored-same w (y .right)))
         ∙ stored-link-word (fieldsIn w) (runIn w) w a b k (pos 0) by-table (omega arith)
@@ -91,7 +86,7 @@ module _ {w : List ℤ} {sq : List ℕ} {n m : ℕ} (y : Ready w sq n m) where
     tail-word k h = slot-word (suc k) (omega arith) ∙ sym (slot-tail (runIn w .link a b) k)
 
     tail-end : pos 0 ≡ slotWord (tailOf (runIn w .link a b)) 3
-    tail-end = sym (slotWord-past (tailOf (runIn w .link a b)) 3 (tail-length (runIn w .link a b) (link-right (fieldsIn w) (runIn w) (right-fit w (y .right)) a b .0)))
+    tail-end = sym (slotWord-past (tailOf (runIn w .link a b)) 3 (omega (arith, tail-length (runIn w .link a b), runIn-few w a b)))
 
     module _ {i : ℕ} (e : i ≡ placeBy sq n m a b) where
       pub link-place : i ≡ linkOf (fieldsIn w) a b
@@ -114,10 +109,10 @@ module _ {w : List ℤ} {sq : List ℕ} {n m : ℕ} (y : Ready w sq n m) where
           rw link-place
           ((λ s. sets w k (e₀ s ∷ e₁ s ∷ e₂ s ∷ e₃ s ∷ []))
           ∙ ap (λ (v : List ℤ). sets v k (slotWord ms 0 ∷ slotWord ms 1 ∷ slotWord ms 2 ∷ slotWord ms 3 ∷ [])) (sym (stored-same w (y .right)))
-          ∙ stored-link (fieldsIn w) (right-table w (y .right) .right) (runIn w) w a b ms by-table)
+          ∙ stored-link (fieldsIn w) (areaRight-table w (y .right) .right) (runIn w) w a b ms by-table)
 
       pub store-push : (x : Message) → length (runIn w .link a b) ≤ 3 → set w (i + length (messagesAt w i 4)) (codeOf x) ≡ keeping w (putLink (runIn w) a b (runIn w .link a b ++ (x ∷ [])))
       store-push x h =
           rw (link-place, ← link-is)
           (ap (λ (v : List ℤ). set v (linkOf (fieldsIn w) a b + length (runIn w .link a b)) (codeOf x)) (sym (stored-same w (y .right)))
-          ∙ stored-push (fieldsIn w) (right-table w (y .right) .right) (runIn w) w a b x by-table h)
+          ∙ stored-push (fieldsIn w) (areaRight-table w (y .right) .right) (runIn w) w a b x by-table h)

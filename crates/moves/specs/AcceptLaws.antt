@@ -13,37 +13,35 @@ use Prim.Native.Nat.{ℕ, _+_, _≤_, _<_}
 use mathlib.Core.Bool.{Bool, true, false, not, _&&_}
 use mathlib.Core.List.{List, [], _∷_}
 use mathlib.Core.Path.{_≡_, refl, sym, ap, _∙_, fun-ext}
-use mathlib.Core.Logic.{⊎-elim}
 use native.Mathlib.Omega.{arith}
-use borrow.Author.Tests.{eqb-true, ne-eqb, leb-true, le-leb, lt-leb, le-ltb}
+use borrow.Author.Tests.{leb-true, le-leb, lt-leb}
 use lib.Dec.{eqb, leb}
 use lib.ListN.{length}
-use Rattle.base.specs.Choice.{choose, bit, bit-≤1, Tested, passed, failed, tested, and-both, and-left, or-cases}
-use Rattle.base.specs.Sums.{countTo, sumTo-most, allTo, allTo-at}
+use Rattle.base.specs.Choice.{choose, Tested, passed, failed, tested, and-both, and-left}
+use Rattle.base.specs.Sums.{allTo, allTo-at}
+use Rattle.base.specs.Counts.{countTo-most}
 use Rattle.tables.specs.Table.{Fields}
 use Rattle.tables.specs.Waits.{Waits, Sound, outDegree, inDegree, neighbours}
+use Rattle.tables.specs.WaitsLaws.{neighbours-ends}
 use Rattle.steps.specs.declared.Message.{Message}
 use Rattle.steps.specs.declared.Process.{Process}
 use Rattle.steps.specs.declared.Probes.{Probes}
 use Rattle.steps.specs.declared.Reply.{Reply}
 use Rattle.steps.specs.declared.Stepped.{Stepped}
 use Rattle.steps.specs.declared.Stepped.the-variants.{Taken}
-use Rattle.steps.specs.Step.{inRange, countSmall, fitting, lentInRange, stepNumber, stepped, startStepped, answer, turn}
+use Rattle.steps.specs.Step.{inRange, countSmall, fitting, lentInRange, startStepped, answer}
+use Rattle.steps.specs.Within.{stepped-inside}
 use Rattle.checks.specs.declared.Delivery.the-variants.{Delivered}
-use Rattle.checks.specs.Run.{Run, wellFormed, fatherRight, countsSmall, turnAt, after, accepts}
+use Rattle.checks.specs.Run.{Run, wellFormed, countsSmall, turnAt, after, accepts}
 use Rattle.checks.specs.Calls.{refused, delivered, deliver}
 use Rattle.areas.specs.Held.{Held}
 use Rattle.moves.specs.Formed.{parts-of, new-range, new-reply, new-father, replied}
+use Rattle.moves.specs.ChangeLaws.{father-few}
 use Rattle.moves.specs.Rooms.{loadAfter}
 use Rattle.moves.specs.Delivering.{steppedAt, carriedOut, Carried}
-use Rattle.moves.specs.ChangeLaws.{neighbours-ends}
 use Rattle.moves.specs.DeliveryLaws.{carriedOut-is, loadAfter-is}
 
 -- ---- degrees
-
-countTo-most : (n : ℕ) (p : ℕ → Bool) → countTo n p ≤ n
-unfolding countTo
-countTo-most n p = omega (arith, sumTo-most n 1 (λ k. bit (p k)) (λ k l u. bit-≤1 (p k)))
 
 outDegree-most : (w : Waits) (p : ℕ) → outDegree w p ≤ w .n
 unfolding outDegree
@@ -55,11 +53,6 @@ inDegree-most w p = countTo-most (w .n) (λ q. w .waits q p)
 
 -- ---- the receiver's step
 
--- the step of a process other than the start, where what it is lent is in range
-stepped-lent : (m : Message) (o i p : ℕ) (x : Process) → lentInRange m o i x ≡ true → 1 ≤ p → p ≤ 128 → stepped m o i p x ≡ answer (choose (not (fitting m x (turn m o i p x))) 22 0) (turn m o i p x)
-unfolding stepped stepNumber
-stepped-lent m o i p x e l u = rw (e, ne-eqb p 0 (λ q. omega arith), le-ltb 128 p u)
-
 -- x, y and z are what the receiver's turn leaves, and it meets no 22
 pub record Taking (r : Run) (a b : ℕ) (m : Message) (x : Process) (y : Probes) (z : Reply) : Type 0 where
   pub fits : fitting m (r .process b) (turnAt r a b m) ≡ true
@@ -68,16 +61,6 @@ pub record Taking (r : Run) (a b : ℕ) (m : Message) (x : Process) (y : Probes)
   pub reply : z ≡ turnAt r a b m .reply
 
 module _ (r : Run) (h : wellFormed r ≡ true) (sd : Sound (r .waits)) (a b : ℕ) (j : neighbours (r .waits) a b ≡ true) (m : Message) (c : countSmall m ≡ true) where
-  -- the father of a process is at most N
-  father-high : r .process b .father ≤ 128
-  unfolding fatherRight
-  father-high =
-      let e = neighbours-ends (r .waits) sd a b j in
-      ⊎-elim
-      (λ (f : eqb (r .process b .father) 0 ≡ true). omega (arith, eqb-true (r .process b .father) 0 f))
-      (λ (f : neighbours (r .waits) b (r .process b .father) ≡ true). omega (arith, neighbours-ends (r .waits) sd b (r .process b .father) f .3, sd .few))
-      (or-cases (eqb (r .process b .father) 0) (neighbours (r .waits) b (r .process b .father)) (parts-of r h .father b (e .2) (e .3)))
-
   lent : lentInRange m (outDegree (r .waits) b) (inDegree (r .waits) b) (r .process b) ≡ true
   unfolding lentInRange
   lent =
@@ -88,7 +71,7 @@ module _ (r : Run) (h : wellFormed r ≡ true) (sd : Sound (r .waits)) (a b : �
       and-both (inRange x && leb (x .father) 128 && countSmall m && leb o 128) (leb i 128)
       (and-both (inRange x && leb (x .father) 128 && countSmall m) (leb o 128)
       (and-both (inRange x && leb (x .father) 128) (countSmall m)
-      (and-both (inRange x) (leb (x .father) 128) (parts-of r h .range b (e .2) (e .3)) (le-leb (x .father) 128 father-high))
+      (and-both (inRange x) (leb (x .father) 128) (parts-of r h .range b (e .2) (e .3)) (le-leb (x .father) 128 (father-few (r .waits) sd b x (parts-of r h .father b (e .2) (e .3)))))
       c)
       (le-leb o 128 (omega (arith, outDegree-most (r .waits) b, sd .few))))
       (le-leb i 128 (omega (arith, inDegree-most (r .waits) b, sd .few)))
@@ -101,7 +84,7 @@ module _ (r : Run) (h : wellFormed r ≡ true) (sd : Sound (r .waits)) (a b : �
       at (passed e) = rw e
       at (failed e) =
           let k = neighbours-ends (r .waits) sd a b j in
-          rw e (stepped-lent m (outDegree (r .waits) b) (inDegree (r .waits) b) a (r .process b) lent (k .0) (omega (arith, k .1, sd .few)))
+          rw e (stepped-inside m (outDegree (r .waits) b) (inDegree (r .waits) b) a (r .process b) lent (λ q. omega (arith, k .0)) (omega (arith, k .1, sd .few)))
 
   pub steppedAt-taken : (x : Process) (y : Probes) (z : Reply) → steppedAt r a b m ≡ Taken x y z → Taking r a b m x y z
   unfolding answer

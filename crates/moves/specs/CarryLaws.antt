@@ -17,6 +17,7 @@ use Rattle.tables.specs.declared.Chain.{Chain}
 use Rattle.tables.specs.declared.Chain.the-variants.{Out, In}
 use Rattle.tables.specs.Table.{Fields, nOf}
 use Rattle.tables.specs.Waits.{Waits, neighbours}
+use Rattle.tables.specs.WaitsLaws.{neighbours-ends}
 use Rattle.tables.specs.Chains.{joins}
 use Rattle.steps.specs.declared.Process.{Process}
 use Rattle.steps.specs.declared.Probes.{Probes}
@@ -28,7 +29,7 @@ use Rattle.areas.specs.Held.{putProcess, putLink}
 use Rattle.moves.specs.Changes.{answered, spread}
 use Rattle.moves.specs.Delivering.{probesOf, spreadBy, carriedOut, Carried}
 use Rattle.moves.specs.Fit.{Fit}
-use Rattle.moves.specs.ChangeLaws.{neighbours-ends, fit-size, fit-take, fit-process, fit-answered, fit-spread, fit-count}
+use Rattle.moves.specs.ChangeLaws.{fit-size, fit-take, fit-process, fit-answered, fit-spread, fit-count}
 use Rattle.moves.specs.DeliveryLaws.{off, changed, off-length, answered-relinked, answered-link, spreadBy-relinked}
 
 -- an acknowledgement goes to its process, and a probe along its chain

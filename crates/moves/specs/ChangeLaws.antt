@@ -2,7 +2,7 @@
 --   fit-process, fit-link, fit-push, fit-take, fit-count   == one record, one link or the count replaced
 --   fit-spreadTo, fit-spread, fit-answered   == probes sent to some, to all, and an acknowledgement sent
 --   joins-low, joins-high, joins-neighbours  == whom a chain leads to is a process and a neighbour
---   neighbours-ends, father-few   == neighbours are processes; a father is at most 128
+--   father-few           == a father is at most 128
 --   fit-size, probe-small   == the run's N is its table's; a probe has no count out of range
 --   link-right           == every link of such a run holds at most 4 messages, with counts in range
 --   spreadTo-none        == nothing is sent to those of 1 to 0
@@ -24,6 +24,7 @@ use Rattle.tables.specs.declared.Chain.{Chain}
 use Rattle.tables.specs.declared.Chain.the-variants.{Out, In}
 use Rattle.tables.specs.Table.{Fields, nOf}
 use Rattle.tables.specs.Waits.{Waits, Sound, waitsOf, neighbours}
+use Rattle.tables.specs.WaitsLaws.{neighbours-ends}
 use Rattle.tables.specs.Chains.{joins}
 use Rattle.steps.specs.declared.Message.{Message}
 use Rattle.steps.specs.declared.Message.the-variants.{Ack}
@@ -52,15 +53,6 @@ pub joins-neighbours : (c : Chain) (w : Waits) (b q : ℕ) → joins c w b q ≡
 unfolding neighbours
 joins-neighbours Out w b q e = or-left (w .waits b q) (w .waits q b) e
 joins-neighbours In w b q e = or-right (w .waits b q) (w .waits q b) e
-
--- neighbours are processes
-pub neighbours-ends : (w : Waits) → Sound w → (a b : ℕ) → neighbours w a b ≡ true → (1 ≤ a) × (a ≤ w .n) × (1 ≤ b) × (b ≤ w .n)
-unfolding neighbours
-neighbours-ends w s a b j =
-    ⊎-elim
-    (λ (e : w .waits a b ≡ true). (s .from-low a b e, s .from-high a b e, s .to-low a b e, s .to-high a b e))
-    (λ (e : w .waits b a ≡ true). (s .to-low b a e, s .to-high b a e, s .from-low b a e, s .from-high b a e))
-    (or-cases (w .waits a b) (w .waits b a) j)
 
 -- a father is at most 128
 pub father-few : (w : Waits) → Sound w → (p : ℕ) (x : Process) → fatherRight w p x ≡ true → x .father ≤ 128

@@ -107,7 +107,7 @@ off r a b = putLink r a b (tailOf (r .link a b))
 abbrev pub changed : Run → ℕ → ℕ → Process → Run
 changed r a b x = putProcess (off r a b) b x
 
-tail-length : (ms : List Message) → length (tailOf ms) ≡ length ms - 1
+pub tail-length : (ms : List Message) → length (tailOf ms) ≡ length ms - 1
 tail-length [] = refl
 tail-length (m ∷ ms) = omega arith
 

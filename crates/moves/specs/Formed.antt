@@ -1,25 +1,26 @@
 -- An accepted delivery leaves a well-formed run well formed, and within its area: for any well-formed run, whether start made it or not.
---   turn-father, turn-reply   == whom a step takes as father, and whom it acknowledges
+--   Fathered p x t, turnAt-fathered   == whom a step takes as father, and whom it acknowledges
 --   new-range, new-reply, new-father, replied   == the record and the acknowledgement that an accepted delivery makes
 --   formed-after              == wellFormed is kept
 --   held-after                == Held is kept
 --   counts-append             == two lists of messages with counts in range, one after the other, have them in range
 --   Parts r                   == what `wellFormed r` says, part by part; parts-of and formed-of lead there and back
 -- Assumes nothing.
-use Prim.Native.Nat.{ℕ, zero, suc, _+_, _-_, _≤_}
-use mathlib.Core.Bool.{Bool, true, false, not, _&&_, _||_, false≢true}
+use Prim.Native.Nat.{ℕ, suc, _+_, _≤_}
+use mathlib.Core.Bool.{Bool, true, false, _&&_, false≢true}
 use mathlib.Core.List.{List, [], _∷_, _++_}
 use mathlib.Core.Path.{_≡_, refl, sym, ap, _∙_, subst}
 use mathlib.Core.Logic.{_⊎_, inl, inr, ⊎-elim}
 use native.Mathlib.Omega.{arith}
-use borrow.Author.Tests.{eqb-true, eq-eqb, leb-true, le-leb, ne-eqb}
+use borrow.Author.Tests.{eqb-true, leb-true, le-leb}
 use lib.Dec.{eqb, leb}
 use lib.ListN.{length}
-use lib.IntN.{ℤ, pos}
-use Rattle.base.specs.Choice.{choose, and-both, and-left, and-right, or-left, or-right, or-cases, Same, same, apart, same?, Tested, passed, failed, tested}
-use Rattle.base.specs.Sums.{allTo, allTo-of, allTo-at}
+use lib.IntN.{ℤ}
+use Rattle.base.specs.Choice.{choose, and-both, and-left, and-right, and-three, or-right, or-cases, or-none, Same, same, apart, same?, Tested, passed, failed, tested}
+use Rattle.base.specs.Sums.{allTo, allTo-at}
 use Rattle.tables.specs.Table.{Fields, nOf}
 use Rattle.tables.specs.Waits.{Waits, Sound, waitsOf, outDegree, inDegree, neighbours}
+use Rattle.tables.specs.WaitsLaws.{neighbours-swap, neighbours-ends}
 use Rattle.steps.specs.declared.Message.{Message}
 use Rattle.steps.specs.declared.Message.the-variants.{Suc, Pre, Ack}
 use Rattle.steps.specs.declared.Process.{Process}
@@ -30,7 +31,7 @@ use Rattle.steps.specs.declared.Reply.the-variants.{To}
 use Rattle.steps.specs.Step.{Turn, inRange, small, countSmall, idle, rule1, setSucceeding, setPreceding, rule3, rule4, acknowledged, turn, startTurn, numSuffices, replyFits, fitting}
 use Rattle.checks.specs.Run.{Run, wellFormed, processRight, fatherRight, linkRight, countsSmall, one, turnAt, replyTo, probesTo, sentTo, taken, after, accepts}
 use Rattle.areas.specs.Held.{Held}
-use Rattle.areas.specs.RunLaws.{WellFormed, wellFormed-P, wellFormed-of, linkRight-P}
+use Rattle.areas.specs.RunLaws.{wellFormed-P, linkRight-P}
 
 -- ---- the father and the acknowledgement of a step
 
@@ -138,20 +139,7 @@ sent-counts : (w : Waits) (b : ℕ) (t : Turn) (q : ℕ) → replyFits (t .reply
 unfolding sentTo
 sent-counts w b t q h = counts-append (replyTo (t .reply) q) (probesTo w b (t .probes) q) (reply-counts (t .reply) q h) (probes-counts w b (t .probes) q)
 
-neighbours-swap : (w : Waits) (a b : ℕ) → neighbours w a b ≡ neighbours w b a
-unfolding neighbours
-neighbours-swap w a b = swap (w .waits a b) (w .waits b a)
-  where
-    swap : (x y : Bool) → (x || y) ≡ (y || x)
-    swap true true = refl
-    swap true false = refl
-    swap false true = refl
-    swap false false = refl
-
 -- ---- the parts of a well-formed run, by name
-
-and-three : (a b c : Bool) → (a && b && c) ≡ true → (a ≡ true) × (b ≡ true) × (c ≡ true)
-and-three a b c h = (and-left a b (and-left (a && b) c h), and-right a b (and-left (a && b) c h), and-right (a && b) c h)
 
 pub record Parts (r : Run) : Type 0 where
   pub start-low : 1 ≤ r .start
@@ -165,7 +153,7 @@ pub record Parts (r : Run) : Type 0 where
 pub parts-of : (r : Run) → wellFormed r ≡ true → Parts r
 unfolding processRight
 parts-of r h =
-    let g = wellFormed-P r h in
+    let g = wellFormed-P r .0 h in
     record {
       start-low = g .start-low;
       start-high = g .start-high;
@@ -179,7 +167,7 @@ parts-of r h =
 pub formed-of : (r : Run) → Parts r → wellFormed r ≡ true
 unfolding processRight linkRight
 formed-of r p =
-    wellFormed-of r
+    wellFormed-P r .1
     (record {
       start-low = p .start-low;
       start-high = p .start-high;
@@ -212,13 +200,8 @@ module _ (r : Run) (h : wellFormed r ≡ true) (sd : Sound (r .waits)) (a b : �
   new-reply = fits .2
 
   -- both ends of the link are processes
-  ends : ((1 ≤ a) × (a ≤ r .waits .n)) × ((1 ≤ b) × (b ≤ r .waits .n))
-  unfolding neighbours
-  ends =
-      ⊎-elim
-      (λ (f : r .waits .waits a b ≡ true). ((sd .from-low a b f, sd .from-high a b f), (sd .to-low a b f, sd .to-high a b f)))
-      (λ (f : r .waits .waits b a ≡ true). ((sd .to-low b a f, sd .to-high b a f), (sd .from-low b a f, sd .from-high b a f)))
-      (or-cases (r .waits .waits a b) (r .waits .waits b a) j)
+  ends : (1 ≤ a) × (a ≤ r .waits .n) × (1 ≤ b) × (b ≤ r .waits .n)
+  ends = neighbours-ends (r .waits) sd a b j
 
   back : neighbours (r .waits) b a ≡ true
   back = neighbours-swap (r .waits) b a ∙ j
@@ -227,17 +210,17 @@ module _ (r : Run) (h : wellFormed r ≡ true) (sd : Sound (r .waits)) (a b : �
   unfolding fatherRight
   new-father =
       ⊎-elim
-      (λ (e : turnAt r a b m .process .father ≡ r .process b .father). rw e (parts-of r h .father b (ends .1 .0) (ends .1 .1)))
+      (λ (e : turnAt r a b m .process .father ≡ r .process b .father). rw e (parts-of r h .father b (ends .2) (ends .3)))
       (λ (e : turnAt r a b m .process .father ≡ a). rw e (or-right (eqb a 0) (neighbours (r .waits) b a) back))
       (turnAt-fathered r a b m .father)
 
   -- what stays of the picked link is in range, as it was
   rest-short : length rest ≤ 4
-  rest-short = let k : length (r .link a b) ≤ 4 = parts-of r h .short a b (ends .0 .0) (ends .0 .1) (ends .1 .0) (ends .1 .1) in let e : suc (length rest) ≤ 4 = rw l at k in omega arith
+  rest-short = let k : length (r .link a b) ≤ 4 = parts-of r h .short a b (ends .0) (ends .1) (ends .2) (ends .3) in let e : suc (length rest) ≤ 4 = rw l at k in omega arith
 
   rest-counts : countsSmall rest ≡ true
   unfolding countsSmall
-  rest-counts = let k : countsSmall (r .link a b) ≡ true = parts-of r h .counts a b (ends .0 .0) (ends .0 .1) (ends .1 .0) (ends .1 .1) in let e : countsSmall (m ∷ rest) ≡ true = rw l at k in and-right (countSmall m) (countsSmall rest) e
+  rest-counts = let k : countsSmall (r .link a b) ≡ true = parts-of r h .counts a b (ends .0) (ends .1) (ends .2) (ends .3) in let e : countsSmall (m ∷ rest) ≡ true = rw l at k in and-right (countSmall m) (countsSmall rest) e
 
   taken-right : (x y : ℕ) → 1 ≤ x → x ≤ r .waits .n → 1 ≤ y → y ≤ r .waits .n → (length (taken r a b rest x y) ≤ 4) × (countsSmall (taken r a b rest x y) ≡ true)
   unfolding taken
@@ -311,15 +294,11 @@ module _ (t : Fields) (r : Run) (hd : Held t r) (h : wellFormed r ≡ true) (sd 
       at (same f g) = absurd (false≢true (sym n ∙ rw f (replied q c e)))
       at (apart f g) = rw g
 
-  either : (x y : Bool) → (x || y) ≡ false → (x ≡ false) × (y ≡ false)
-  either true y e = absurd (false≢true (sym e))
-  either false y e = (refl, e)
-
   no-probes : (y : ℕ) → neighbours (r .waits) b y ≡ false → (z : Probes) → probesTo (r .waits) b z y ≡ []
   unfolding probesTo neighbours
   no-probes y n Probes.Nothing = refl
-  no-probes y n Sucs = rw (either (r .waits .waits b y) (r .waits .waits y b) n .0)
-  no-probes y n Pres = rw (either (r .waits .waits b y) (r .waits .waits y b) n .1)
+  no-probes y n Sucs = rw (or-none (r .waits .waits b y) (r .waits .waits y b) n .0)
+  no-probes y n Pres = rw (or-none (r .waits .waits b y) (r .waits .waits y b) n .1)
 
   nothing-sent : (y : ℕ) → neighbours (r .waits) b y ≡ false → sentTo (r .waits) b (turnAt r a b m) y ≡ []
   unfolding sentTo
@@ -347,8 +326,8 @@ module _ (t : Fields) (r : Run) (hd : Held t r) (h : wellFormed r ≡ true) (sd 
 
       proc : (p : ℕ) → (leb 1 p && leb p (nOf t)) ≡ false → Same p b → choose (eqb p b) (turnAt r a b m .process) (r .process p) ≡ idle
       proc p e (same f g) =
-          let i = ends r h sd a b j m rest l ok .1 in
-          absurd (false≢true (sym e ∙ and-both (leb 1 p) (leb p (nOf t)) (le-leb 1 p (omega (arith, i .0))) (le-leb p (nOf t) (omega (arith, i .1, size)))))
+          let i = ends r h sd a b j m rest l ok in
+          absurd (false≢true (sym e ∙ and-both (leb 1 p) (leb p (nOf t)) (le-leb 1 p (omega (arith, i .2))) (le-leb p (nOf t) (omega (arith, i .3, size)))))
       proc p e (apart f g) = rw g (hd .processes p e)
 
       none : (x y : ℕ) → neighbours (r .waits) x y ≡ false → Same x b → after r a b m rest .link x y ≡ []

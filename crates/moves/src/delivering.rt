@@ -100,8 +100,8 @@ fn is_for(reply: Reply, q: usize) -> bool
     }
 }
 
-// How many messages wait on the link from b to q.
-fn load(area: &[i32], square: &[u16; 16641], n: usize, m: usize, b: usize, q: usize) -> usize
+// How many messages wait on the link from b to q; 0 if there is no link.
+pub fn load(area: &[i32], square: &[u16; 16641], n: usize, m: usize, b: usize, q: usize) -> usize
     requires { ⌜ Ready (now area) (now square) n m ⌝ }
     requires { ⌜ (b ≤ n) × (q ≤ n) ⌝ }
     ensures is { λ r. ⌜ r ≡ length (runIn (now (area .entry)) .link b q) ⌝ }

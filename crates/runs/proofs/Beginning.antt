@@ -23,11 +23,11 @@ use Rattle.areas.specs.Area.{stored, fieldsIn, runIn, keeping}
 use Rattle.areas.specs.Held.{putProcess}
 use Rattle.areas.specs.StoredLaws.{stored-again}
 use Rattle.areas.specs.ReadLaws.{fieldsIn-stored, runIn-stored}
-use Rattle.areas.specs.AreaLaws.{Table, areaRight-stored}
+use Rattle.areas.specs.AreaLaws.{Table, areaRight-table, areaRight-stored}
 use Rattle.areas.specs.Squares.{Square}
 use Rattle.moves.specs.Changes.{spread}
 use Rattle.moves.specs.Fit.{Fit}
-use Rattle.moves.specs.Ready.{Ready, right-table, keeping-run, keeping-again, ready-kept}
+use Rattle.moves.specs.Ready.{Ready, keeping-run, keeping-again, ready-kept}
 use Rattle.runs.specs.Starting.{quiet, begun, sucSent, startedFrom, Startable, Unbegun}
 use Rattle.runs.specs.StartingLaws.{quiet-fit, begun-fit, begun-room, sucSent-fit, sucSent-room, startRun-made, started-inRange, started-father, startedFrom-is, accepted-table}
 
@@ -48,7 +48,7 @@ stage-of w sq n m y r f new e =
 
 module _ {w : List ℤ} {sq : List ℕ} {n m s : ℕ} (k : Unbegun w sq n m s) where
   table : Table (fieldsIn w)
-  table = right-table w (k .ready .right)
+  table = areaRight-table w (k .ready .right)
 
   sound : Sound (waitsOf (fieldsIn w))
   sound = waitsOf-sound (fieldsIn w) (table .right)

@@ -5,40 +5,35 @@
 --   process-zero, process-over, process-in   == whether a number is a process
 --   none-from, none-to        == who is no process has no link
 -- Assumes nothing.
-use Prim.Native.Nat.{ℕ, zero, suc, _≤_, _<_}
+use Prim.Native.Nat.{ℕ, _≤_, _<_}
 use mathlib.Core.Bool.{Bool, true, false, _||_}
 use mathlib.Core.List.{List}
 use mathlib.Core.Path.{_≡_, refl, sym, ap, _∙_}
 use native.Mathlib.Omega.{arith}
 use borrow.Author.Tests.{eq-eqb, ne-eqb, lt-ltb, le-ltb}
 use lib.Dec.{eqb, ltb}
-use lib.ListN.{length, getD, replicate, length-replicate, getD-replicate, List·getD-eq-default}
+use lib.ListN.{length, getD, replicate, length-replicate}
 use lib.IntN.{ℤ, pos}
 use mir.Syntax.{w32}
 use mir.Val.{ofZ}
 use Rattle.base.specs.Choice.{or-left, or-right}
-use Rattle.tables.specs.Table.{nOf, mOf}
 use Rattle.areas.specs.declared.testing.Sizes.{Sizes}
 use Rattle.areas.specs.declared.testing.Sizes.the-variants.{Right, Wrong}
 use Rattle.areas.specs.Area.{numberAt, fieldsIn, runIn, areaRight}
 use Rattle.areas.specs.Reads.{fieldsIn-n, fieldsIn-m}
 use Rattle.areas.specs.Squares.{Square}
 use Rattle.areas.specs.Testing.{sizesOf}
+use Rattle.areas.proofs.Whole.{replicate-zero}
 use Rattle.moves.specs.Ready.{Ready, right-fit}
-use Rattle.moves.specs.ChangeLaws.{neighbours-ends}
+use Rattle.tables.specs.WaitsLaws.{neighbours-swap, neighbours-ends}
 use Rattle.moves.specs.ReadyLaws.{ready-n}
 use Rattle.tables.specs.Waits.{neighbours}
 
 pub fresh-long : (n : ℕ) (l : List ℕ) → l ≡ replicate n 0 → length l ≡ n
 fresh-long n l e = ap length e ∙ length-replicate n 0
 
-zeros : (n k : ℕ) → _≡_ {A = ℕ} (getD (replicate n 0) k 0) 0
-zeros zero k = refl
-zeros (suc n) zero = refl
-zeros (suc n) (suc k) = zeros n k
-
 pub fresh-empty : (n : ℕ) (l : List ℕ) → l ≡ replicate n 0 → (k : ℕ) → getD l k 0 ≡ 0
-fresh-empty n l e k = rw e (zeros n k)
+fresh-empty n l e k = rw e (replicate-zero n k)
 
 pub wrong-area : (w : List ℤ) (s : Sizes) → s ≡ sizesOf (areaRight w) w → s ≡ Wrong → areaRight w ≡ false
 wrong-area w s e f = at (areaRight w) refl
@@ -90,8 +85,4 @@ none-from {w} y a b l = at (neighbours (runIn w .waits) a b) refl
     at true e = absurd (omega (arith, neighbours-ends (runIn w .waits) (right-fit w (y .right) .sound) a b e .1, ready-n y))
 
 pub none-to : {w : List ℤ} {sq : List ℕ} {n m : ℕ} → Ready w sq n m → (a b : ℕ) → n < b → neighbours (runIn w .waits) a b ≡ false
-none-to {w} y a b l = at (neighbours (runIn w .waits) a b) refl
-  where
-    at : (x : Bool) → neighbours (runIn w .waits) a b ≡ x → neighbours (runIn w .waits) a b ≡ false
-    at false e = e
-    at true e = absurd (omega (arith, neighbours-ends (runIn w .waits) (right-fit w (y .right) .sound) a b e .3, ready-n y))
+none-to {w} y a b l = neighbours-swap (runIn w .waits) a b ∙ none-from y b a l

@@ -1,19 +1,18 @@
 -- Demand 3 for the calls on lent words.
---   area-call, area-list   == a call, and a list of calls, on an area does what the same does on its run
 --   AreaPromise            == what is said of every list: the area is well formed, its run keeps the promise, words past it are untouched
 --   area-ending            == THE THEOREM: after every list of calls on the area that an accepted start left
 -- Assumes nothing.
 use Prim.Native.Nat.{ℕ, _≤_}
-use mathlib.Core.Bool.{Bool, true, false, not, _||_, false≢true}
+use mathlib.Core.Bool.{true, false, not, _||_}
 use mathlib.Core.List.{List, [], _∷_}
-use mathlib.Core.Path.{_≡_, refl, sym}
+use mathlib.Core.Path.{_≡_, refl}
 use native.Mathlib.Omega.{arith}
 use borrow.Author.Tests.{eqb-false, ltb-false, eq-eqb}
 use lib.Dec.{eqb, ltb}
 use lib.ListN.{length, drop}
 use lib.Seq.{drop-at}
 use lib.IntN.{ℤ}
-use Rattle.base.specs.Choice.{choose, Tested, passed, failed, tested, Same, same, apart, same?}
+use Rattle.base.specs.Choice.{choose, Tested, passed, failed, tested, Same, same, apart, same?, or-none}
 use Rattle.tables.specs.Table.{Fields, fieldOf, nOf, mOf}
 use Rattle.tables.specs.Reading.{readNumber}
 use Rattle.tables.specs.Waits.{Waits, Sound, waitsOf}
@@ -82,10 +81,6 @@ pub record AreaPromise (w : Waits) (s : ℕ) (old : List ℤ) (n : ℕ) (p : Are
   -- "Surplus words are not touched."
   pub surplus : drop n (p .area) ≡ drop n old
 
-either : (x y : Bool) → (x || y) ≡ false → (x ≡ false) × (y ≡ false)
-either true y q = absurd (false≢true (sym q))
-either false y q = (refl, q)
-
 -- words past an area stay
 stored-surplus : (t : Fields) (r : Run) (w : List ℤ) → drop (areaOf t) (stored t r w) ≡ drop (areaOf t) w
 unfolding stored
@@ -102,7 +97,7 @@ unfolding startNumber waitsOf
 start-right bs s w e = at (same? (readNumber bs) 0) (tested (eqb s 0 || ltb (nOf (fieldOf bs)) s)) (tested (ltb (length w) (areaLength (nOf (fieldOf bs)) (mOf (fieldOf bs))))) e
   where
     outside : (eqb s 0 || ltb (nOf (fieldOf bs)) s) ≡ false → (eqb s 0 ≡ false) × (ltb (nOf (fieldOf bs)) s ≡ false)
-    outside = either (eqb s 0) (ltb (nOf (fieldOf bs)) s)
+    outside = or-none (eqb s 0) (ltb (nOf (fieldOf bs)) s)
 
     at : Same (readNumber bs) 0 → Tested (eqb s 0 || ltb (nOf (fieldOf bs)) s) → Tested (ltb (length w) (areaLength (nOf (fieldOf bs)) (mOf (fieldOf bs)))) → choose (not (eqb (readNumber bs) 0)) (readNumber bs) (choose (eqb s 0 || ltb (nOf (fieldOf bs)) s) 8 (choose (ltb (length w) (areaLength (nOf (fieldOf bs)) (mOf (fieldOf bs)))) 9 0)) ≡ 0 → StartRight bs s w
     at (apart d f) p l q = absurd (d (rw f at q))

@@ -1,6 +1,5 @@
 -- The run of a start, as code makes it: from the quiet run the start's record, then its suc probes, then its pre probes.
 --   quiet-fit, begun-fit, sucSent-fit, start-fit   == each run on the way, and the last, is one that the area holds, and well formed
---   countTo-most      == of 1 to n at most n pass a test
 --   started-inRange, started-father, begun-room, sucSent-room   == what the changes ask of the values
 --   startRun-made     == the last is the run of `checks`' own start
 --   startedFrom-is    == the start's record by the square is its record
@@ -14,14 +13,12 @@ use native.Mathlib.Omega.{arith}
 use borrow.Author.Tests.{leb-false, le-leb}
 use lib.Dec.{eqb, leb}
 use lib.ListN.{length, getD, List·getD-eq-default}
-use Rattle.base.specs.Choice.{choose, bit, bit-≤1, and-both, Tested, passed, failed, tested}
-use Rattle.base.specs.Sums.{countTo, sumTo-most}
+use Rattle.base.specs.Choice.{choose, Tested, passed, failed, tested}
+use Rattle.base.specs.Counts.{countTo-most}
 use Rattle.tables.specs.declared.Chain.{Chain}
 use Rattle.tables.specs.declared.Chain.the-variants.{Out, In}
-use Rattle.tables.specs.Table.{Fields, fieldOf, nOf, mOf}
+use Rattle.tables.specs.Table.{Fields, fieldOf, nOf}
 use Rattle.tables.specs.Layout.{Right, Accepted}
-use Rattle.tables.specs.Reading.{sizesRight}
-use Rattle.tables.specs.LayoutLaws.{fieldsNumber-P}
 use Rattle.tables.specs.Waits.{Waits, Sound, waitsOf, outDegree, inDegree}
 use Rattle.tables.specs.WaitsLaws.{waitsOf-sound}
 use Rattle.tables.specs.Chains.{joins}
@@ -40,10 +37,6 @@ use Rattle.moves.specs.Fit.{Fit}
 use Rattle.runs.specs.Starting.{quiet, begun, sucSent, startedFrom}
 
 -- ---- the values of the start's record
-
-pub countTo-most : (n : ℕ) (p : ℕ → Bool) → countTo n p ≤ n
-unfolding countTo
-countTo-most n p = omega (arith, sumTo-most n 1 (λ k. bit (p k)) (λ k l u. bit-≤1 (p k)))
 
 pub started-inRange : (w : Waits) → Sound w → (s : ℕ) → inRange (started w s) ≡ true
 unfolding inRange small started outDegree inDegree
@@ -141,13 +134,4 @@ fieldOf-shut bs h j u =
     omega arith
 
 pub accepted-table : (bs : List ℕ) → Accepted bs → Table (fieldOf bs)
-unfolding sizesRight
-accepted-table bs h =
-    let z = h .right .sizes in
-    let t : Fields = fieldOf bs in
-    record {
-      right = h .right;
-      sizes = and-both (leb 1 (nOf t) && leb (nOf t) 128) (leb (mOf t) 512) (and-both (leb 1 (nOf t)) (leb (nOf t) 128) (le-leb 1 (nOf t) (z .0)) (le-leb (nOf t) 128 (z .1))) (le-leb (mOf t) 512 (z .2));
-      number = fieldsNumber-P (fieldOf bs) (h .right .sizes) .1 (h .right);
-      shut = fieldOf-shut bs h;
-    }
+accepted-table bs h = record { right = h .right; shut = fieldOf-shut bs h }

@@ -1,7 +1,7 @@
 -- Counts and sums as signed 32-bit numbers.
---   count-back                     == a signed local read back is the number that was put there
+--   signed-back                    == a signed local read back is the number that was put there
 --   small-back                     == what is_small says of a count that was read back, it says of the count
---   small-fits                     == a count in range fits 32 bits
+--   mag-abs, small-fits            == a count in range fits 32 bits
 --   small-below, small-test        == what the two tests of the range say of it
 --   small-sum                      == the sum of two counts in range fits 32 bits
 --   small-change                   == new minus old of two flags is a count in range
@@ -23,17 +23,17 @@ use Rattle.base.specs.Choice.{Tested, passed, failed, tested, choose}
 use Rattle.steps.specs.declared.Process.{Process}
 use Rattle.steps.specs.Step.{small, newSubordinate}
 
-pub count-back : (z : ℤ) → mag z < 2 ^ 31 → toZ w32 (ofZ w32 z) ≡ z
-count-back z h = toZ-ofZ {w = w32} {z = z} (record { sfits = h })
+pub signed-back : (z : ℤ) → mag z < 2 ^ 31 → toZ w32 (ofZ w32 z) ≡ z
+signed-back z h = toZ-ofZ {w = w32} {z = z} (record { sfits = h })
 
 pub small-back : {b : Bool} (z : ℤ) → mag z < 2 ^ 31 → b ≡ small (toZ w32 (ofZ w32 z)) → b ≡ small z
-small-back z h e = rw (count-back z h) at e
+small-back z h e = rw (signed-back z h) at e
 
 small-mag : (z : ℤ) → small z ≡ true → natAbs z ≤ 128
 unfolding small
 small-mag z e = leb-true (natAbs z) 128 e
 
-mag-abs : (z : ℤ) → mag z ≤ natAbs z
+pub mag-abs : (z : ℤ) → mag z ≤ natAbs z
 mag-abs (pos n) = omega arith
 mag-abs (negsuc n) = omega arith
 
@@ -73,7 +73,7 @@ small-change new (suc old) p q = le-leb (natAbs (subℕ new (suc old))) 128 (ome
 
 -- a flag as a signed number
 pub flag-back : (v : ℕ) → v ≤ 1 → toZ w32 v ≡ pos v
-flag-back v h = count-back (pos v) (omega arith)
+flag-back v h = signed-back (pos v) (omega arith)
 
 -- the new subordinate is a flag
 pub newSubordinate-flag : (x : Process) → newSubordinate x ≤ 1

@@ -22,7 +22,7 @@ use Rattle.steps.specs.declared.Process.{Process}
 use Rattle.steps.specs.declared.Stepped.{Stepped}
 use Rattle.steps.specs.Step.{Turn, withSubordinate, withCs, small, inRange, countSmall, lentInRange, numSuffices, fitting, answer, newSubordinate, gained, rule1, setSucceeding, setPreceding, rule3}
 use Rattle.steps.specs.Within.{Addable, settled}
-use Rattle.steps.proofs.Counts.{count-back}
+use Rattle.steps.proofs.Counts.{signed-back}
 
 -- the parts of a conjunction of five
 and-five : (a b c d e : Bool) → (a && b && c && d && e) ≡ true → (a ≡ true) × (b ≡ true) × (c ≡ true) × (d ≡ true) × (e ≡ true)
@@ -93,7 +93,7 @@ unfolding countSmall numSuffices
 acknowledgeable m c x e h r s n =
     let few : leb 1 (x .num) ≡ true = rw e at n in
     let count : small c ≡ true = rw e at s in
-    (rw (count-back c h) count, (ranged x r .count, leb-true 1 (x .num) few))
+    (rw (signed-back c h) count, (ranged x r .count, leb-true 1 (x .num) few))
 
 pub rule3-made : (t : Turn) (v : ℕ) (z : ℤ) → v ≡ newSubordinate (t .process) → z ≡ gained v (t .process) → (record { process = withSubordinate v (withCs z (t .process)); probes = t .probes; reply = t .reply }) ≡ rule3 t
 unfolding rule3

@@ -13,6 +13,7 @@ use lib.ListN.{length}
 use Rattle.tables.specs.declared.Reading.{Reading}
 use Rattle.tables.specs.Table.{Fields, fieldOf, nOf, mOf, tableLength}
 use Rattle.tables.specs.Reading.{sizesRight, fieldsNumber, readNumber, answer, readingOf}
+use Rattle.tables.specs.LayoutLaws.{sizesRight-P}
 
 answer-refused : (q r n m : ℕ) → r ≡ q → (r ≡ 0 → ⊥) → Reading.Refused r ≡ answer q n m
 unfolding answer
@@ -36,10 +37,6 @@ module _ (t : Fields) where
   sizes-arcs : 1 ≤ nOf t → nOf t ≤ 128 → 512 < mOf t → sizesRight t ≡ false
   unfolding sizesRight
   sizes-arcs l u h = rw (le-leb 1 (nOf t) l, le-leb (nOf t) 128 u, lt-leb (mOf t) 512 h)
-
-  sizes-right : 1 ≤ nOf t → nOf t ≤ 128 → mOf t ≤ 512 → sizesRight t ≡ true
-  unfolding sizesRight
-  sizes-right l u h = rw (le-leb 1 (nOf t) l, le-leb (nOf t) 128 u, le-leb (mOf t) 512 h)
 
 module _ (bs : List ℕ) where
   pub readNumber-1 : length bs < 4 → readNumber bs ≡ 1
@@ -81,7 +78,7 @@ module _ (bs : List ℕ) where
 
     module _ (l : n ≡ 0 → ⊥) (u : n ≤ 128) (h : m ≤ 512) where
       sizes : sizesRight (fieldOf bs) ≡ true
-      sizes = sizes-right (fieldOf bs) (omega arith) (omega arith) (omega arith)
+      sizes = sizesRight-P (fieldOf bs) .1 (omega arith, omega arith, omega arith)
 
       pub readingOf-3 : (length bs ≡ tableLength n m → ⊥) → Reading.Refused 3 ≡ readingOf bs
       readingOf-3 d = refused 3 (readNumber-3 long sizes (λ e. d (omega arith))) (λ e. omega arith)

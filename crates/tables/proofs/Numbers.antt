@@ -1,23 +1,14 @@
--- Laws on the numbers of refusals, one for each way that the code goes.
---   yes, no          == a test's value, from the code's answer
---   fieldsNumber-..  == checks 4 to 7, by the first that fails
+-- Laws on the number of checks 4 to 7, one for each way that the code goes.
+--   fieldsNumber-ends, fieldsNumber-firsts, fieldsNumber-nexts, fieldsNumber-out, fieldsNumber-in, fieldsNumber-alike   == the first that fails
+--   fieldsNumber-none   == none fails
 -- Assumes nothing.
 use Prim.Native.Nat.{ℕ}
-use mathlib.Core.Bool.{Bool, true, false, not}
-use mathlib.Core.Path.{_≡_, sym, _∙_}
-use borrow.Author.Tests.{not-true, not-false}
+use mathlib.Core.Bool.{true, false}
+use mathlib.Core.Path.{_≡_}
 use Rattle.base.specs.Sums.{allTo}
 use Rattle.tables.specs.declared.Chain.the-variants.{Out, In}
 use Rattle.tables.specs.Table.{Fields, nOf, mOf}
 use Rattle.tables.specs.Reading.{endsRight, firstsRight, nextsRight, chainsRight, unlikeBefore, fieldsNumber}
-
-pub yes : {b x : Bool} → b ≡ x → not b ≡ false → x ≡ true
-yes {b} {x} e h = sym e ∙ not-false b h
-
-pub no : {b x : Bool} → b ≡ x → not b ≡ true → x ≡ false
-no {b} {x} e h = sym e ∙ not-true b h
-
--- ---- checks 4 to 7
 
 module _ (t : Fields) (n m : ℕ) (en : n ≡ nOf t) (em : m ≡ mOf t) where
   pub fieldsNumber-ends : allTo m (endsRight t) ≡ false → 4 ≡ fieldsNumber t

@@ -5,17 +5,18 @@
 --   refused-told       == the answer Refused r tells Refuses bs r
 -- Assumes nothing.
 use Prim.Native.Nat.{ℕ, zero, suc, _≤_}
-use mathlib.Core.Bool.{true, _&&_}
+use mathlib.Core.Bool.{true}
 use mathlib.Core.List.{List}
 use mathlib.Core.Path.{_≡_, refl, sym, _∙_}
-use borrow.Author.Tests.{ltb-true, ltb-false, leb-true}
+use borrow.Author.Tests.{ltb-true, ltb-false}
 use native.Mathlib.Omega.{arith}
-use lib.Dec.{leb, ltb}
+use lib.Dec.{ltb}
 use lib.ListN.{length}
-use Rattle.base.specs.Choice.{Tested, passed, failed, tested, Same, same, apart, same?, and-left, and-right}
+use Rattle.base.specs.Choice.{Tested, passed, failed, tested, Same, same, apart, same?}
 use Rattle.tables.specs.declared.Reading.{Reading}
-use Rattle.tables.specs.Table.{Fields, fieldOf, nOf, mOf, tableLength}
+use Rattle.tables.specs.Table.{fieldOf, nOf, mOf, tableLength}
 use Rattle.tables.specs.Reading.{sizesRight, fieldsNumber, readNumber, answer, readingOf}
+use Rattle.tables.specs.LayoutLaws.{sizesRight-P}
 use Rattle.tables.proofs.Answers.{readNumber-1, readNumber-2, readNumber-3, readNumber-4}
 
 pub record Refuses (bs : List ℕ) (r : ℕ) : Type 0 where
@@ -56,15 +57,6 @@ passes bs z = short (tested (ltb (length bs) 4))
     short (passed e) = absurd (wrong 1 (omega arith) (readNumber-1 bs (ltb-true (length bs) 4 e)))
     short (failed e) = sizes (ltb-false (length bs) 4 e) (tested (sizesRight (fieldOf bs)))
 
-sizes-in : (t : Fields) → sizesRight t ≡ true → (1 ≤ nOf t) × (nOf t ≤ 128) × (mOf t ≤ 512)
-unfolding sizesRight
-sizes-in t e =
-    let a = leb 1 (nOf t) in
-    let b = leb (nOf t) 128 in
-    let d = leb (mOf t) 512 in
-    let ab : (a && b) ≡ true = and-left (a && b) d e in
-    (leb-true 1 (nOf t) (and-left a b ab), leb-true (nOf t) 128 (and-right a b ab), leb-true (mOf t) 512 (and-right (a && b) d e))
-
 answer-refused : (q n m r : ℕ) → answer q n m ≡ Reading.Refused r → (q ≡ r) × (r ≡ 0 → ⊥)
 unfolding answer
 answer-refused zero n m r e = absurd (let z : _≡_ {A = ℕ} 0 1 = cc in omega arith)
@@ -91,7 +83,7 @@ unfolding readingOf
 accepted-told bs n m e =
     let told = answer-accepted (readNumber bs) (nOf (fieldOf bs)) (mOf (fieldOf bs)) n m e in
     let right = passes bs (told .0) in
-    let sizes = sizes-in (fieldOf bs) (right .sizes) in
+    let sizes = sizesRight-P (fieldOf bs) .0 (right .sizes) in
     let n-of : n ≡ nOf (fieldOf bs) = told .1 in
     let m-of : m ≡ mOf (fieldOf bs) = told .2 in
     record {

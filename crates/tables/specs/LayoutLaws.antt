@@ -1,17 +1,19 @@
 -- Reading by tests says what the layout says: the number is 0 exactly if the layout is met, and else the number of the first row met.
+--   sizesRight-P     == check 2 finds nothing exactly if N and M are in range
 --   fieldsNumber-P   == checks 4 to 7 find nothing exactly if the fields are right
 --   accepted-P       == "Reading a table checks 1 to 7 in order": no check finds anything exactly if the bytes meet the layout
 --   refused-P        == a number is given exactly if its row is met and no row before it is
 -- Assumes nothing.
 use Prim.Native.Nat.{ℕ, zero, suc, _-_, _≤_, _<_}
-use mathlib.Core.Bool.{Bool, not, _&&_}
+use mathlib.Core.Bool.{Bool, true, not, _&&_, false≢true}
 use mathlib.Core.List.{List, []}
 use mathlib.Core.Logic.{_⊎_, inl, inr, ⊎-elim, ⊎-map, _↔_}
-use mathlib.Core.Path.{_≡_, refl, sym, ap}
+use mathlib.Core.Path.{_≡_, refl, sym, ap, _∙_}
 use lib.Dec.{eqb, leb, ltb}
 use lib.ListN.{length}
+use borrow.Author.Tests.{leb-true, le-leb}
 use native.Mathlib.Omega.{arith}
-use Rattle.base.specs.Choice.{choose, Same, same, apart, same?}
+use Rattle.base.specs.Choice.{choose, Same, same, apart, same?, and-three}
 use Rattle.base.specs.Sums.{allTo}
 use Rattle.tables.specs.declared.Chain.{Chain}
 use Rattle.tables.specs.declared.Chain.the-variants.{Out, In}
@@ -39,9 +41,17 @@ AllUnlike t = (j k : ℕ) → IsArc t j → IsArc t k → Alike t j k → j ≡ 
 
 -- ---- each check, with what it says of the fields
 
-check-sizes : (bs : List ℕ) (t : Fields) → Check (sizesRight t) (Sizes t) (RowOf 2 bs t)
+pub sizesRight-P : (t : Fields) → (sizesRight t ≡ true) ↔ Sizes t
 unfolding sizesRight
-check-sizes bs t = check-map (λ p. (p .0 .0, p .0 .1, p .1)) (λ r s. ⊎-elim (λ q. ⊎-elim (λ h. omega arith) (λ h. omega arith) q) (λ h. omega arith) r) (check-both (check-both (check-le 1 (nOf t)) (check-le (nOf t) 128)) (check-le (mOf t) 512))
+sizesRight-P t = (to, λ s. rw (le-leb 1 (nOf t) (s .0), le-leb (nOf t) 128 (s .1), le-leb (mOf t) 512 (s .2)))
+  where
+    to : (leb 1 (nOf t) && leb (nOf t) 128 && leb (mOf t) 512) ≡ true → Sizes t
+    to e =
+        let s = and-three (leb 1 (nOf t)) (leb (nOf t) 128) (leb (mOf t) 512) e in
+        (leb-true 1 (nOf t) (s .0), leb-true (nOf t) 128 (s .1), leb-true (mOf t) 512 (s .2))
+
+check-sizes : (bs : List ℕ) (t : Fields) → Check (sizesRight t) (Sizes t) (RowOf 2 bs t)
+check-sizes bs t = check-of (sizesRight t) (Sizes t) (RowOf 2 bs t) (sizesRight-P t .0) (λ e s. false≢true (sym e ∙ sizesRight-P t .1 s))
 
 check-long : (bs : List ℕ) (t : Fields) → Check (eqb (length bs) (tableLength (nOf t) (mOf t))) (length bs ≡ tableLength (nOf t) (mOf t)) (RowOf 3 bs t)
 check-long bs t = check-eq (length bs) (tableLength (nOf t) (mOf t))

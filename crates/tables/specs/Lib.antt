@@ -18,11 +18,9 @@ pub mod ChainTest
 pub mod LayoutLaws
 pub mod WaitsLaws
 pub mod MetLaws
-pub mod TestLaws
 pub mod FrontLaws
 pub mod BytesLaws
 pub mod PuttingLaws
-pub mod SquareLaws
 pub mod FrontChains
 pub mod NumberLaws
 pub mod WritingLaws

@@ -1,18 +1,18 @@
 -- Reading a table by tests, in the order that the code follows ("Reading a table checks 1 to 7 in order").
 --   walked c t p ..   == one chain followed with a number of arcs left; each arc must be p's own
 --   chainsRight c t   == every chain followed in turn, with M arcs left at first and none at the end (row 6 if not)
---   unlikeTo t k      == arc k agrees in both ends with no earlier arc
+--   unlikeBefore t k  == arc k agrees in both ends with no earlier arc
 --   readNumber bs     == the first row that is met, 0 if none is
 --   readingOf bs      == the answer: accepted with N and M, or refused with the number
 --   numberOf, nFound, mFound   == for each case of an answer 01's number and values, zeros elsewhere
 -- Assumes nothing.
-use Prim.Native.Nat.{ℕ, zero, suc, _+_, _-_, _*_}
-use mathlib.Core.Bool.{Bool, true, false, not, _&&_, _||_}
+use Prim.Native.Nat.{ℕ, zero, suc, _-_}
+use mathlib.Core.Bool.{Bool, true, false, not, _&&_}
 use mathlib.Core.List.{List}
 use lib.Dec.{eqb, leb, ltb}
 use lib.ListN.{length}
 use Rattle.base.specs.Choice.{choose}
-use Rattle.base.specs.Sums.{allTo, anyTo}
+use Rattle.base.specs.Sums.{allTo}
 use Rattle.tables.specs.declared.Chain.{Chain}
 use Rattle.tables.specs.declared.Chain.the-variants.{Out, In}
 use Rattle.tables.specs.declared.Reading.{Reading}

@@ -1,32 +1,34 @@
 -- Laws of the waits that a right table holds.
+--   saysWait t a b k, saysWait-from, saysWait-to   == the test that arc k says that a waits for b
 --   waitsOf-P       == a waits for b exactly if some arc has these ends
 --   waitsOf-sum     == what is summed over the arcs may be summed over the waits: "No two arcs agree in both from and to"
 --   arcCount-is     == there are as many waits as arcs
 --   waitsOf-sound   == the waits of a right table are sound
+--   neighbours-swap, neighbours-ends   == neighbours are so both ways, and are processes
 -- Assumes nothing.
-use Prim.Native.Nat.{ℕ, _*_}
-use mathlib.Core.Bool.{Bool, true, _&&_}
-use mathlib.Core.Logic.{_↔_}
+use Prim.Native.Nat.{ℕ, _*_, _≤_}
+use mathlib.Core.Bool.{Bool, true, _&&_, or-comm}
+use mathlib.Core.Logic.{_↔_, ⊎-elim}
 use mathlib.Core.Path.{_≡_, sym, ap, _∙_}
 use lib.Dec.{eqb}
 use borrow.Author.Tests.{eqb-true, eq-eqb}
 use native.Mathlib.Nat.{mul-one}
 use native.Mathlib.Omega.{arith}
-use Rattle.base.specs.Choice.{bit, and-left, and-right, and-both}
+use Rattle.base.specs.Choice.{bit, and-left, and-right, and-both, or-cases}
 use Rattle.base.specs.Sums.{sumTo, countTo, anyTo, sumTo-cong, sumTo-most, sumTo-swap, Found, anyTo-of, anyTo-found}
 use Rattle.base.specs.Counts.{countTo-one, sumTo-least, sumTo-times, sumTo-pick-two}
 use Rattle.tables.specs.Table.{Fields, nOf, mOf, arcAt}
 use Rattle.tables.specs.Layout.{Process, IsArc, Right}
-use Rattle.tables.specs.Waits.{waitsOf, outDegree, arcCount, Sound}
+use Rattle.tables.specs.Waits.{Waits, waitsOf, outDegree, arcCount, neighbours, Sound}
 
 -- arc k says that a waits for b
-abbrev saysWait : Fields → ℕ → ℕ → ℕ → Bool
+abbrev pub saysWait : Fields → ℕ → ℕ → ℕ → Bool
 saysWait t a b k = eqb (arcAt t k .from) a && eqb (arcAt t k .to) b
 
-saysWait-from : (t : Fields) (a b k : ℕ) → saysWait t a b k ≡ true → arcAt t k .from ≡ a
+pub saysWait-from : (t : Fields) (a b k : ℕ) → saysWait t a b k ≡ true → arcAt t k .from ≡ a
 saysWait-from t a b k e = eqb-true (arcAt t k .from) a (and-left (eqb (arcAt t k .from) a) (eqb (arcAt t k .to) b) e)
 
-saysWait-to : (t : Fields) (a b k : ℕ) → saysWait t a b k ≡ true → arcAt t k .to ≡ b
+pub saysWait-to : (t : Fields) (a b k : ℕ) → saysWait t a b k ≡ true → arcAt t k .to ≡ b
 saysWait-to t a b k e = eqb-true (arcAt t k .to) b (and-right (eqb (arcAt t k .from) a) (eqb (arcAt t k .to) b) e)
 
 -- "An arc says that *from* waits for *to*."
@@ -102,3 +104,15 @@ waitsOf-sound t r =
       to-high = λ a b e. waitsOf-ends t r a b e .1 .1;
       arcs = omega (arith, arcCount-is t r, r .sizes .2);
     }
+
+pub neighbours-swap : (w : Waits) (a b : ℕ) → neighbours w a b ≡ neighbours w b a
+unfolding neighbours
+neighbours-swap w a b = or-comm (w .waits a b) (w .waits b a)
+
+pub neighbours-ends : (w : Waits) → Sound w → (a b : ℕ) → neighbours w a b ≡ true → (1 ≤ a) × (a ≤ w .n) × (1 ≤ b) × (b ≤ w .n)
+unfolding neighbours
+neighbours-ends w s a b j =
+    ⊎-elim
+    (λ (e : w .waits a b ≡ true). (s .from-low a b e, s .from-high a b e, s .to-low a b e, s .to-high a b e))
+    (λ (e : w .waits b a ≡ true). (s .to-low b a e, s .to-high b a e, s .from-low b a e, s .from-high b a e))
+    (or-cases (w .waits a b) (w .waits b a) j)

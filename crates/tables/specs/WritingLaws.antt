@@ -13,10 +13,9 @@ use lib.Seq.{take-at}
 use borrow.Author.Tests.{ltb-true, ltb-false}
 use native.Mathlib.Omega.{arith}
 use Rattle.base.specs.Choice.{Same, same, apart, same?, Tested, passed, failed, tested}
-use Rattle.base.specs.Sums.{allTo, anyTo}
+use Rattle.base.specs.Sums.{allTo, anyTo, anyTo-cong}
 use Rattle.tables.specs.declared.Chain.{Chain}
 use Rattle.tables.specs.declared.Chain.the-variants.{Out, In}
-use Rattle.tables.specs.TestLaws.{anyTo-cong}
 use Rattle.tables.specs.Table.{Fields, fieldOf, nOf, mOf, tableLength, first, arcAt, near, next}
 use Rattle.tables.specs.Layout.{IsArc, Process, Ends, Alike, Right, Accepted}
 use Rattle.tables.specs.Waits.{waitsOf}

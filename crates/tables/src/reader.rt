@@ -79,7 +79,7 @@ pub fn next_of(c: Chain, a: Arc) -> usize
 }
 
 // p is one of n processes.
-fn is_process(p: usize, n: usize) -> bool
+pub fn is_process(p: usize, n: usize) -> bool
     ensures { λ r. ⌜ r ≡ (leb 1 p && leb p n) ⌝ }
 {
     if p == 0 {

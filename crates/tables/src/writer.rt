@@ -4,10 +4,11 @@ ghost use mathlib.Core.Path.{_≡_};
 ghost use Prim.Native.Nat.{ℕ, _+_, _*_, _<_, _≤_};
 ghost use lib.ListN.{length, getD};
 ghost use Rattle.base.specs.Sums.{allTo};
-ghost use Rattle.tables.specs.Writing.{Fit, pairs, end, isProcess, endsFit, unlike, writtenField, tableOver, writeNumber, written, writingOf};
+ghost use Rattle.tables.specs.Writing.{Fit, pairs, end, endsFit, unlike, writtenField, tableOver, writeNumber, written, writingOf};
 ghost use Rattle.tables.specs.Putting.{putField, putArc, putFields, Fronts, Below};
 use crate::Chain;
 use crate::Writing;
+use crate::reader;
 
 // The from of pair k + 1, and its to.
 fn from_of(list: &[u16], k: usize) -> u16
@@ -24,13 +25,6 @@ fn to_of(list: &[u16], k: usize) -> u16
     list[2 * k + 1]
 }
 
-// p is 1 to n.
-fn is_process(n: usize, p: usize) -> bool
-    ensures { λ r. ⌜ r ≡ isProcess n p ⌝ }
-{
-    1 <= p && p <= n
-}
-
 // Check 4 is not met: each from and to is a process.
 fn ends_fit(n: usize, list: &[u16]) -> bool
     ensures { λ r. ⌜ r ≡ allTo (pairs (now (list .entry))) (endsFit n (now (list .entry))) ⌝ }
@@ -40,10 +34,10 @@ fn ends_fit(n: usize, list: &[u16]) -> bool
     while k < m {
         let from = from_of(list, k) as usize;
         let to = to_of(list, k) as usize;
-        if !is_process(n, from) {
+        if !reader::is_process(from, n) {
             return false;
         }
-        if !is_process(n, to) {
+        if !reader::is_process(to, n) {
             return false;
         }
         k += 1;

@@ -77,9 +77,9 @@ loop-holds c =
     let start = c .before .before .before .before in
     (omega arith, omega arith, scan .inv .2, lowestReceiver-start (runIn (start .args .area .now)) (scan .a))
 
-waiting-requires : tie.Need-waiting-requires Inv-loop μ-loop Inv-scan μ-scan
-waiting-requires c κs =
-    (c .before .before .before .before .before .before .pre .0, (omega arith, omega arith))
+load-requires : tie.Need-load-requires Inv-loop μ-loop Inv-scan μ-scan
+load-requires c κs =
+    (c .before .before .before .before .before .before .pre .0, omega arith)
 
 add-b : tie.Need-add-b Inv-loop μ-loop Inv-scan μ-scan
 add-b c = omega (arith, ready-sizes (c .before .before .before .before .before .before .before .before .pre .0) .0)
@@ -90,7 +90,7 @@ loop-again c =
     let scan = c .before .before .before .before .before .before .before .scan in
     let start = c .before .before .before .before .before .before .before .before in
     let r = runIn (start .args .area .now) in
-    (omega arith, omega arith, loop .inv .2, lowestReceiver-pass r (scan .a) (loop .b) (omega arith) (loop .inv .3) (sym (c .before .waiting .ensures) ∙ c .if2 .left))
+    (omega arith, omega arith, loop .inv .2, lowestReceiver-pass r (scan .a) (loop .b) (omega arith) (loop .inv .3) (sym (c .before .load .ensures .0) ∙ c .if2 .left))
 
 add-a : tie.Need-add-a Inv-loop μ-loop Inv-scan μ-scan
 add-a c = omega (arith, ready-sizes (c .before .before .before .before .pre .0) .0)
@@ -121,7 +121,7 @@ found c =
     let few = ready-n (start .pre .0) in
     ⊎-elim
     (λ w. found-none (scan .a - 1) (w .1 ∙ scan .inv .2) (omega (arith, few)) (scan .inv .3))
-    (λ w. found-some (w .5 .result) (omega arith) (omega (arith, few)) (omega arith) (omega (arith, few)) (scan .inv .3) (w .3 .inv .3) (w .5 .ensures) (w .6 .taken) (w .7) (w .8))
+    (λ w. found-some (w .5 .result) (omega arith) (omega (arith, few)) (omega arith) (omega (arith, few)) (scan .inv .3) (w .3 .inv .3) (w .5 .ensures .0) (w .6 .taken) (w .7) (w .8))
     (c .scan-test .came)
 
 returns : tie.Need-returns Inv-loop μ-loop Inv-scan μ-scan
@@ -143,7 +143,7 @@ choose-spec =
     mul-if1
     element-copy-out-if1
     loop-holds
-    waiting-requires
+    load-requires
     add-b
     (λ c. omega arith)
     loop-again

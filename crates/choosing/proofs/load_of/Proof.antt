@@ -4,7 +4,7 @@ use Prim.Native.Nat.{_-_, _≤_}
 use mathlib.Core.Path.{_≡_, sym, ap, _∙_}
 use native.Mathlib.Omega.{arith}
 use Rattle.areas.specs.Area.{runIn}
-use Rattle.moves.specs.ReadyLaws.{runIn-few, ready-n, ready-sizes}
+use Rattle.moves.specs.ReadyLaws.{ready-n, ready-sizes}
 use Rattle.choosing.specs.LoadLaws.{loadTo, loadOf-is, loadTo-none, loadTo-next, loadTo-few}
 use Rattle.choosing.proofs.load_of.Statement.{statement}
 use Rattle.choosing.proofs.load_of.Tie as tie
@@ -21,10 +21,10 @@ add-end c = omega (arith, ready-sizes (c .pre .0) .0)
 loop-holds : tie.Need-loop-holds Inv-loop μ-loop
 loop-holds c = (omega arith, omega arith, sym (loadTo-none (runIn (c .args .area .now)) (c .args .a)))
 
-waiting-requires : tie.Need-waiting-requires Inv-loop μ-loop
-waiting-requires c κs =
+load-requires : tie.Need-load-requires Inv-loop μ-loop
+load-requires c κs =
     let start = c .before .before in
-    (start .pre .0, (start .pre .1, omega arith))
+    (start .pre .0, omega arith)
 
 add-l : tie.Need-add-l Inv-loop μ-loop
 add-l c =
@@ -32,7 +32,7 @@ add-l c =
     let loop = c .before .before .loop in
     let w = start .args .area .now in
     let a = start .args .a in
-    omega (arith, ready-sizes (start .pre .0) .0, loop .inv .2, loadTo-few w a (loop .b - 1), c .waiting .ensures, runIn-few w a (loop .b))
+    omega (arith, ready-sizes (start .pre .0) .0, loop .inv .2, loadTo-few w a (loop .b - 1), c .load .ensures .1)
 
 add-b : tie.Need-add-b Inv-loop μ-loop
 add-b c = omega (arith, ready-sizes (c .before .before .before .pre .0) .0)
@@ -42,7 +42,7 @@ loop-again c =
     let start = c .before .before .before in
     let loop = c .before .before .loop in
     let more = loadTo-next (runIn (start .args .area .now)) (start .args .a) (loop .b) (omega arith) in
-    (omega arith, omega arith, omega (arith, more, loop .inv .2, c .waiting .ensures))
+    (omega arith, omega arith, omega (arith, more, loop .inv .2, c .load .ensures .0))
 
 returns : tie.Need-returns Inv-loop μ-loop
 returns c =
@@ -61,7 +61,7 @@ load-of-spec =
     μ-loop
     add-end
     loop-holds
-    waiting-requires
+    load-requires
     add-l
     add-b
     (λ c. omega arith)

@@ -1,6 +1,6 @@
 -- `lines::put_outside` meets its contract: the word, the number and the end of the line. Assumes nothing.
 use borrow.Author.Needs.{needs}
-use Rattle.steps.proofs.Counts.{count-back}
+use Rattle.steps.proofs.Counts.{signed-back}
 use Rattle.lines.specs.Text.{outsideLine}
 use Rattle.lines.specs.AddingLaws.{_added-then_}
 use Rattle.lines.proofs.put_outside.Statement.{statement}
@@ -13,7 +13,7 @@ returns c =
     let c2 = c3 .before .before .before .before .before in
     let c1 = c2 .before .before .before .before in
     let a = c1 .before .before .before .before in
-    c1 .put-word .ensures added-then (rw (count-back (a .args .outside) (a .fits .outside .sfits)) at (c2 .put-count-field .ensures)) added-then c3 .put-word2 .ensures
+    c1 .put-word .ensures added-then (rw (signed-back (a .args .outside) (a .fits .outside .sfits)) at (c2 .put-count-field .ensures)) added-then c3 .put-word2 .ensures
 
 pub put-outside-spec : {M : Type 1} → statement M
 put-outside-spec =

@@ -1,7 +1,7 @@
 -- `lines::report_text` meets its contract: the five lines. Assumes nothing.
 use native.Mathlib.Omega.{arith}
 use borrow.Author.Needs.{needs}
-use Rattle.steps.proofs.Counts.{count-back}
+use Rattle.steps.proofs.Counts.{signed-back}
 use Rattle.lines.specs.Text.{overLine, escapeLine, reportText}
 use Rattle.lines.specs.AddingLaws.{_added-then_, added-line}
 use Rattle.lines.proofs.report_text.Statement.{statement}
@@ -16,7 +16,7 @@ returns c =
     let c2 = c3 .before .before .before .before in
     let c1 = c2 .before .before .before .before in
     let a = c1 .before .before .before .before in
-    added-line (c1 .put-number-line .ensures added-then c2 .put-verdict .ensures added-then (rw (count-back (a .args .outside) (a .fits .outside .sfits)) at (c3 .put-outside .ensures)) added-then c4 .put-number-line2 .ensures added-then c5 .put-mark .ensures) (omega (arith, a .pre))
+    added-line (c1 .put-number-line .ensures added-then c2 .put-verdict .ensures added-then (rw (signed-back (a .args .outside) (a .fits .outside .sfits)) at (c3 .put-outside .ensures)) added-then c4 .put-number-line2 .ensures added-then c5 .put-mark .ensures) (omega (arith, a .pre))
 
 pub report-text-spec : {M : Type 1} → statement M
 report-text-spec =

@@ -2,7 +2,7 @@
 -- as it was. Assumes nothing.
 use mathlib.Core.Path.{ap, _∙_}
 use borrow.Author.Needs.{needs}
-use Rattle.areas.proofs.Signs.{word-back}
+use Rattle.steps.proofs.Counts.{signed-back}
 use Rattle.checks.specs.Calls.{deliveryNumber, deliveryKind, deliveryCount}
 use Rattle.pickledune.proofs.pickledune_pick.Statement.{statement}
 use Rattle.pickledune.proofs.pickledune_pick.Tie as tie
@@ -14,7 +14,7 @@ returns c =
       d .ensures .0 ∙ ap deliveryNumber (e .0),
       (
         d .ensures .1 ∙ ap deliveryKind (e .0),
-        (word-back (d .result .count) (c .struct-told .given .1 .1 .0 .1) ∙ d .ensures .2 ∙ ap deliveryCount (e .0), e .1),
+        (signed-back (d .result .count) (c .struct-told .given .1 .1 .0 .1) ∙ d .ensures .2 ∙ ap deliveryCount (e .0), e .1),
       ),
     )
 

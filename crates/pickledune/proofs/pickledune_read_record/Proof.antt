@@ -2,7 +2,7 @@
 -- Assumes nothing.
 use mathlib.Core.Path.{ap, _∙_}
 use borrow.Author.Needs.{needs}
-use Rattle.areas.proofs.Signs.{word-back}
+use Rattle.steps.proofs.Counts.{signed-back}
 use Rattle.steps.specs.declared.Process.{Process}
 use Rattle.checks.specs.Calls.{readingNumber, readingProcess}
 use Rattle.pickledune.proofs.pickledune_read_record.Statement.{statement}
@@ -21,7 +21,7 @@ returns c =
           (
             ap (λ (p : Process). p .subordinate) x,
             (
-              word-back (d .result .process .cs) (c .struct-told .given .1 .1 .1 .0 .1) ∙ ap (λ (p : Process). p .cs) x,
+              signed-back (d .result .process .cs) (c .struct-told .given .1 .1 .1 .0 .1) ∙ ap (λ (p : Process). p .cs) x,
               (ap (λ (p : Process). p .num) x, ap (λ (p : Process). p .father) x),
             ),
           ),

@@ -4,7 +4,7 @@ use borrow.Author.Needs.{needs}
 use borrow.Author.Tests.{le-leb, lt-leb}
 use Rattle.steps.specs.Step.{inRange}
 use Rattle.steps.proofs.Counts.{small-back}
-use Rattle.steps.proofs.Flags.{value-not, value-yes}
+use Rattle.base.specs.Choice.{value-not, value-yes}
 use Rattle.steps.proofs.is_in_range.Statement.{statement}
 use Rattle.steps.proofs.is_in_range.Tie as tie
 

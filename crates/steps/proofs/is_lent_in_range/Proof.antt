@@ -3,7 +3,7 @@
 use borrow.Author.Needs.{needs}
 use borrow.Author.Tests.{le-leb, lt-leb}
 use Rattle.steps.specs.Step.{lentInRange}
-use Rattle.steps.proofs.Flags.{value-not, value-yes}
+use Rattle.base.specs.Choice.{value-not, value-yes}
 use Rattle.steps.proofs.is_lent_in_range.Statement.{statement}
 use Rattle.steps.proofs.is_lent_in_range.Tie as tie
 

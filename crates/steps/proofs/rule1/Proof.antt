@@ -2,7 +2,7 @@
 -- Assumes nothing.
 use borrow.Author.Tests.{eq-eqb, ne-eqb}
 use Rattle.steps.specs.Step.{rule1}
-use Rattle.steps.proofs.Counts.{count-back}
+use Rattle.steps.proofs.Counts.{signed-back}
 use Rattle.steps.proofs.rule1.Statement.{statement}
 use Rattle.steps.proofs.rule1.Tie as tie
 
@@ -10,13 +10,13 @@ returns : tie.Need-returns
 unfolding rule1
 returns c =
     let x = c .before .before .before .args .process in
-    rw (count-back (x .cs) (c .before .before .struct-told .given .1 .1 .1 .0 .1), eq-eqb (x .num) 0 (c .if1 .taken))
+    rw (signed-back (x .cs) (c .before .before .struct-told .given .1 .1 .1 .0 .1), eq-eqb (x .num) 0 (c .if1 .taken))
 
 returns-2 : tie.Need-returns-2
 unfolding rule1
 returns-2 c =
     let x = c .before .before .before .args .process in
-    rw (count-back (x .cs) (c .before .before .struct-told .given .1 .1 .1 .0 .1), ne-eqb (x .num) 0 (c .if1 .left))
+    rw (signed-back (x .cs) (c .before .before .struct-told .given .1 .1 .1 .0 .1), ne-eqb (x .num) 0 (c .if1 .left))
 
 pub rule1-spec : {M : Type 1} → statement M
 rule1-spec = tie.close (tie.spec returns returns-2)

@@ -5,7 +5,7 @@ use mathlib.Core.Path.{_≡_, ap₂, _∙_}
 use lib.IntN.{_+ℤ_}
 use borrow.Author.Needs.{needs}
 use Rattle.steps.specs.Step.{small, gained}
-use Rattle.steps.proofs.Counts.{count-back, small-fits, small-change, newSubordinate-flag}
+use Rattle.steps.proofs.Counts.{signed-back, small-fits, small-change, newSubordinate-flag}
 use Rattle.steps.proofs.Rules.{rule3-made}
 use Rattle.steps.proofs.rule3.Statement.{statement}
 use Rattle.steps.proofs.rule3.Tie as tie
@@ -24,7 +24,7 @@ sum-requires : tie.Need-sum-requires
 sum-requires c κs =
     let start = c .before .before .before .before in
     let x = start .args .turn .process in
-    (rw (count-back (x .cs) (small-fits (x .cs) (start .pre .count))) (start .pre .count), rw (count-back (c .before .change .result) (c .before .change .ok)) (changed (c .before)))
+    (rw (signed-back (x .cs) (small-fits (x .cs) (start .pre .count))) (start .pre .count), rw (signed-back (c .before .change .result) (c .before .change .ok)) (changed (c .before)))
 
 returns : tie.Need-returns
 unfolding gained
@@ -34,7 +34,7 @@ returns c =
     let v = c .before .before .before .new-subordinate in
     let d = c .before .before .change in
     rule3-made (start .args .turn) (v .result) _ (v .ensures)
-    (count-back (c .sum .result) (c .sum .ok) ∙ c .sum .ensures ∙ ap₂ _+ℤ_ (count-back (x .cs) (small-fits (x .cs) (start .pre .count))) (count-back (d .result) (d .ok) ∙ d .ensures))
+    (signed-back (c .sum .result) (c .sum .ok) ∙ c .sum .ensures ∙ ap₂ _+ℤ_ (signed-back (x .cs) (small-fits (x .cs) (start .pre .count))) (signed-back (d .result) (d .ok) ∙ d .ensures))
 
 pub rule3-spec : {M : Type 1} → statement M
 rule3-spec = tie.close (tie.spec (λ c κs. search needs) change-requires sum-requires returns)

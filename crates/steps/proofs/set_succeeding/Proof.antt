@@ -3,7 +3,7 @@
 use native.Mathlib.Omega.{arith}
 use borrow.Author.Tests.{eq-eqb, ne-eqb}
 use Rattle.steps.specs.Step.{setSucceeding}
-use Rattle.steps.proofs.Counts.{count-back}
+use Rattle.steps.proofs.Counts.{signed-back}
 use Rattle.steps.proofs.set_succeeding.Statement.{statement}
 use Rattle.steps.proofs.set_succeeding.Tie as tie
 
@@ -14,7 +14,7 @@ returns : tie.Need-returns
 unfolding setSucceeding
 returns c =
     let x = c .before .before .before .before .before .args .turn .process in
-    rw (count-back (x .cs) (c .struct-told .given .1 .1 .1 .0 .1), eq-eqb (x .succeeding) 0 (c .before .before .if1 .taken))
+    rw (signed-back (x .cs) (c .struct-told .given .1 .1 .1 .0 .1), eq-eqb (x .succeeding) 0 (c .before .before .if1 .taken))
 
 returns-2 : tie.Need-returns-2
 unfolding setSucceeding

@@ -2,7 +2,7 @@
 -- Assumes nothing.
 use borrow.Author.Needs.{needs}
 use Rattle.steps.specs.Step.{fitting, answer, startTurn, startStepped}
-use Rattle.steps.proofs.Flags.{value-not, value-yes}
+use Rattle.base.specs.Choice.{value-not, value-yes}
 use Rattle.steps.proofs.Rules.{settled-answer}
 use Rattle.steps.proofs.start_step.Statement.{statement}
 use Rattle.steps.proofs.start_step.Tie as tie

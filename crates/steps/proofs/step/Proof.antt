@@ -4,7 +4,7 @@ use borrow.Author.Needs.{needs}
 use borrow.Author.Tests.{eq-eqb, ne-eqb, lt-ltb, le-ltb}
 use Rattle.steps.specs.Step.{fitting, answer, turn, stepNumber, stepped}
 use Rattle.steps.specs.Within.{stepped-inside}
-use Rattle.steps.proofs.Flags.{value-not, value-yes}
+use Rattle.base.specs.Choice.{value-not, value-yes}
 use Rattle.steps.proofs.Rules.{settled-answer}
 use Rattle.steps.proofs.step.Statement.{statement}
 use Rattle.steps.proofs.step.Tie as tie

@@ -2,7 +2,7 @@
 -- Assumes nothing.
 use borrow.Author.Needs.{needs}
 use Rattle.steps.specs.Step.{startTurn}
-use Rattle.steps.proofs.Counts.{count-back}
+use Rattle.steps.proofs.Counts.{signed-back}
 use Rattle.steps.proofs.Rules.{acknowledgeable}
 use Rattle.steps.proofs.take_start_turn.Statement.{statement}
 use Rattle.steps.proofs.take_start_turn.Tie as tie
@@ -25,7 +25,7 @@ returns-3 : tie.Need-returns-3
 unfolding startTurn
 returns-3 c =
     let e = c .before .before .message .given in
-    let back = count-back (e .0 .0) (c .before .known-told .given .0 .1) in
+    let back = signed-back (e .0 .0) (c .before .known-told .given .0 .1) in
     rw (e .1) (rw back at (c .acknowledged .ensures))
 
 pub take-start-turn-spec : {M : Type 1} → statement M

@@ -4,7 +4,7 @@ use borrow.Author.Needs.{needs}
 use native.Mathlib.Omega.{arith}
 use mathlib.Core.Path.{ap, _∙_}
 use Rattle.steps.specs.Step.{rule1, setSucceeding, setPreceding, rule3, rule4, turn}
-use Rattle.steps.proofs.Counts.{count-back}
+use Rattle.steps.proofs.Counts.{signed-back}
 use Rattle.steps.proofs.Rules.{ranged, lent, rule1-num, rule1-addable, setSucceeding-addable, setPreceding-addable, acknowledgeable}
 use Rattle.steps.proofs.take_turn.Statement.{statement}
 use Rattle.steps.proofs.take_turn.Tie as tie
@@ -62,7 +62,7 @@ returns-3 : tie.Need-returns-3
 unfolding turn
 returns-3 c =
     let e = c .before .before .before .message .given in
-    let back = count-back (e .0 .0) (c .before .before .known-told .given .0 .1) in
+    let back = signed-back (e .0 .0) (c .before .before .known-told .given .0 .1) in
     rw (e .1) (c .rule43 .ensures ∙ ap rule4 (rw back at (c .before .acknowledged .ensures)))
 
 pub take-turn-spec : {M : Type 1} → statement M

@@ -6,8 +6,9 @@ use mathlib.Core.Path.{_≡_, refl, sym, ap, _∙_}
 use mathlib.Core.Logic.{⊎-elim}
 use native.Mathlib.Nat.{add-zero}
 use native.Mathlib.Omega.{arith}
-use Rattle.base.specs.Choice.{bit, bit-≤1}
-use Rattle.base.specs.Sums.{sumTo, countTo, sumTo-most}
+use Rattle.base.specs.Choice.{bit}
+use Rattle.base.specs.Sums.{sumTo, countTo}
+use Rattle.base.specs.Counts.{countTo-most}
 use Rattle.areas.specs.Squares.{joinsBy}
 use Rattle.areas.proofs.squares.degree.Statement.{statement}
 use Rattle.areas.proofs.squares.degree.Tie as tie
@@ -21,10 +22,6 @@ abbrev μ-loop : tie.MeasureT-loop
 countTo-none : (p : ℕ → Bool) → 0 ≡ countTo (1 - 1) p
 unfolding countTo sumTo
 countTo-none p = refl
-
-countTo-most : (n : ℕ) (p : ℕ → Bool) → countTo n p ≤ n
-unfolding countTo
-countTo-most n p = omega (arith, sumTo-most n 1 (λ k. bit (p k)) (λ k l u. bit-≤1 (p k)))
 
 countTo-more : (k : ℕ) (p : ℕ → Bool) → 1 ≤ k → countTo (k + 1 - 1) p ≡ countTo (k - 1) p + bit (p k)
 unfolding countTo sumTo

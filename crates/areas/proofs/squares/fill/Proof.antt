@@ -11,9 +11,10 @@ use Rattle.base.specs.Choice.{choose, Same, same, apart, same?}
 use Rattle.tables.specs.declared.Arc.{Arc}
 use Rattle.tables.specs.Table.{Fields, fieldOf, mOf, arcAt}
 use Rattle.tables.specs.Layout.{Right}
+use Rattle.tables.specs.WaitsLaws.{saysWait}
 use Rattle.areas.specs.Area.{arcIn, arcOf}
 use Rattle.areas.specs.Squares.{cell}
-use Rattle.areas.specs.ArcNumbers.{hasEnds, arcIn-right}
+use Rattle.areas.specs.Arcs.{arcIn-zero, arcIn-right}
 use Rattle.areas.proofs.squares.fill.Statement.{statement}
 use Rattle.areas.proofs.squares.fill.Tie as tie
 
@@ -26,10 +27,6 @@ Inv-loop table n m square₀ end k₀ square k = (1 ≤ k) × (k ≤ end) × (le
 
 abbrev μ-loop : tie.MeasureT-loop
 μ-loop table n m square₀ end k₀ square k = end - k
-
-arcIn-none : (t : Fields) (a b : ℕ) → arcIn t a b (1 - 1) ≡ 0
-unfolding arcIn
-arcIn-none t a b = refl
 
 -- the ends of an arc are at most 128
 few : {arc : Arc} (t : Fields) (k : ℕ) → Right t → 1 ≤ k → k ≤ mOf t → arc ≡ arcAt t k → (arc .from ≤ 128) × (arc .to ≤ 128)
@@ -48,7 +45,7 @@ more t sq k r l u n h a b p q =
     other : (a * 129 + b ≡ place → ⊥) → getD (set sq place k) (a * 129 + b) 0 ≡ arcIn t a b (k - 1)
     other d = getD-set-other sq place (a * 129 + b) k 0 d ∙ h a b p q
 
-    at : Same (arcAt t k .from) a → Same (arcAt t k .to) b → getD (set sq place k) (a * 129 + b) 0 ≡ choose (hasEnds t a b k) k (arcIn t a b (k - 1))
+    at : Same (arcAt t k .from) a → Same (arcAt t k .to) b → getD (set sq place k) (a * 129 + b) 0 ≡ choose (saysWait t a b k) k (arcIn t a b (k - 1))
     at (same x i) (same y j) = rw (i, j, x, y) (getD-set-same sq (a * 129 + b) k 0 (omega arith))
     at (same x i) (apart y j) = rw (i, j) (other (λ g. y (omega (arith, few t k r l u refl .1))))
     at (apart x i) (same y j) = rw i (other (λ g. x (omega (arith, few t k r l u refl .1))))
@@ -58,7 +55,7 @@ loop-holds : tie.Need-loop-holds Inv-loop μ-loop
 loop-holds c =
     let start = c .before in
     let t = fieldOf (start .args .table .now) in
-    (omega arith, omega arith, start .pre .1 .1 .1 .1, λ a b p q. start .pre .1 .1 .1 .0 a b p q ∙ sym (arcIn-none t a b))
+    (omega arith, omega arith, start .pre .1 .1 .1 .1, λ a b p q. start .pre .1 .1 .1 .0 a b p q ∙ sym (arcIn-zero t a b))
 
 arc-at-requires : tie.Need-arc-at-requires Inv-loop μ-loop
 arc-at-requires c κs = (c .before .before .before .pre .1 .0 .0, (omega arith, omega arith))

@@ -2,9 +2,9 @@
 -- Assumes nothing.
 use Prim.Native.Nat.{_-_, _≤_}
 use mathlib.Core.Bool.{true}
-use mathlib.Core.Path.{_≡_, sym, _∙_}
+use mathlib.Core.Path.{_≡_, sym}
 use native.Mathlib.Omega.{arith}
-use borrow.Author.Tests.{not-true, not-false}
+use Rattle.base.specs.Choice.{value-not, value-yes}
 use Rattle.base.specs.Sums.{allTo}
 use Rattle.base.specs.Prefix.{allTo-none, allTo-more, allTo-stop, allTo-last}
 use Rattle.areas.specs.AreaTests.{arcTest}
@@ -23,11 +23,11 @@ is-arc-requires c κs =
     (a .pre .0, (a .pre .1 .0, (a .pre .1 .1 .0, (a .pre .1 .1 .1 .0, (a .pre .1 .1 .1 .1, (omega arith, omega arith))))))
 
 returns : tie.Need-returns Inv-loop μ-loop
-returns c = sym (allTo-stop _ _ _ (omega arith) (omega arith) (sym (c .before .is-arc .ensures) ∙ not-true (c .before .is-arc .result) (c .if1 .taken)))
+returns c = sym (allTo-stop _ _ _ (omega arith) (omega arith) (value-not (c .before .is-arc .ensures) (c .if1 .taken)))
 
 loop-again : tie.Need-loop-again Inv-loop μ-loop
 loop-again c =
-    (omega arith, omega arith, allTo-more _ _ (omega arith) (c .before .before .before .loop .inv .2) (sym (c .before .is-arc .ensures) ∙ not-false (c .before .is-arc .result) (c .if1 .left)))
+    (omega arith, omega arith, allTo-more _ _ (omega arith) (c .before .before .before .loop .inv .2) (value-yes (c .before .is-arc .ensures) (c .if1 .left)))
 
 returns-2 : tie.Need-returns-2 Inv-loop μ-loop
 returns-2 c = sym (allTo-last _ _ _ (omega arith) (c .before .loop .inv .2))

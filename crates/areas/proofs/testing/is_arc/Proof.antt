@@ -5,8 +5,8 @@ use mathlib.Core.Bool.{true}
 use mathlib.Core.Path.{_≡_, sym, ap, _∙_}
 use native.Mathlib.Omega.{arith}
 use borrow.Author.Needs.{needs}
-use borrow.Author.Tests.{not-true, not-false}
 use lib.ListN.{length}
+use Rattle.base.specs.Choice.{value-not, value-yes}
 use Rattle.tables.specs.declared.Arc.{Arc}
 use Rattle.tables.specs.Table.{arcAt}
 use Rattle.areas.specs.Area.{linkPlace, arcOf, fieldsIn}
@@ -35,7 +35,7 @@ within a =
 returns : tie.Need-returns
 returns c =
     let a = c .before .before in
-    sym (arcTest-no (a .args .area .now) (a .args .k) (word a) (word-is a) (sym (c .before .is-link .ensures) ∙ not-true (c .before .is-link .result) (c .if1 .taken)))
+    sym (arcTest-no (a .args .area .now) (a .args .k) (word a) (word-is a) (value-not (c .before .is-link .ensures) (c .if1 .taken)))
 
 arc-at-requires : tie.Need-arc-at-requires
 arc-at-requires c κs =
@@ -68,7 +68,7 @@ back c =
 
 -- the first link passed
 first : (c : tie.Else1) → linkTest (c .before .before .args .area .now) (word (c .before .before)) ≡ true
-first c = sym (c .before .is-link .ensures) ∙ not-false (c .before .is-link .result) (c .if1 .left)
+first c = value-yes (c .before .is-link .ensures) (c .if1 .left)
 
 returns-2 : tie.Need-returns-2
 returns-2 c =

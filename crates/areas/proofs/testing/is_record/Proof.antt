@@ -9,6 +9,7 @@ use borrow.Author.Needs.{needs}
 use borrow.Author.Tests.{not-false}
 use lib.IntN.{pos, natAbs}
 use lib.ListN.{length, getD}
+use Rattle.base.specs.Choice.{value-yes}
 use Rattle.tables.specs.Waits.{waitsOf}
 use Rattle.checks.specs.Run.{fatherRight}
 use Rattle.areas.specs.Area.{recordPlace, numberAt, fieldsIn, sameWord}
@@ -121,7 +122,7 @@ returns-8 c =
     let r = i .before in
     let free = rw (zeros (word (r .before))) at (c .is-free .ensures) in
     tells-last (parts r) (λ e. record {
-      values = sym (i .is-in-range .ensures) ∙ not-false (i .is-in-range .result) (j .before .before .if1 .left);
+      values = value-yes (i .is-in-range .ensures) (j .before .before .if1 .left);
       father = father j;
       flags = sym (flags-sign n1) ∙ not-false (n1 .is-number .result) (m .before .before .if5 .left);
       bits = omega (arith, flags m, n2 .before .before .if6 .left);

@@ -11,7 +11,7 @@ use borrow.Author.Tests.{not-true, not-false}
 use lib.IntN.{ℤ, pos, natAbs}
 use lib.ListN.{length, getD, length-set}
 use Rattle.base.specs.Sums.{allTo}
-use Rattle.base.specs.Prefix.{allTo-none, allTo-more, allTo-stop}
+use Rattle.base.specs.Prefix.{allTo-none, allTo-next, allTo-stop}
 use Rattle.areas.specs.Area.{numberAt, sameWord}
 use Rattle.areas.specs.AreaTests.{fieldTest}
 use Rattle.areas.specs.Testing.{Loaded}
@@ -51,9 +51,8 @@ stop w count j u h =
 -- one field more
 more : (w : List ℤ) (j : ℕ) → allTo j (field w) ≡ true → fieldTest w j ≡ true → allTo (j + 1) (field w) ≡ true
 more w j h e =
-    let o : j + 1 - 1 ≡ j = omega arith in
-    let p : j + 1 + 1 - 1 ≡ j + 1 = omega arith in
-    rw p at (allTo-more (j + 1) (field w) (omega arith) (rw o h) (rw o e))
+    let q : j + 1 - 1 ≡ j = omega arith in
+    allTo-next j (field w) h (rw q e)
 
 returns : tie.Need-returns Inv-loop μ-loop
 returns c =

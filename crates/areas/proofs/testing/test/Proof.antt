@@ -7,6 +7,7 @@ use mathlib.Core.Path.{_≡_, refl, sym, ap, _∙_, subst}
 use native.Mathlib.Omega.{arith}
 use borrow.Author.Needs.{needs}
 use borrow.Author.Tests.{not-false}
+use Rattle.base.specs.Choice.{value-yes}
 use Rattle.base.specs.Sums.{allTo}
 use Rattle.tables.specs.Table.{Fields, fieldOf, nOf, mOf}
 use Rattle.tables.specs.Reading.{fieldsNumber}
@@ -152,7 +153,7 @@ returns-7 c =
         sizes = s .test;
         fields = sym (fields l) ∙ not-false (l .load .result) (e .before .before .before .if1 .left);
         table = sym (number (e .before)) ∙ e .if2 .left;
-        head = sym (h .is-head .ensures) ∙ not-false (h .is-head .result) (r .before .before .if3 .left);
+        head = value-yes (h .is-head .ensures) (r .before .before .if3 .left);
         records = sym (records r) ∙ not-false (r .are-records .result) (c .before .before .before .before .if4 .left);
         arcs = sym (arcs (c .before)) ∙ not-false (c .before .are-arcs .result) (c .if5 .left);
       }),

@@ -13,9 +13,9 @@ use lib.Signed.{mag}
 use mir.Syntax.{w32}
 use mir.Val.{toZ, ofZ}
 use Rattle.base.specs.Sums.{allTo}
-use Rattle.base.specs.Prefix.{allTo-none, allTo-more, allTo-stop}
+use Rattle.base.specs.Prefix.{allTo-none, allTo-next, allTo-stop}
 use Rattle.areas.specs.LinkLaws.{messageWord}
-use Rattle.areas.proofs.Signs.{word-back}
+use Rattle.steps.proofs.Counts.{signed-back}
 use Rattle.areas.proofs.words.are_messages.Statement.{statement}
 use Rattle.areas.proofs.words.are_messages.Tie as tie
 
@@ -39,14 +39,7 @@ mul-is-message c = omega arith
 test : {b t : Bool} (w : List ℤ) (i j : ℕ) → mag (getD w (i + j) (pos 0)) < 2 ^ 31 → b ≡ t → b ≡ messageWord (toZ w32 (ofZ w32 (getD w (i + j) (pos 0)))) → message w i (j + 1) ≡ t
 test w i j f p e =
     let q : i + (j + 1 - 1) ≡ i + j = omega arith in
-    rw (q, ← p) (sym (rw (word-back (getD w (i + j) (pos 0)) f) at e))
-
--- one word more
-more : (w : List ℤ) (i j : ℕ) → allTo j (message w i) ≡ true → message w i (j + 1) ≡ true → allTo (j + 1) (message w i) ≡ true
-more w i j h e =
-    let o : j + 1 - 1 ≡ j = omega arith in
-    let p : j + 1 + 1 - 1 ≡ j + 1 = omega arith in
-    rw p at (allTo-more (j + 1) (message w i) (omega arith) (rw o h) e)
+    rw (q, ← p) (sym (rw (signed-back (getD w (i + j) (pos 0)) f) at e))
 
 returns : tie.Need-returns Inv-loop μ-loop
 returns c =
@@ -58,7 +51,7 @@ loop-again : tie.Need-loop-again Inv-loop μ-loop
 loop-again c =
     let a = c .before .before .before .before .before .args in
     let j = c .before .before .before .before .loop .j in
-    (omega arith, more (a .area .now) (a .i) j (c .before .before .before .before .loop .inv .1) (test (a .area .now) (a .i) j (c .before .before .is-message-arg .given) (not-false (c .before .is-message .result) (c .if1 .left)) (c .before .is-message .ensures)))
+    (omega arith, allTo-next j (message (a .area .now) (a .i)) (c .before .before .before .before .loop .inv .1) (test (a .area .now) (a .i) j (c .before .before .is-message-arg .given) (not-false (c .before .is-message .result) (c .if1 .left)) (c .before .is-message .ensures)))
 
 returns-2 : tie.Need-returns-2 Inv-loop μ-loop
 returns-2 c =

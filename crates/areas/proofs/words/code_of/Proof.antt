@@ -14,7 +14,7 @@ use Rattle.steps.specs.declared.Message.{Message}
 use Rattle.steps.specs.declared.Message.the-variants.{Ack}
 use Rattle.steps.specs.Step.{small, countSmall}
 use Rattle.areas.specs.Area.{codeOf}
-use Rattle.areas.proofs.Signs.{word-back}
+use Rattle.steps.proofs.Counts.{signed-back}
 use Rattle.areas.proofs.words.code_of.Statement.{statement}
 use Rattle.areas.proofs.words.code_of.Tie as tie
 
@@ -35,7 +35,7 @@ counted z e h = rw e at h
 add-result : tie.Need-add-result
 add-result c =
     let e = c .before .message .given in
-    rw (word-back (e .0 .0) (c .known-told .given .0 .1)) (record { sfits = fits (e .0 .0) (counted (e .0 .0) (e .1) (c .before .before .before .pre)) })
+    rw (signed-back (e .0 .0) (c .known-told .given .0 .1)) (record { sfits = fits (e .0 .0) (counted (e .0 .0) (e .1) (c .before .before .before .pre)) })
 
 returns : tie.Need-returns
 unfolding codeOf
@@ -49,7 +49,7 @@ returns-3 : tie.Need-returns-3
 unfolding codeOf
 returns-3 c =
     let e = c .before .message .given in
-    rw (e .1, word-back (e .0 .0) (c .known-told .given .0 .1)) (word-back (pos 256 +ℤ e .0 .0) (fits (e .0 .0) (counted (e .0 .0) (e .1) (c .before .before .before .pre))))
+    rw (e .1, signed-back (e .0 .0) (c .known-told .given .0 .1)) (signed-back (pos 256 +ℤ e .0 .0) (fits (e .0 .0) (counted (e .0 .0) (e .1) (c .before .before .before .pre))))
 
 pub code-of-spec : {M : Type 1} → statement M
 code-of-spec = tie.close (tie.spec (λ c. search needs) (λ c. search needs) (λ c. search needs) add-result returns returns-2 returns-3)

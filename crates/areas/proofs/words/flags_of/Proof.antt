@@ -3,7 +3,7 @@
 use native.Mathlib.Omega.{arith}
 use Rattle.areas.specs.Area.{flagsOf}
 use Rattle.areas.proofs.Signs.{word-number}
-use Rattle.areas.proofs.Records.{inRange-P}
+use Rattle.areas.specs.RunLaws.{inRange-P}
 use Rattle.areas.proofs.words.flags_of.Statement.{statement}
 use Rattle.areas.proofs.words.flags_of.Tie as tie
 

@@ -12,9 +12,9 @@ use mir.Syntax.{w32}
 use mir.Val.{ofZ}
 use lib.ListN.{getD}
 use Rattle.base.specs.Sums.{allTo}
-use Rattle.base.specs.Prefix.{allTo-none, allTo-more, allTo-stop}
+use Rattle.base.specs.Prefix.{allTo-none, allTo-next, allTo-stop}
 use Rattle.areas.specs.AreaTests.{isFree}
-use Rattle.areas.specs.LinkLaws.{sameWord-of}
+use Rattle.areas.specs.WordTests.{sameWord-of}
 use Rattle.areas.proofs.Signs.{word-is, word-not}
 use Rattle.areas.proofs.words.is_free.Statement.{statement}
 use Rattle.areas.proofs.words.is_free.Tie as tie
@@ -43,10 +43,9 @@ some w from to k l u h =
 -- one word more that is 0
 more : (w : List ℤ) (from k : ℕ) → from ≤ k → mag (getD w k (pos 0)) < 2 ^ 31 → ofZ w32 (getD w k (pos 0)) ≡ 0 → allTo (k - from) (free w from) ≡ true → allTo (k + 1 - from) (free w from) ≡ true
 more w from k l f e h =
-    let p : k + 1 - from ≡ k - from + 1 + 1 - 1 = omega arith in
-    let o : k - from + 1 - 1 ≡ k - from = omega arith in
+    let p : k + 1 - from ≡ k - from + 1 = omega arith in
     let q : from + (k - from + 1 - 1) ≡ k = omega arith in
-    rw p (allTo-more (k - from + 1) (free w from) (omega arith) (rw o h) (rw q (sameWord-of (getD w k (pos 0)) (pos 0) (word-is (getD w k (pos 0)) 0 f (omega arith) e))))
+    rw p (allTo-next (k - from) (free w from) h (rw q (sameWord-of (getD w k (pos 0)) (pos 0) (word-is (getD w k (pos 0)) 0 f (omega arith) e))))
 
 returns : tie.Need-returns Inv-loop μ-loop
 returns c =

@@ -12,8 +12,10 @@ use borrow.Author.Tests.{leb-true, leb-false, le-leb, lt-leb, ltb-true, ltb-fals
 use Rattle.base.specs.Choice.{Tested, passed, failed, tested, Same, same, apart, same?}
 use Rattle.steps.specs.Step.{small, countSmall}
 use Rattle.areas.specs.Area.{codeOf, messageOf, sameWord}
-use Rattle.areas.specs.LinkLaws.{messageWord, messageOf-suc, messageOf-pre, messageOf-ack, codeOf-ack, sameWord-of}
-use Rattle.areas.proofs.Signs.{word-back, word-is}
+use Rattle.areas.specs.LinkLaws.{messageWord, messageOf-suc, messageOf-pre, messageOf-ack, codeOf-ack}
+use Rattle.areas.specs.WordTests.{sameWord-of}
+use Rattle.steps.proofs.Counts.{signed-back}
+use Rattle.areas.proofs.Signs.{word-is}
 use Rattle.areas.proofs.words.is_message.Statement.{statement}
 use Rattle.areas.proofs.words.is_message.Tie as tie
 
@@ -67,13 +69,13 @@ returns-3 : tie.Need-returns-3
 returns-3 c =
     let start = c .before .before .before in
     let z = start .args .word in
-    sym (no-message z (λ e. c .before .before .if1 .left (rw e)) (λ e. c .before .if2 .left (rw e)) (rw (word-back z (start .fits .word .sfits)) at (c .if3 .taken)))
+    sym (no-message z (λ e. c .before .before .if1 .left (rw e)) (λ e. c .before .if2 .left (rw e)) (rw (signed-back z (start .fits .word .sfits)) at (c .if3 .taken)))
 
 returns-4 : tie.Need-returns-4
 returns-4 c =
     let start = c .before .before .before in
     let z = start .args .word in
-    let b = word-back z (start .fits .word .sfits) in
+    let b = signed-back z (start .fits .word .sfits) in
     rw b (sym (a-message z (rw b at (c .if3 .left))))
 
 pub is-message-spec : {M : Type 1} → statement M

@@ -6,7 +6,7 @@ use lib.IntN.{ℤ, pos, negsuc, natAbs}
 use lib.Signed.{leZ}
 use borrow.Author.Tests.{eq-eqb}
 use Rattle.areas.specs.Area.{sameWord}
-use Rattle.areas.proofs.Signs.{word-back}
+use Rattle.steps.proofs.Counts.{signed-back}
 use Rattle.areas.proofs.words.is_number.Statement.{statement}
 use Rattle.areas.proofs.words.is_number.Tie as tie
 
@@ -16,7 +16,7 @@ test (pos n) = leb·zero n ∙ sym (eq-eqb n n refl)
 test (negsuc n) = refl
 
 returns : tie.Need-returns
-returns c = rw (word-back (c .args .word) (c .fits .word .sfits)) (test (c .args .word))
+returns c = rw (signed-back (c .args .word) (c .fits .word .sfits)) (test (c .args .word))
 
 pub is-number-spec : {M : Type 1} → statement M
 is-number-spec = tie.close (tie.spec returns)

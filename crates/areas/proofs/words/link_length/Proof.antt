@@ -5,14 +5,14 @@ use Prim.Native.Nat.{ℕ, suc, _+_, _-_, _^_, _≤_, _<_}
 use mathlib.Core.List.{List}
 use mathlib.Core.Path.{_≡_, ap}
 use native.Mathlib.Omega.{arith}
-use lib.IntN.{ℤ, pos, negsuc, natAbs}
+use lib.IntN.{ℤ, pos, natAbs}
 use lib.ListN.{length, getD}
 use lib.Signed.{mag}
 use mir.Syntax.{w32}
 use mir.Val.{ofZ}
 use Rattle.areas.specs.Area.{messagesAt}
 use Rattle.areas.specs.LinkLaws.{messagesAt-stop, messagesAt-more, messagesAt-length}
-use Rattle.areas.proofs.Signs.{word-is}
+use Rattle.areas.proofs.Signs.{word-is, word-zero}
 use Rattle.areas.proofs.words.link_length.Statement.{statement}
 use Rattle.areas.proofs.words.link_length.Tie as tie
 
@@ -37,11 +37,7 @@ module _ (w : List ℤ) (i l : ℕ) (u : l < 4) where
   more : (ofZ w32 (getD w (i + l) (pos 0)) ≡ 0 → ⊥) → length (messagesAt w (i + l) (4 - l)) ≡ suc (length (messagesAt w (i + (l + 1)) (4 - (l + 1))))
   more h =
       let q : i + (l + 1) ≡ suc (i + l) = omega arith in
-      rw (left, q, messagesAt-more w (i + l) (4 - (l + 1)) (λ e. h (zero-bits (getD w (i + l) (pos 0)) e)))
-    where
-      zero-bits : (z : ℤ) → natAbs z ≡ 0 → ofZ w32 z ≡ 0
-      zero-bits (pos n) e = e
-      zero-bits (negsuc n) e = absurd (omega arith)
+      rw (left, q, messagesAt-more w (i + l) (4 - (l + 1)) (λ e. h (word-zero (getD w (i + l) (pos 0)) e)))
 
 returns : tie.Need-returns Inv-loop μ-loop
 returns c =

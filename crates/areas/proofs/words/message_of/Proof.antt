@@ -11,7 +11,7 @@ use mir.Syntax.{w32}
 use mir.Val.{toZ, ofZ}
 use Rattle.base.specs.Choice.{Tested, passed, failed, tested}
 use Rattle.areas.specs.LinkLaws.{messageOf-suc, messageOf-pre, messageOf-ack}
-use Rattle.areas.proofs.Signs.{word-back}
+use Rattle.steps.proofs.Counts.{signed-back}
 use Rattle.areas.proofs.words.message_of.Statement.{statement}
 use Rattle.areas.proofs.words.message_of.Tie as tie
 
@@ -26,7 +26,7 @@ fits (negsuc n) h = omega arith
 
 -- the number of the word as it was read back
 numbered : {r n : ℕ} (z : ℤ) → mag z < 2 ^ 31 → r ≡ natAbs (toZ w32 (ofZ w32 z)) → r ≡ n → natAbs z ≡ n
-numbered z h e p = ap natAbs (sym (word-back z h)) ∙ sym e ∙ p
+numbered z h e p = ap natAbs (sym (signed-back z h)) ∙ sym e ∙ p
 
 returns : tie.Need-returns
 returns c =
@@ -42,14 +42,14 @@ sub-t4 : tie.Need-sub-t4
 sub-t4 c =
     let start = c .before .before .before .before in
     let z = start .args .word in
-    rw (word-back z (start .fits .word .sfits)) (record { sfits = fits z (start .pre) })
+    rw (signed-back z (start .fits .word .sfits)) (record { sfits = fits z (start .pre) })
 
 returns-3 : tie.Need-returns-3
 returns-3 c =
     let start = c .before .before .before .before in
     let z = start .args .word in
-    let b = word-back z (start .fits .word .sfits) in
-    rw (b, word-back (z -ℤ pos 256) (fits z (start .pre)))
+    let b = signed-back z (start .fits .word .sfits) in
+    rw (b, signed-back (z -ℤ pos 256) (fits z (start .pre)))
     (sym (messageOf-ack z (λ e. c .before .before .if1 .left (c .before .before .before .number .ensures ∙ ap natAbs b ∙ e)) (λ e. c .if2 .left (c .before .number2 .ensures ∙ ap natAbs b ∙ e))))
 
 pub message-of-spec : {M : Type 1} → statement M

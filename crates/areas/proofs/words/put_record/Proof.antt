@@ -4,8 +4,9 @@ use native.Mathlib.Numerals.{add-one, add-two, add-three}
 use native.Mathlib.Omega.{arith}
 use borrow.Author.Needs.{needs}
 use lib.ListN.{length-set}
-use Rattle.areas.proofs.Signs.{word-back, word-number}
-use Rattle.areas.proofs.Records.{inRange-P}
+use Rattle.steps.proofs.Counts.{signed-back, mag-abs}
+use Rattle.areas.proofs.Signs.{word-number}
+use Rattle.areas.specs.RunLaws.{inRange-P}
 use Rattle.areas.proofs.words.put_record.Statement.{statement}
 use Rattle.areas.proofs.words.put_record.Tie as tie
 
@@ -21,7 +22,7 @@ returns c =
     let x = start .args .x in
     let h = inRange-P x (start .pre .1 .0) in
     let flags = c .before .before .before .flags-of in
-    rw (word-back (flags .result) (flags .ok), flags .ensures, word-back (x .cs) (h .cs), word-number (x .num) (omega arith), word-number (x .father) (omega arith), add-one, add-two, add-three)
+    rw (signed-back (flags .result) (flags .ok), flags .ensures, signed-back (x .cs) (omega (arith, mag-abs (x .cs))), word-number (x .num) (omega arith), word-number (x .father) (omega arith), add-one, add-two, add-three)
 
 pub put-record-spec : {M : Type 1} → statement M
 put-record-spec =

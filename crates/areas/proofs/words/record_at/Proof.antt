@@ -10,13 +10,13 @@ use lib.Signed.{mag}
 use mir.Syntax.{w32}
 use mir.Val.{toZ, ofZ}
 use Rattle.areas.specs.Area.{numberAt}
-use Rattle.areas.proofs.Signs.{word-back}
+use Rattle.steps.proofs.Counts.{signed-back}
 use Rattle.areas.proofs.words.record_at.Statement.{statement}
 use Rattle.areas.proofs.words.record_at.Tie as tie
 
 -- what `number` says of a word that was read back
 numbered : {r : ℕ} (w : List ℤ) (k : ℕ) → mag (getD w k (pos 0)) < 2 ^ 31 → r ≡ natAbs (toZ w32 (ofZ w32 (getD w k (pos 0)))) → r ≡ numberAt w k
-numbered w k h e = rw (word-back (getD w k (pos 0)) h) at e
+numbered w k h e = rw (signed-back (getD w k (pos 0)) h) at e
 
 returns : tie.Need-returns
 returns c =
@@ -24,7 +24,7 @@ returns c =
     let a = read .before .before .before .args in
     let w = a .area .now in
     let k = a .k in
-    rw (numbered w k (read .before .before .number-arg .given) (read .before .number .ensures), word-back (getD w (k + 1) (pos 0)) (read .t6 .given), numbered w (k + 2) (c .before .before .before .number-arg2 .given) (c .before .before .number2 .ensures), numbered w (k + 3) (c .before .number-arg3 .given) (c .number3 .ensures))
+    rw (numbered w k (read .before .before .number-arg .given) (read .before .number .ensures), signed-back (getD w (k + 1) (pos 0)) (read .t6 .given), numbered w (k + 2) (c .before .before .before .number-arg2 .given) (c .before .before .number2 .ensures), numbered w (k + 3) (c .before .number-arg3 .given) (c .number3 .ensures))
 
 pub record-at-spec : {M : Type 1} → statement M
 record-at-spec =

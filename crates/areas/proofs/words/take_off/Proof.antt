@@ -6,7 +6,7 @@ use native.Mathlib.Omega.{arith}
 use borrow.Author.Needs.{needs}
 use lib.IntN.{pos}
 use lib.ListN.{getD, length-set}
-use Rattle.areas.proofs.Signs.{word-back}
+use Rattle.steps.proofs.Counts.{signed-back}
 use Rattle.areas.proofs.words.take_off.Statement.{statement}
 use Rattle.areas.proofs.words.take_off.Tie as tie
 
@@ -14,7 +14,7 @@ returns : tie.Need-returns
 returns c =
     let a = c .before .before .before .args in
     let w = a .area .now in
-    rw (word-back (getD w (a .i + 1) (pos 0)) (c .before .before .second .given), word-back (getD w (a .i + 2) (pos 0)) (c .before .third .given), word-back (getD w (a .i + 3) (pos 0)) (c .fourth .given), add-one, add-two, add-three)
+    rw (signed-back (getD w (a .i + 1) (pos 0)) (c .before .before .second .given), signed-back (getD w (a .i + 2) (pos 0)) (c .before .third .given), signed-back (getD w (a .i + 3) (pos 0)) (c .fourth .given), add-one, add-two, add-three)
 
 pub take-off-spec : {M : Type 1} → statement M
 take-off-spec =

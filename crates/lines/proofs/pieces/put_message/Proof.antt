@@ -1,7 +1,7 @@
 -- `lines::pieces::put_message` meets its contract, by the kinds of message. Assumes nothing.
 use native.Mathlib.Omega.{arith}
 use borrow.Author.Needs.{needs}
-use Rattle.steps.proofs.Counts.{count-back}
+use Rattle.steps.proofs.Counts.{signed-back}
 use Rattle.lines.specs.Text.{messageText}
 use Rattle.lines.specs.AddingLaws.{_added-then_, added-more}
 use Rattle.lines.proofs.pieces.put_message.Statement.{statement}
@@ -25,7 +25,7 @@ returns-3 c =
     let d = c .before .before in
     let w = d .before .before .before .before in
     let e = w .before .before .before .before .message .given in
-    rw (e .1) (w .put-word3 .ensures added-then (rw (count-back (e .0 .0) (w .before .before .before .known-told .given .0 .1)) at (d .put-count-field .ensures)))
+    rw (e .1) (w .put-word3 .ensures added-then (rw (signed-back (e .0 .0) (w .before .before .before .known-told .given .0 .1)) at (d .put-count-field .ensures)))
 
 pub put-message-spec : {M : Type 1} → statement M
 put-message-spec =

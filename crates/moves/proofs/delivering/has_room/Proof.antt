@@ -10,7 +10,7 @@ use Rattle.base.specs.Sums.{allTo}
 use Rattle.base.specs.Prefix.{allTo-none, allTo-more, allTo-stop, allTo-last}
 use Rattle.areas.specs.Area.{runIn}
 use Rattle.moves.specs.Rooms.{loadAfter}
-use Rattle.moves.proofs.Stores.{sizes}
+use Rattle.moves.specs.ReadyLaws.{ready-sizes}
 use Rattle.moves.proofs.delivering.has_room.Statement.{statement}
 use Rattle.moves.proofs.delivering.has_room.Tie as tie
 
@@ -21,7 +21,7 @@ abbrev μ-loop : tie.MeasureT-loop
 μ-loop area square n m a b probes reply end q₀ q = end - q
 
 add-end : tie.Need-add-end Inv-loop μ-loop
-add-end c = omega (arith, sizes (c .pre .0))
+add-end c = omega (arith, ready-sizes (c .pre .0))
 
 loop-holds : tie.Need-loop-holds Inv-loop μ-loop
 loop-holds c = (omega arith, omega arith, allTo-none (λ k. leb (loadAfter (runIn (c .args .area .now)) (c .args .a) (c .args .b) (c .args .probes) (c .args .reply) k) 4))
@@ -47,7 +47,7 @@ returns c =
 add-q : tie.Need-add-q Inv-loop μ-loop
 add-q c =
     let s = c .before .before .before .before in
-    omega (arith, sizes (s .pre .0))
+    omega (arith, ready-sizes (s .pre .0))
 
 loop-again : tie.Need-loop-again Inv-loop μ-loop
 loop-again c =

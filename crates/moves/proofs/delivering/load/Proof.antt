@@ -7,27 +7,28 @@ use mathlib.Core.Path.{_≡_, sym, ap, _∙_}
 use native.Mathlib.Omega.{arith}
 use lib.IntN.{ℤ}
 use lib.ListN.{length}
-use Rattle.steps.proofs.Flags.{value-not, value-yes}
+use Rattle.base.specs.Choice.{value-not, value-yes}
 use Rattle.tables.specs.Waits.{neighbours}
 use Rattle.steps.specs.declared.Message.{Message}
 use Rattle.areas.specs.Area.{messagesAt, runIn}
 use Rattle.areas.specs.LinkLaws.{messagesAt-length}
 use Rattle.areas.specs.Squares.{joinedBy, placeBy}
 use Rattle.moves.specs.Ready.{Ready}
-use Rattle.moves.proofs.Stores.{sizes, link-within}
-use Rattle.moves.proofs.Picks.{joined-is, link-none, link-here}
+use Rattle.moves.specs.ReadyLaws.{ready-sizes, ready-joined}
+use Rattle.moves.proofs.Stores.{link-within}
+use Rattle.moves.proofs.Picks.{link-none, link-here}
 use Rattle.moves.proofs.delivering.load.Statement.{statement}
 use Rattle.moves.proofs.delivering.load.Tie as tie
 
 module _ {w : List ℤ} {sq : List ℕ} {n m : ℕ} (y : Ready w sq n m) {b q : ℕ} (l : (b ≤ n) × (q ≤ n)) where
   low : b ≤ 128
-  low = omega (arith, sizes y)
+  low = omega (arith, ready-sizes y)
 
   high : q ≤ 128
-  high = omega (arith, sizes y)
+  high = omega (arith, ready-sizes y)
 
   near : joinedBy sq b q ≡ true → neighbours (runIn w .waits) b q ≡ true
-  near e = sym (joined-is y b q low high) ∙ e
+  near e = sym (ready-joined y b q low high) ∙ e
 
   -- the words of the link, counted
   counted : {r i : ℕ} → joinedBy sq b q ≡ true → i ≡ placeBy sq n m b q → r ≡ length (messagesAt w i 4) → (r ≡ length (runIn w .link b q)) × (r ≤ 4)
@@ -35,7 +36,7 @@ module _ {w : List ℤ} {sq : List ℕ} {n m : ℕ} (y : Ready w sq n m) {b q : 
       (h ∙ ap (λ (ms : List Message). length ms) (sym (link-here y (near e) low high p)), rw h (messagesAt-length w i 4))
 
 joined-requires : tie.Need-joined-requires
-joined-requires c κs = omega (arith, sizes (c .pre .0), c .pre .1)
+joined-requires c κs = omega (arith, ready-sizes (c .pre .0), c .pre .1)
 
 returns : tie.Need-returns
 returns c =
@@ -47,7 +48,7 @@ returns c =
 place-requires : tie.Need-place-requires
 place-requires c κs =
     let s = c .before .before in
-    let u = sizes (s .pre .0) in
+    let u = ready-sizes (s .pre .0) in
     (omega (arith, u, s .pre .1), (u, value-yes (c .before .joined .ensures) (c .if1 .left)))
 
 link-length-requires : tie.Need-link-length-requires

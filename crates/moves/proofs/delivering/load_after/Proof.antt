@@ -16,7 +16,7 @@ use Rattle.areas.specs.Area.{runIn}
 use Rattle.moves.specs.Ready.{Ready}
 use Rattle.moves.specs.Rooms.{loadAfter}
 use Rattle.moves.specs.Delivering.{probesGo, replyGoes}
-use Rattle.moves.proofs.Stores.{sizes}
+use Rattle.moves.specs.ReadyLaws.{ready-sizes}
 use Rattle.moves.proofs.Picks.{reply-length, probes-length}
 use Rattle.moves.proofs.delivering.load_after.Statement.{statement}
 use Rattle.moves.proofs.delivering.load_after.Tie as tie
@@ -24,7 +24,7 @@ use Rattle.moves.proofs.delivering.load_after.Tie as tie
 goes-to-requires : tie.Need-goes-to-requires
 goes-to-requires c κs =
     let s = c .before .before .before .before in
-    omega (arith, sizes (s .pre .0), s .pre .1)
+    omega (arith, ready-sizes (s .pre .0), s .pre .1)
 
 -- a flag counts at most 1
 flag : {k : ℕ} (t : Bool) → k ≡ bit t → k ≤ 1
@@ -42,7 +42,7 @@ add-result-2 c =
 
 summed : {w : List ℤ} {sq : List ℕ} {n m : ℕ} → Ready w sq n m → (a b : ℕ) (y : Probes) (z : Reply) (q : ℕ) → (b ≤ n) × (q ≤ n) → {k l o s : ℕ} {f g : Bool} → k ≡ length (runIn w .link b q) → l ≡ k - bit (eqb b a && eqb q b) → f ≡ replyGoes z q → o ≡ bit f → g ≡ probesGo sq y b q → s ≡ bit g → l + o + s ≡ loadAfter (runIn w) a b y z q
 summed r a b y z q u e₁ e₂ e₃ e₄ e₅ e₆ =
-    let v = sizes r in
+    let v = ready-sizes r in
     rw (reply-length z q, probes-length r y b q (omega arith) (omega arith), ← e₃, ← e₅, ← e₁, ← e₂, ← e₄, ← e₆)
 
 returns : tie.Need-returns

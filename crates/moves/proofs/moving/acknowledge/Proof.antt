@@ -13,9 +13,9 @@ use Rattle.steps.specs.declared.Reply.{Reply}
 use Rattle.steps.specs.declared.Reply.the-variants.{To}
 use Rattle.steps.specs.Step.{small, countSmall, replyFits}
 use Rattle.areas.specs.AreaLaws.{stored-same}
-use Rattle.areas.proofs.Signs.{word-back}
+use Rattle.steps.proofs.Counts.{signed-back}
 use Rattle.moves.specs.Changes.{answered}
-use Rattle.moves.proofs.Stores.{sizes}
+use Rattle.moves.specs.ReadyLaws.{ready-sizes}
 use Rattle.moves.proofs.moving.acknowledge.Statement.{statement}
 use Rattle.moves.proofs.moving.acknowledge.Tie as tie
 
@@ -29,9 +29,9 @@ push-requires c κs =
     let start = c .before .before .before .before in
     let pre = start .pre in
     let reply = c .before .before .reply .given in
-    let s = sizes (pre .0) in
+    let s = ready-sizes (pre .0) in
     let h = pre .1 .1 .1 (reply .0 .0) (reply .0 .1 .0) (reply .1) in
-    (pre .0, ((omega arith, omega arith), (h .1, (rw (word-back (reply .0 .1 .0) (c .before .known-told .given .1 .0 .1)) (counted (reply .0 .0) (reply .0 .1 .0) (reply .1) (pre .1 .1 .0)), h .2))))
+    (pre .0, ((omega arith, omega arith), (h .1, (rw (signed-back (reply .0 .1 .0) (c .before .known-told .given .1 .0 .1)) (counted (reply .0 .0) (reply .0 .1 .0) (reply .1) (pre .1 .1 .0)), h .2))))
 
 returns : tie.Need-returns
 unfolding answered
@@ -43,7 +43,7 @@ returns-2 : tie.Need-returns-2
 unfolding answered
 returns-2 c =
     let reply = c .before .before .before .before .reply .given in
-    rw (reply .1) (rw (word-back (reply .0 .1 .0) (c .before .before .before .known-told .given .1 .0 .1)) at (c .before .push .ensures))
+    rw (reply .1) (rw (signed-back (reply .0 .1 .0) (c .before .before .before .known-told .given .1 .0 .1)) at (c .before .push .ensures))
 
 pub acknowledge-spec : {M : Type 1} → statement M
 acknowledge-spec =

@@ -7,7 +7,7 @@ use native.Mathlib.Omega.{arith}
 use borrow.Author.Needs.{needs}
 use Rattle.areas.specs.Area.{runIn, keeping}
 use Rattle.moves.specs.Changes.{spreadTo}
-use Rattle.moves.proofs.Stores.{sizes}
+use Rattle.moves.specs.ReadyLaws.{ready-sizes}
 use Rattle.moves.proofs.Spreads as spreads
 use Rattle.moves.proofs.moving.broadcast.Statement.{statement}
 use Rattle.moves.proofs.moving.broadcast.Tie as tie
@@ -19,7 +19,7 @@ abbrev μ-loop : tie.MeasureT-loop
 μ-loop area₀ square n m c b end q₀ area q = end - q
 
 few : (start : tie.Start Inv-loop μ-loop) → start .args .n ≤ 128
-few start = sizes (start .pre .0) .0
+few start = ready-sizes (start .pre .0) .0
 
 loop-holds : tie.Need-loop-holds Inv-loop μ-loop
 loop-holds c = (omega arith, omega arith, spreads.first (c .pre .0) (c .args .c) (c .args .b) (c .pre .1 .0 .1) (c .pre .1 .1))

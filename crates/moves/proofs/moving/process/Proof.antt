@@ -4,12 +4,13 @@ use Prim.Native.Nat.{_≤_}
 use mathlib.Core.Path.{_∙_}
 use native.Mathlib.Omega.{arith}
 use borrow.Author.Needs.{needs}
-use Rattle.moves.proofs.Stores.{sizes, record-within, read-process}
+use Rattle.moves.specs.ReadyLaws.{ready-sizes}
+use Rattle.moves.proofs.Stores.{record-within, read-process}
 use Rattle.moves.proofs.moving.process.Statement.{statement}
 use Rattle.moves.proofs.moving.process.Tie as tie
 
 small : (c : tie.Start) → (c .args .n ≤ 128) × (c .args .m ≤ 512)
-small c = sizes (c .pre .0)
+small c = ready-sizes (c .pre .0)
 
 record-at-requires : tie.Need-record-at-requires
 record-at-requires c κs = record-within (c .pre .0) (c .args .p) (c .pre .1 .0) (c .pre .1 .1)

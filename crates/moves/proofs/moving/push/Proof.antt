@@ -2,15 +2,16 @@
 -- Assumes nothing.
 use mathlib.Core.Path.{_∙_}
 use borrow.Author.Needs.{needs}
-use Rattle.areas.proofs.Signs.{word-back}
-use Rattle.moves.proofs.Stores.{sizes, joined, link-within, link-room, store-push}
+use Rattle.steps.proofs.Counts.{signed-back}
+use Rattle.moves.specs.ReadyLaws.{ready-sizes}
+use Rattle.moves.proofs.Stores.{joined, link-within, link-room, store-push}
 use Rattle.moves.proofs.moving.push.Statement.{statement}
 use Rattle.moves.proofs.moving.push.Tie as tie
 
 place-requires : tie.Need-place-requires
 place-requires c κs =
     let pre = c .pre in
-    (pre .1 .0, (sizes (pre .0), joined (pre .0) (pre .1 .1 .0) (pre .1 .0 .0) (pre .1 .0 .1)))
+    (pre .1 .0, (ready-sizes (pre .0), joined (pre .0) (pre .1 .1 .0) (pre .1 .0 .0) (pre .1 .0 .1)))
 
 put-on-requires : tie.Need-put-on-requires
 put-on-requires c κs =
@@ -24,7 +25,7 @@ returns c =
     let pre = c .before .before .before .before .before .pre in
     let i = c .before .before .before .before .place in
     let code = c .before .before .code-of in
-    let stored = rw (word-back (code .result) (code .ok), code .ensures) at (c .before .put-on .ensures) in
+    let stored = rw (signed-back (code .result) (code .ok), code .ensures) at (c .before .put-on .ensures) in
     stored ∙ store-push (pre .0) (pre .1 .1 .0) (pre .1 .0 .0) (pre .1 .0 .1) (i .ensures) (a .message) (pre .1 .1 .1 .1)
 
 pub push-spec : {M : Type 1} → statement M

@@ -7,12 +7,13 @@ use borrow.Author.Needs.{needs}
 use Rattle.areas.specs.Area.{runIn}
 use Rattle.moves.specs.Ready.{right-fit}
 use Rattle.moves.specs.ChangeLaws.{father-few}
-use Rattle.moves.proofs.Stores.{sizes, record-within, store-process}
+use Rattle.moves.specs.ReadyLaws.{ready-sizes}
+use Rattle.moves.proofs.Stores.{record-within, store-process}
 use Rattle.moves.proofs.moving.put_process.Statement.{statement}
 use Rattle.moves.proofs.moving.put_process.Tie as tie
 
 small : (c : tie.After-put-record-arg) → (c .before .args .n ≤ 128) × (c .before .args .m ≤ 512)
-small c = sizes (c .before .pre .0)
+small c = ready-sizes (c .before .pre .0)
 
 put-record-requires : tie.Need-put-record-requires
 put-record-requires c κs =

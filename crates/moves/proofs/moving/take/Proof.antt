@@ -2,14 +2,15 @@
 -- Assumes nothing.
 use mathlib.Core.Path.{_∙_}
 use borrow.Author.Needs.{needs}
-use Rattle.moves.proofs.Stores.{sizes, joined, link-within, store-take}
+use Rattle.moves.specs.ReadyLaws.{ready-sizes}
+use Rattle.moves.proofs.Stores.{joined, link-within, store-take}
 use Rattle.moves.proofs.moving.take.Statement.{statement}
 use Rattle.moves.proofs.moving.take.Tie as tie
 
 place-requires : tie.Need-place-requires
 place-requires c κs =
     let pre = c .pre in
-    (pre .1 .0, (sizes (pre .0), joined (pre .0) (pre .1 .1) (pre .1 .0 .0) (pre .1 .0 .1)))
+    (pre .1 .0, (ready-sizes (pre .0), joined (pre .0) (pre .1 .1) (pre .1 .0 .0) (pre .1 .0 .1)))
 
 take-off-requires : tie.Need-take-off-requires
 take-off-requires c κs =

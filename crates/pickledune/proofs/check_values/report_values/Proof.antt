@@ -1,7 +1,7 @@
 -- `pickledune::check_values::report_values` meets its contract: each value of a report as its number. Assumes nothing.
 use mathlib.Core.Path.{sym, ap, _∙_}
 use borrow.Author.Needs.{needs}
-use Rattle.areas.proofs.Signs.{word-back}
+use Rattle.steps.proofs.Counts.{signed-back}
 use Rattle.checks.specs.Calls.{reportNumber, reportCount, reportKnot, reportOutside, reportEscape, reportReturned}
 use Rattle.pickledune.proofs.check_values.report_values.Statement.{statement}
 use Rattle.pickledune.proofs.check_values.report_values.Tie as tie
@@ -13,7 +13,7 @@ returns c =
       sym (ap reportNumber e),
       sym (ap reportCount e),
       c .before .knot-bit .ensures ∙ sym (ap reportKnot e),
-      word-back (answer .given .0 .1 .1 .0) (c .before .before .known-told .given .1 .1 .0 .1) ∙ sym (ap reportOutside e),
+      signed-back (answer .given .0 .1 .1 .0) (c .before .before .known-told .given .1 .1 .0 .1) ∙ sym (ap reportOutside e),
       sym (ap reportEscape e),
       c .returned-bit .ensures ∙ sym (ap reportReturned e),
     )

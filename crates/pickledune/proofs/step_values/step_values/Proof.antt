@@ -1,7 +1,7 @@
 -- `pickledune::step_values::step_values` meets its contract: what a taken step sends, as numbers. Assumes nothing.
 use mathlib.Core.Path.{_≡_, sym, ap, _∙_}
 use borrow.Author.Needs.{needs}
-use Rattle.areas.proofs.Signs.{word-back}
+use Rattle.steps.proofs.Counts.{signed-back}
 use Rattle.steps.specs.declared.Stepped.{Stepped}
 use Rattle.steps.specs.Step.{steppedNumber, steppedProbes, steppedReply}
 use Rattle.pickledune.specs.Interface.{probesNumber, replyTo, replyCount}
@@ -17,7 +17,7 @@ returns c =
       sym (ap (λ (a : Stepped). lentRecord (c .before .before .before .before .before .before .args .lent) a) e),
       c .before .before .probes-number .ensures ∙ sym (ap (λ (a : Stepped). probesNumber (steppedProbes a)) e),
       c .before .reply-to .ensures ∙ sym (ap (λ (a : Stepped). replyTo (steppedReply a)) e),
-      word-back (c .reply-count .result) (c .reply-count .ok) ∙ c .reply-count .ensures ∙ sym (ap (λ (a : Stepped). replyCount (steppedReply a)) e),
+      signed-back (c .reply-count .result) (c .reply-count .ok) ∙ c .reply-count .ensures ∙ sym (ap (λ (a : Stepped). replyCount (steppedReply a)) e),
     )
 
 returns-2 : tie.Need-returns-2

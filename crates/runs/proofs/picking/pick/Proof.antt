@@ -1,13 +1,11 @@
 -- `runs::picking::pick` meets its contract: each way out is a law of CallLaws.
 -- Assumes nothing.
-use Prim.Native.Nat.{ℕ, _≤_}
-use mathlib.Core.Path.{_≡_, refl, sym, ap, _∙_}
+use mathlib.Core.Path.{_≡_, refl, sym, _∙_}
 use native.Mathlib.Omega.{arith}
 use borrow.Author.Needs.{needs}
 use borrow.Author.Tests.{not-true, not-false}
 use Rattle.moves.specs.Ready.{Ready}
-use Rattle.moves.specs.ReadyLaws.{ready-n, ready-sizes}
-use Rattle.moves.proofs.Picks.{joined-is}
+use Rattle.moves.specs.ReadyLaws.{ready-sizes, ready-joined}
 use Rattle.runs.specs.CallLaws.{pick-21, pick-25, pick-23, pick-on}
 use Rattle.runs.proofs.Tested.{fresh-long, fresh-empty, wrong-area, right-ready, none-from, none-to}
 use Rattle.runs.proofs.picking.pick.Statement.{statement}
@@ -50,7 +48,7 @@ returns-4 c =
     let two = c .before .before .before in
     let y = ready (two .before .before) in
     let a = two .before .before .before .before .before .before .before .before .args in
-    pick-25 _ (y .right) (a .from) (a .to) (sym (c .before .joined .ensures ∙ joined-is y (a .from) (a .to) (omega (arith, ready-sizes y .0, two .before .if1 .left)) (omega (arith, ready-sizes y .0, two .if2 .left))) ∙ not-true _ (c .if3 .taken))
+    pick-25 _ (y .right) (a .from) (a .to) (sym (c .before .joined .ensures ∙ ready-joined y (a .from) (a .to) (omega (arith, ready-sizes y .0, two .before .if1 .left)) (omega (arith, ready-sizes y .0, two .if2 .left))) ∙ not-true _ (c .if3 .taken))
 
 is-over-requires : tie.Need-is-over-requires
 is-over-requires c κs = ready (c .before .before .before .before .before .before .before)
@@ -61,7 +59,7 @@ linked c =
     let two = c .before .before .before in
     let y = ready (two .before .before) in
     let a = two .before .before .before .before .before .before .before .before .args in
-    sym (c .before .joined .ensures ∙ joined-is y (a .from) (a .to) (omega (arith, ready-sizes y .0, two .before .if1 .left)) (omega (arith, ready-sizes y .0, two .if2 .left))) ∙ not-false _ (c .if3 .left)
+    sym (c .before .joined .ensures ∙ ready-joined y (a .from) (a .to) (omega (arith, ready-sizes y .0, two .before .if1 .left)) (omega (arith, ready-sizes y .0, two .if2 .left))) ∙ not-false _ (c .if3 .left)
 
 returns-5 : tie.Need-returns-5
 returns-5 c =

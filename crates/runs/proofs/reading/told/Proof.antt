@@ -1,7 +1,8 @@
 -- `runs::reading::told` meets its contract: the verdict goes by the sum, which comes back from its bits as it was.
 -- Assumes nothing.
 use lib.Dec.{lit<}
-use Rattle.areas.proofs.Signs.{word-back, word-is}
+use Rattle.steps.proofs.Counts.{signed-back}
+use Rattle.areas.proofs.Signs.{word-is}
 use Rattle.runs.specs.CallLaws.{verdict-knot, verdict-free}
 use Rattle.runs.proofs.Tested.{word-apart}
 use Rattle.runs.proofs.reading.told.Statement.{statement}
@@ -11,13 +12,13 @@ returns : tie.Need-returns
 returns c =
     let z = c .before .before .args .start .cs in
     let h = c .before .struct-told .given .1 .1 .1 .0 .1 in
-    rw (word-back z h, verdict-knot z (word-is z 0 h (lit< tt) (c .if1 .taken)))
+    rw (signed-back z h, verdict-knot z (word-is z 0 h (lit< tt) (c .if1 .taken)))
 
 returns-2 : tie.Need-returns-2
 returns-2 c =
     let z = c .before .before .args .start .cs in
     let h = c .before .struct-told .given .1 .1 .1 .0 .1 in
-    rw (word-back z h, verdict-free z (word-apart z (c .if1 .left)))
+    rw (signed-back z h, verdict-free z (word-apart z (c .if1 .left)))
 
 pub told-spec : {M : Type 1} → statement M
 told-spec = tie.close (tie.spec returns returns-2)

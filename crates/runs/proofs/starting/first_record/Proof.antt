@@ -5,7 +5,7 @@ use borrow.Author.Needs.{needs}
 use Rattle.tables.specs.declared.Chain.the-variants.{Out, In}
 use Rattle.areas.specs.Squares.{joinsBy}
 use Rattle.runs.specs.Starting.{startedFrom}
-use Rattle.runs.specs.StartingLaws.{countTo-most}
+use Rattle.base.specs.Counts.{countTo-most}
 use Rattle.runs.proofs.starting.first_record.Statement.{statement}
 use Rattle.runs.proofs.starting.first_record.Tie as tie
 

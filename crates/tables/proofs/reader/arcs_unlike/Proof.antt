@@ -1,8 +1,8 @@
 -- `tables::reader::arcs_unlike` meets its contract: before arc k a cell is set exactly if an arc before it has its ends, and no
 -- arc before it has the ends of an earlier one. Assumes nothing.
 use Prim.Native.Nat.{_-_, _≤_}
-use mathlib.Core.Bool.{true}
-use mathlib.Core.Path.{_≡_, sym, ap}
+use mathlib.Core.Bool.{true, not}
+use mathlib.Core.Path.{_≡_, sym, ap, _∙_}
 use native.Mathlib.Omega.{arith}
 use denote.Ref.{now}
 use Rattle.base.specs.Sums.{allTo, allTo-at}
@@ -11,13 +11,13 @@ use Rattle.tables.specs.declared.Arc.{Arc}
 use Rattle.tables.specs.Table.{fieldOf, arcAt}
 use Rattle.tables.specs.Reading.{endsRight, unlikeBefore}
 use Rattle.tables.proofs.Checks.{ends-low}
-use Rattle.tables.proofs.Unlike.{Marked, marked-none, marked-more, unlikeBefore-met, unlikeBefore-new}
+use Rattle.tables.proofs.Unlike.{MetArcs, met-none, metArcs-next, unlikeBefore-cell}
 use Rattle.tables.proofs.reader.arcs_unlike.Statement.{statement}
 use Rattle.tables.proofs.reader.arcs_unlike.Tie as tie
 
 abbrev Inv-loop : tie.InvT-loop
 Inv-loop s n m met₀ end k₀ met k =
-    (1 ≤ k) × (k ≤ end) × Marked (fieldOf s) k met × (allTo (k - 1) (unlikeBefore (fieldOf s)) ≡ true)
+    (1 ≤ k) × (k ≤ end) × MetArcs (fieldOf s) k met × (allTo (k - 1) (unlikeBefore (fieldOf s)) ≡ true)
 
 abbrev μ-loop : tie.MeasureT-loop
 μ-loop s n m met₀ end k₀ met k = end - k
@@ -38,7 +38,7 @@ returns c =
     let d = c .before .before .before in
     let ends = small d in
     sym (allTo-stop _ _ _ (omega arith) (omega arith)
-    (unlikeBefore-met _ _ _ (d .before .before .loop .inv .2) _ (d .arc-at .ensures) (ends .0) (ends .1) (c .if1 .taken)))
+    (unlikeBefore-cell _ _ _ _ (ends .0) (ends .1) (omega arith) (d .arc-at .ensures) (d .before .before .loop .inv .2) ∙ ap not (c .if1 .taken)))
 
 loop-again : tie.Need-loop-again Inv-loop μ-loop
 loop-again c =
@@ -46,9 +46,9 @@ loop-again c =
     let ends = small d in (
       omega arith,
       omega arith,
-      marked-more _ _ _ (d .before .before .loop .inv .2) _ (d .arc-at .ensures) (ends .0) (ends .1) (omega arith),
+      metArcs-next _ _ _ _ (ends .0) (ends .1) (omega arith) (d .arc-at .ensures) (d .before .before .loop .inv .2),
       allTo-more _ _ (omega arith) (d .before .before .loop .inv .3)
-          (unlikeBefore-new _ _ _ (d .before .before .loop .inv .2) _ (d .arc-at .ensures) (ends .0) (ends .1) (c .if1 .left)),
+          (unlikeBefore-cell _ _ _ _ (ends .0) (ends .1) (omega arith) (d .arc-at .ensures) (d .before .before .loop .inv .2) ∙ ap not (c .if1 .left)),
     )
 
 returns-2 : tie.Need-returns-2 Inv-loop μ-loop
@@ -61,7 +61,7 @@ arcs-unlike-spec =
     Inv-loop
     μ-loop
     (λ c. omega arith)
-    (λ c. (omega arith, omega arith, marked-none _, allTo-none _))
+    (λ c. (omega arith, omega arith, met-none _ _, allTo-none _))
     (λ c κs. omega arith)
     (λ c. omega (arith, small (c .before) .0))
     (λ c. omega (arith, small (c .before .before) .0, small (c .before .before) .1))

@@ -6,27 +6,28 @@ use borrow.Author.Needs.{needs}
 use denote.Ref.{now}
 use Prim.Native.Nat.{ℕ}
 use Rattle.base.specs.Sums.{allTo}
+use Rattle.base.specs.Choice.{value-yes, value-not}
 use Rattle.tables.specs.declared.Chain.the-variants.{Out}
 use Rattle.tables.specs.Table.{fieldOf}
 use Rattle.tables.specs.Reading.{endsRight, firstsRight, nextsRight, chainsRight}
 use Rattle.tables.specs.Held.{Linked}
-use Rattle.tables.proofs.Numbers.{yes, no, fieldsNumber-ends, fieldsNumber-firsts, fieldsNumber-nexts, fieldsNumber-out, fieldsNumber-in, fieldsNumber-alike, fieldsNumber-none}
+use Rattle.tables.proofs.Numbers.{fieldsNumber-ends, fieldsNumber-firsts, fieldsNumber-nexts, fieldsNumber-out, fieldsNumber-in, fieldsNumber-alike, fieldsNumber-none}
 use Rattle.tables.proofs.reader.fields_number.Statement.{statement}
 use Rattle.tables.proofs.reader.fields_number.Tie as tie
 
 ends : (c : tie.Else1) → allTo (c .before .before .before .args .m) (endsRight (fieldOf (now (c .before .before .before .args .s)))) ≡ true
-ends c = yes (c .before .ends-right .ensures) (c .if1 .left)
+ends c = value-yes (c .before .ends-right .ensures) (c .if1 .left)
 
 firsts : (c : tie.Else2) → allTo (c .before .before .before .before .before .args .n) (firstsRight (fieldOf (now (c .before .before .before .before .before .args .s)))) ≡ true
-firsts c = yes (c .before .firsts-right .ensures) (c .if2 .left)
+firsts c = value-yes (c .before .firsts-right .ensures) (c .if2 .left)
 
 nexts :
     (c : tie.Else3) →
     allTo (c .before .before .before .before .before .before .before .args .m) (nextsRight (fieldOf (now (c .before .before .before .before .before .before .before .args .s)))) ≡ true
-nexts c = yes (c .before .nexts-right .ensures) (c .if3 .left)
+nexts c = value-yes (c .before .nexts-right .ensures) (c .if3 .left)
 
 outs : (c : tie.Else4) → chainsRight Out (fieldOf (now (c .before .before .before .before .before .before .before .before .before .args .s))) ≡ true
-outs c = yes (c .before .chains-right .ensures) (c .if4 .left)
+outs c = value-yes (c .before .chains-right .ensures) (c .if4 .left)
 
 -- check 5 passed
 linked : (c : tie.Else3) → Linked (fieldOf (now (c .before .before .before .before .before .before .before .args .s)))
@@ -41,20 +42,20 @@ linked c =
 returns : tie.Need-returns
 returns c =
     let d = c .before .before .before in
-    fieldsNumber-ends _ _ _ (d .pre .0 .processes) (d .pre .1) (no (c .before .ends-right .ensures) (c .if1 .taken))
+    fieldsNumber-ends _ _ _ (d .pre .0 .processes) (d .pre .1) (value-not (c .before .ends-right .ensures) (c .if1 .taken))
 
 returns-2 : tie.Need-returns-2
 returns-2 c =
     let a = c .before .before in
     let d = a .before .before .before in
-    fieldsNumber-firsts _ _ _ (d .pre .0 .processes) (d .pre .1) (ends a) (no (c .before .firsts-right .ensures) (c .if2 .taken))
+    fieldsNumber-firsts _ _ _ (d .pre .0 .processes) (d .pre .1) (ends a) (value-not (c .before .firsts-right .ensures) (c .if2 .taken))
 
 returns-3 : tie.Need-returns-3
 returns-3 c =
     let b = c .before .before in
     let a = b .before .before in
     let d = a .before .before .before in
-    fieldsNumber-nexts _ _ _ (d .pre .0 .processes) (d .pre .1) (ends a) (firsts b) (no (c .before .nexts-right .ensures) (c .if3 .taken))
+    fieldsNumber-nexts _ _ _ (d .pre .0 .processes) (d .pre .1) (ends a) (firsts b) (value-not (c .before .nexts-right .ensures) (c .if3 .taken))
 
 chains-right-requires : tie.Need-chains-right-requires
 chains-right-requires c κs =
@@ -67,7 +68,7 @@ returns-4 c =
     let b = e .before .before in
     let a = b .before .before in
     let d = a .before .before .before in
-    fieldsNumber-out _ _ _ (d .pre .0 .processes) (d .pre .1) (ends a) (firsts b) (nexts e) (no (c .before .chains-right .ensures) (c .if4 .taken))
+    fieldsNumber-out _ _ _ (d .pre .0 .processes) (d .pre .1) (ends a) (firsts b) (nexts e) (value-not (c .before .chains-right .ensures) (c .if4 .taken))
 
 chains-right-requires-2 : tie.Need-chains-right-requires-2
 chains-right-requires-2 c κs =
@@ -81,7 +82,7 @@ returns-5 c =
     let b = e .before .before in
     let a = b .before .before in
     let d = a .before .before .before in
-    fieldsNumber-in _ _ _ (d .pre .0 .processes) (d .pre .1) (ends a) (firsts b) (nexts e) (outs f) (no (c .before .chains-right2 .ensures) (c .if5 .taken))
+    fieldsNumber-in _ _ _ (d .pre .0 .processes) (d .pre .1) (ends a) (firsts b) (nexts e) (outs f) (value-not (c .before .chains-right2 .ensures) (c .if5 .taken))
 
 arcs-unlike-requires : tie.Need-arcs-unlike-requires
 arcs-unlike-requires c κs =
@@ -97,8 +98,8 @@ returns-6 c =
     let b = e .before .before in
     let a = b .before .before in
     let d = a .before .before .before in
-    fieldsNumber-alike _ _ _ (d .pre .0 .processes) (d .pre .1) (ends a) (firsts b) (nexts e) (outs f) (yes (g .before .chains-right2 .ensures) (g .if5 .left))
-    (no (c .before .arcs-unlike .ensures) (c .if6 .taken))
+    fieldsNumber-alike _ _ _ (d .pre .0 .processes) (d .pre .1) (ends a) (firsts b) (nexts e) (outs f) (value-yes (g .before .chains-right2 .ensures) (g .if5 .left))
+    (value-not (c .before .arcs-unlike .ensures) (c .if6 .taken))
 
 returns-7 : tie.Need-returns-7
 returns-7 c =
@@ -108,8 +109,8 @@ returns-7 c =
     let b = e .before .before in
     let a = b .before .before in
     let d = a .before .before .before in
-    fieldsNumber-none _ _ _ (d .pre .0 .processes) (d .pre .1) (ends a) (firsts b) (nexts e) (outs f) (yes (g .before .chains-right2 .ensures) (g .if5 .left))
-    (yes (c .before .arcs-unlike .ensures) (c .if6 .left))
+    fieldsNumber-none _ _ _ (d .pre .0 .processes) (d .pre .1) (ends a) (firsts b) (nexts e) (outs f) (value-yes (g .before .chains-right2 .ensures) (g .if5 .left))
+    (value-yes (c .before .arcs-unlike .ensures) (c .if6 .left))
 
 pub fields-number-spec : {M : Type 1} → statement M
 fields-number-spec =

@@ -2,26 +2,25 @@
 -- Assumes nothing.
 use Prim.Native.Nat.{ℕ, _+_, _-_, _*_, _≤_}
 use mathlib.Core.Bool.{Bool, true, false, not}
-use mathlib.Core.Path.{_≡_, refl, sym, ap, _∙_}
+use mathlib.Core.Path.{_≡_, sym, ap, _∙_}
 use native.Mathlib.Omega.{arith}
 use lib.ListN.{getD}
 use Rattle.base.specs.Sums.{allTo}
 use Rattle.tables.specs.Writing.{unlike}
 use Rattle.tables.specs.declared.Chain.the-variants.{Out, In}
-use Rattle.tables.specs.TestLaws.{allTo-more, allTo-fails}
-use Rattle.tables.specs.SquareLaws.{Seen, seen-none, seen-next, seen-unlike}
+use Rattle.base.specs.Prefix.{allTo-none, allTo-next, allTo-stop}
+use Rattle.tables.proofs.Unlike.{MetPairs, met-none, met-next, unlike-cell}
 use Rattle.tables.proofs.writer.all_unlike.Statement.{statement}
 use Rattle.tables.proofs.writer.all_unlike.Tie as tie
 
 abbrev Inv-loop : tie.InvT-loop
-Inv-loop list m seen₀ k₀ seen k = (k ≤ m) × (allTo k (unlike list) ≡ true) × Seen list k seen
+Inv-loop list m seen₀ k₀ seen k = (k ≤ m) × (allTo k (unlike list) ≡ true) × MetPairs list k seen
 
 abbrev μ-loop : tie.MeasureT-loop
 μ-loop list m seen₀ k₀ seen k = m - k
 
 loop-holds : tie.Need-loop-holds Inv-loop μ-loop
-unfolding allTo
-loop-holds c = (omega arith, refl, seen-none _ 16641 _ refl refl)
+loop-holds c = (omega arith, allTo-none _, met-none _ _)
 
 -- the pair that a turn reads is within the square
 small : (c : tie.After-to-of Inv-loop μ-loop) → (c .before .from-of .result ≤ 128) × (c .to-of .result ≤ 128)
@@ -38,18 +37,18 @@ new : (c : tie.After-to-of Inv-loop μ-loop) (r : Bool)
     → unlike (c .before .before .before .before .before .args .list .now) (c .before .before .before .loop .k + 1) ≡ not r
 new c r e =
     let at = c .before .before .before .loop in
-    seen-unlike _ (at .k) _ _ (at .seen) r (small c .0) (small c .1) (c .before .from-of .ensures) (c .to-of .ensures) (at .inv .2) e
+    unlike-cell _ (at .k) _ _ _ (at .seen) (small c .0) (small c .1) (c .before .from-of .ensures) (c .to-of .ensures) (omega arith) (at .inv .2) ∙ ap not e
 
 returns : tie.Need-returns Inv-loop μ-loop
-returns c = sym (allTo-fails _ _ (c .before .before .before .before .loop .k) (omega arith) (new (c .before) true (c .if1 .taken)))
+returns c = sym (allTo-stop _ (c .before .before .before .before .loop .k + 1) _ (omega arith) (omega arith) (new (c .before) true (c .if1 .taken)))
 
 loop-again : tie.Need-loop-again Inv-loop μ-loop
 loop-again c =
     let at = c .before .before .before .before .loop in
     let bounds = small (c .before) in (
       omega arith,
-      allTo-more (at .k) _ (at .inv .1) (new (c .before) false (c .if1 .left)),
-      seen-next _ (at .k) _ _ (at .seen) (bounds .0) (bounds .1) (c .before .before .from-of .ensures) (c .before .to-of .ensures) (at .inv .2),
+      allTo-next (at .k) _ (at .inv .1) (new (c .before) false (c .if1 .left)),
+      met-next _ _ (at .k) _ _ _ (at .seen) (bounds .0) (bounds .1) (c .before .before .from-of .ensures) (c .before .to-of .ensures) (omega arith) (at .inv .2),
     )
 
 returns-2 : tie.Need-returns-2 Inv-loop μ-loop

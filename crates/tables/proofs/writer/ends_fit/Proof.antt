@@ -1,15 +1,16 @@
 -- `ends_fit` is the test of its name over all pairs. The loop's invariant: the pairs passed fit. Assumes nothing.
 use Prim.Native.Nat.{ℕ, _+_, _-_, _≤_}
-use mathlib.Core.Bool.{Bool, true, false}
-use mathlib.Core.Path.{_≡_, refl, sym, ap, _∙_}
+use mathlib.Core.Bool.{Bool, true, false, _&&_}
+use mathlib.Core.Path.{_≡_, sym, ap, _∙_}
 use native.Mathlib.Omega.{arith}
+use lib.Dec.{leb}
 use borrow.Author.Needs.{needs}
 use borrow.Author.Tests.{not-true, not-false}
 use Rattle.base.specs.Sums.{allTo}
+use Rattle.base.specs.Prefix.{allTo-none, allTo-next, allTo-stop}
 use Rattle.tables.specs.declared.Chain.the-variants.{Out, In}
 use Rattle.tables.specs.Writing.{isProcess, endsFit}
 use Rattle.tables.specs.NumberLaws.{endsFit-not, endsFit-both}
-use Rattle.tables.specs.TestLaws.{allTo-more, allTo-fails}
 use Rattle.tables.proofs.writer.ends_fit.Statement.{statement}
 use Rattle.tables.proofs.writer.ends_fit.Tie as tie
 
@@ -20,12 +21,12 @@ abbrev μ-loop : tie.MeasureT-loop
 μ-loop n list m k₀ k = m - k
 
 -- what the test's result says of an end that was read
-tells : (n x y : ℕ) (r b : Bool) → x ≡ y → r ≡ isProcess n x → r ≡ b → isProcess n y ≡ b
+tells : (n x y : ℕ) (r b : Bool) → x ≡ y → r ≡ (leb 1 x && leb x n) → r ≡ b → isProcess n y ≡ b
+unfolding isProcess
 tells n x y r b e f g = rw (← e, ← f) g
 
 loop-holds : tie.Need-loop-holds Inv-loop μ-loop
-unfolding allTo
-loop-holds c = (omega arith, refl)
+loop-holds c = (omega arith, allTo-none _)
 
 returns : tie.Need-returns Inv-loop μ-loop
 returns c =
@@ -34,7 +35,7 @@ returns c =
     let from = c .before .before .before .from-of in
     let test = c .before .is-process in
     sym
-    (allTo-fails _ _ k (omega arith)
+    (allTo-stop _ (k + 1) _ (omega arith) (omega arith)
     (endsFit-not (start .n) (start .list .now) (k + 1) Out
     (tells (start .n) (from .result) _ (test .result) false (from .ensures) (test .ensures) (not-true _ (c .if1 .taken)))))
 
@@ -45,7 +46,7 @@ returns-2 c =
     let to = c .before .before .before .before .to-of in
     let test = c .before .is-process2 in
     sym
-    (allTo-fails _ _ k (omega arith)
+    (allTo-stop _ (k + 1) _ (omega arith) (omega arith)
     (endsFit-not (start .n) (start .list .now) (k + 1) In
     (tells (start .n) (to .result) _ (test .result) false (to .ensures) (test .ensures) (not-true _ (c .if2 .taken)))))
 
@@ -58,7 +59,7 @@ loop-again c =
     let test = c .before .before .before .is-process in
     let test₂ = c .before .is-process2 in (
       omega arith,
-      allTo-more (at .k) _ (at .inv .1)
+      allTo-next (at .k) _ (at .inv .1)
           (endsFit-both (start .n) (start .list .now) (at .k + 1)
           (tells (start .n) (from .result) _ (test .result) true (from .ensures) (test .ensures) (not-false _ (c .before .before .if1 .left)))
           (tells (start .n) (to .result) _ (test₂ .result) true (to .ensures) (test₂ .ensures) (not-false _ (c .if2 .left)))),
