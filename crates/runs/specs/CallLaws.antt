@@ -1,6 +1,7 @@
 -- The calls by the first thing that is met.
 --   pick-21, runOn-21, report-21, read-21     == an area that is not well formed
 --   pick-25, pick-23, pick-on                 == a pick on a well-formed area: no link, over, or the delivery
+--   pick-ready                                == a tested area stays ready after a pick
 --   runOn-on                                  == running on, from its first turn
 --   report-26, report-over                    == a report before the end, and at the end
 --   read-25, read-found                       == a record
@@ -25,7 +26,8 @@ use Rattle.checks.specs.Run.{Run, over, wellFormed}
 use Rattle.checks.specs.Calls.{Picked, refused, deliver, pick, runFrom, runOn, Escape, verdictOf, markOf, reported, report, readRecord}
 use Rattle.areas.specs.Area.{stored, fieldsIn, runIn, areaRight, keeping}
 use Rattle.areas.specs.AreaLaws.{stored-same}
-use Rattle.moves.specs.Ready.{right-fit}
+use Rattle.moves.specs.Fit.{fit-pick}
+use Rattle.moves.specs.Ready.{Ready, right-fit, ready-kept}
 use Rattle.runs.specs.AreaCalls.{pickAnswer, pickArea, runOnAnswer, runOnArea, reportAnswer, Reported, readAnswer}
 
 -- the report of a run by its start's record
@@ -79,6 +81,10 @@ module _ (w : List ℤ) (e : areaRight w ≡ true) where
   pub pick-on : (a b : ℕ) → neighbours (runIn w .waits) a b ≡ true → over (runIn w) ≡ false → (deliver (runIn w) a b (runIn w .link a b) .answer ≡ pickAnswer w a b) × (keeping w (deliver (runIn w) a b (runIn w .link a b) .run) ≡ pickArea w a b)
   unfolding pickAnswer pickArea pick
   pick-on a b n o = (rw (e, formed, n, o), rw (e, formed, n, o))
+
+  pub pick-ready : {sq : List ℕ} {n m : ℕ} → Ready w sq n m → (a b : ℕ) → Ready (pickArea w a b) sq n m
+  unfolding pickArea
+  pick-ready {sq} {n} {m} y a b = rw e (ready-kept w e (pick (runIn w) a b .run) (fit-pick (fieldsIn w) (runIn w) (right-fit w e) a b) sq n m y)
 
   pub runOn-on : (k : ℕ) → (runFrom k 0 (runIn w) .answer ≡ runOnAnswer k w) × (keeping w (runFrom k 0 (runIn w) .run) ≡ runOnArea k w)
   unfolding runOnAnswer runOnArea runOn

@@ -5,7 +5,36 @@ use areas::testing::Sizes;
 use checks::Delivery;
 use moves::delivering;
 ghost use mathlib.Core.Path.{_≡_};
+ghost use Rattle.moves.specs.Ready.{Ready};
 ghost use Rattle.runs.specs.AreaCalls.{pickAnswer, pickArea};
+
+// A pick in a tested area, for whoever makes more than one: 25, 23, 24, 22. The area stays ready (pick-ready in CallLaws).
+pub fn pick_in(
+    area: &mut [i32],
+    square: &[u16; 16641],
+    n: usize,
+    m: usize,
+    from: usize,
+    to: usize,
+) -> Delivery
+    requires { ⌜ Ready (now area) (now square) n m ⌝ }
+    ensures { λ r. ⌜ r ≡ pickAnswer (now (area .entry)) from to ⌝ }
+    ensures { λ _. ⌜ now (area .exit) ≡ pickArea (now (area .entry)) from to ⌝ }
+{
+    if from > n {
+        return Delivery::Refused(25);
+    }
+    if to > n {
+        return Delivery::Refused(25);
+    }
+    if !squares::joined(square, from, to) {
+        return Delivery::Refused(25);
+    }
+    if delivering::is_over(area, square, n, m) {
+        return Delivery::Refused(23);
+    }
+    delivering::deliver(area, square, n, m, from, to)
+}
 
 // Delivers the oldest message on the link from one process to another: 21, 25, 23, 24, 22.
 pub fn pick(area: &mut [i32], from: usize, to: usize) -> Delivery
@@ -16,17 +45,5 @@ pub fn pick(area: &mut [i32], from: usize, to: usize) -> Delivery
     let Sizes::Right { n, m } = testing::test(area, &mut square) else {
         return Delivery::Refused(21);
     };
-    if from > n {
-        return Delivery::Refused(25);
-    }
-    if to > n {
-        return Delivery::Refused(25);
-    }
-    if !squares::joined(&square, from, to) {
-        return Delivery::Refused(25);
-    }
-    if delivering::is_over(area, &square, n, m) {
-        return Delivery::Refused(23);
-    }
-    delivering::deliver(area, &square, n, m, from, to)
+    pick_in(area, &square, n, m, from, to)
 }
