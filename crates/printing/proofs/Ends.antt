@@ -1,4 +1,6 @@
--- lowest-small   == the ends of the link that is chosen in a tested area are processes, and so at most 128
+-- Tested areas, as the program goes on with them.
+--   lowest-small   == the ends of the link that is chosen are processes, and so at most 128
+--   picked-ready   == the area that a pick leaves is ready
 -- Assumes nothing.
 use Prim.Native.Nat.{ℕ, _≤_}
 use mathlib.Core.List.{List}
@@ -14,8 +16,13 @@ use Rattle.moves.specs.ReadyLaws.{ready-n, ready-sizes}
 use Rattle.choosing.specs.declared.Lowest.{Lowest}
 use Rattle.choosing.specs.Lowest.{lowestAnswer}
 use Rattle.choosing.specs.LowestLaws.{lowestAnswer-delivered}
+use Rattle.runs.specs.AreaCalls.{pickArea}
+use Rattle.runs.specs.CallLaws.{pick-ready}
 
 pub lowest-small : {w : List ℤ} {sq : List ℕ} {n m : ℕ} → Ready w sq n m → (x : Lowest) → x ≡ lowestAnswer (lowest (runIn w)) (deliverOn (runIn w) (lowest (runIn w)) .answer) → (a b : ℕ) (k : Message) → x ≡ Lowest.Delivered a b k → (a ≤ 128) × (b ≤ 128)
 lowest-small {w} y x is a b k e =
     let p = lowest-pair (runIn w) (lowestAnswer-delivered (runIn w) (lowest (runIn w)) a b k (sym is ∙ e) .0) in
     (omega (arith, p .0 .1, ready-n y, ready-sizes y .0), omega (arith, p .1 .1, ready-n y, ready-sizes y .0))
+
+pub picked-ready : {w : List ℤ} {sq : List ℕ} {n m : ℕ} → Ready w sq n m → (a b : ℕ) {v : List ℤ} → v ≡ pickArea w a b → Ready v sq n m
+picked-ready {w} y a b e = rw e (pick-ready w (y .right) y a b)

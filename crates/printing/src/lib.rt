@@ -57,13 +57,37 @@ fn number_of(answer: Delivery) -> u32
 }
 
 // One pick: "A refused pick prints its number and the program goes on."
-fn print_pick(area: &mut [i32], from: u32, to: u32) {
-    let answer = picking::pick(area, from as usize, to as usize);
+fn print_pick(area: &mut [i32], square: &[u16; 16641], n: usize, m: usize, from: u32, to: u32)
+    requires { ⌜ Ready (now area) (now square) n m ⌝ }
+    ensures { λ _. ⌜ Ready (now (area .exit)) (now (square .entry)) n m ⌝ }
+{
+    let answer = picking::pick_in(area, square, n, m, from as usize, to as usize);
     let Delivery::Delivered(message) = answer else {
         print_refused_pick(from, to, number_of(answer));
         return;
     };
     print_delivery(false, from, to, message);
+}
+
+// The picks, in order.
+fn print_picks(
+    input: &[u8],
+    end: usize,
+    picks: usize,
+    area: &mut [i32],
+    square: &[u16; 16641],
+    n: usize,
+    m: usize,
+)
+    requires { ⌜ end ≡ tableEnd (now input) ⌝ }
+    requires { ⌜ picks ≡ picksIn (now input) ⌝ }
+    requires { ⌜ Ready (now area) (now square) n m ⌝ }
+    ensures { λ _. ⌜ Ready (now (area .exit)) (now (square .entry)) n m ⌝ }
+{
+    for j in 0..picks {
+        let pick = inputs::pick_at(input, end, j);
+        print_pick(area, square, n, m, pick.from, pick.to);
+    }
 }
 
 // One delivery in the fixed order; gives whether it was made.
@@ -143,38 +167,35 @@ fn print_report(area: &[i32]) {
     }
 }
 
-// All that follows the picks. The area is tested once for it.
-fn finish(area: &mut [i32]) {
+// All that follows the picks.
+fn finish(area: &mut [i32], square: &[u16; 16641], n: usize, m: usize)
+    requires { ⌜ Ready (now area) (now square) n m ⌝ }
+{
+    let mut loads = [0usize; 129];
+    choosing::fill_loads(area, square, n, m, &mut loads);
+    run_out(area, square, n, m, &mut loads);
+    print_processes(area, square, n, m);
+    print_report(area);
+}
+
+// The answer to a begun input. The area is tested once for all of it.
+fn print_begun(input: &[u8], end: usize, picks: usize, area: &mut [i32])
+    requires { ⌜ end ≡ tableEnd (now input) ⌝ }
+    requires { ⌜ picks ≡ picksIn (now input) ⌝ }
+{
     let mut square = [0u16; 16641];
     let Sizes::Right { n, m } = testing::test(area, &mut square) else {
         print_refused(21);
         return;
     };
-    let mut loads = [0usize; 129];
-    choosing::fill_loads(area, &square, n, m, &mut loads);
-    run_out(area, &square, n, m, &mut loads);
-    print_processes(area, &square, n, m);
-    print_report(area);
-}
-
-// The picks, in order.
-fn print_picks(input: &[u8], end: usize, picks: usize, area: &mut [i32])
-    requires { ⌜ end ≡ tableEnd (now input) ⌝ }
-    requires { ⌜ picks ≡ picksIn (now input) ⌝ }
-{
-    for j in 0..picks {
-        let pick = inputs::pick_at(input, end, j);
-        print_pick(area, pick.from, pick.to);
-    }
+    print_picks(input, end, picks, area, &square, n, m);
+    finish(area, &square, n, m);
 }
 
 fn print_check_in(input: &[u8], area: &mut [i32]) {
     match inputs::begin(input, area) {
         Begun::Refused(number) => print_refused(number),
-        Begun::Ready { end, picks } => {
-            print_picks(input, end, picks, area);
-            finish(area);
-        }
+        Begun::Ready { end, picks } => print_begun(input, end, picks, area),
     }
 }
 

@@ -5,8 +5,8 @@ use Rattle.inputs.proofs.Told.{begun-ready}
 use Rattle.printing.proofs.print_check_in.Statement.{statement}
 use Rattle.printing.proofs.print_check_in.Tie as tie
 
-print-picks-requires : tie.Need-print-picks-requires
-print-picks-requires c κs =
+print-begun-requires : tie.Need-print-begun-requires
+print-begun-requires c κs =
     let e = c .before .before in
     let told = begun-ready _ _ _ (e .before .before .before .begin .ensures .0) _ _ (e .end .given .1) in
     (told .end-is, told .picks-is)
@@ -19,8 +19,7 @@ print-check-in-spec =
     (λ c. search needs)
     (λ c κs. search needs)
     (λ c. search needs)
-    print-picks-requires
-    (λ c κs. search needs)
+    print-begun-requires
     (λ c. search needs)
     (λ c. search needs)
     (λ c. search needs)

@@ -1,0 +1,32 @@
+-- `printing::print_pick` meets its contract: the area that a pick leaves is ready.
+-- Assumes nothing.
+use borrow.Author.Needs.{needs}
+use denote.Ref.{now}
+use Rattle.moves.specs.Ready.{Ready}
+use Rattle.printing.proofs.Ends.{picked-ready}
+use Rattle.printing.proofs.print_pick.Statement.{statement}
+use Rattle.printing.proofs.print_pick.Tie as tie
+
+ready : (d : tie.After-pick-in) → let s = d .before .before in Ready (d .pick-in .last .0) (now (s .args .square)) (s .args .n) (s .args .m)
+ready d = let s = d .before .before in picked-ready (s .pre) (s .args .from) (s .args .to) (d .pick-in .ensures .1)
+
+returns : tie.Need-returns
+returns c = ready (c .before .before .before .before .before)
+
+returns-2 : tie.Need-returns-2
+returns-2 c = ready (c .before .before .before .before .before)
+
+pub print-pick-spec : {M : Type 1} → statement M
+print-pick-spec =
+    tie.close
+    (tie.spec
+    (λ c κs. search needs)
+    (λ c. search needs)
+    (λ c. search needs)
+    (λ c κs. search needs)
+    (λ c κs. search needs)
+    (λ c. search needs)
+    returns
+    (λ c κs. search needs)
+    (λ c. search needs)
+    returns-2)
