@@ -1,24 +1,31 @@
 -- One delivery in the fixed order, in a ready area.
---   made w                  == the delivery
---   holding-lowest          == the area after it holds the run after it
---   Left w sq n m x v l     == what it leaves of the area w: the answer x, the area v, and its loads l
---   left-none               == no link is chosen
---   link-asks, link-after   == what the delivery on the chosen link asks, and what the refreshing of the loads after it asks
---   left-refused, left-delivered   == the delivery is refused, or a message is delivered
+--   made w                    == the delivery
+--   holding-lowest            == the area after it holds the run after it
+--   Left w sq n m x v l j     == what it leaves of the area w: the answer x, the area v, its loads l and its bounds j
+--   left-none                 == no link is chosen
+--   link-asks, note-asks, carry-asks   == what preparing the delivery on the chosen link asks, then the lists' part, then carrying it out
+--   left-refused, left-delivered       == the delivery is refused, or a message is delivered
 -- Assumes nothing.
 use Prim.Native.Nat.{ℕ, _≤_}
 use mathlib.Core.Bool.{true}
 use mathlib.Core.List.{List}
-use mathlib.Core.Path.{_≡_, refl, sym, ap, _∙_, subst}
+use mathlib.Core.Path.{_≡_, refl, sym, ap, _∙_}
 use native.Mathlib.Omega.{arith}
+use lib.ListN.{length, getD}
 use lib.IntN.{ℤ}
-use Rattle.tables.specs.Waits.{neighbours}
+use Rattle.tables.specs.Waits.{Sound, neighbours}
 use Rattle.steps.specs.declared.Message.{Message}
-use Rattle.checks.specs.declared.Delivery.{Delivery}
+use Rattle.steps.specs.declared.Process.{Process}
+use Rattle.steps.specs.declared.Probes.{Probes}
+use Rattle.steps.specs.declared.Reply.{Reply}
 use Rattle.checks.specs.Run.{Run}
-use Rattle.checks.specs.Calls.{Picked, deliver, nobody, pair, lowest, deliverOn}
+use Rattle.checks.specs.Calls.{Picked, refused, deliver, nobody, pair, lowest, deliverOn}
 use Rattle.ending.specs.ChooserLaws.{lowest-pair}
 use Rattle.areas.specs.Area.{fieldsIn, runIn, keeping}
+use Rattle.moves.specs.declared.delivering.Prepared.{Prepared}
+use Rattle.moves.specs.declared.delivering.Prepared.the-variants.{Go}
+use Rattle.moves.specs.Delivering.{carriedOut, Carried, preparedOf}
+use Rattle.moves.specs.PreparedLaws.{Going, refused-of, going-of}
 use Rattle.moves.specs.Fit.{fit-on, waiting-joined}
 use Rattle.moves.specs.Ready.{Ready, right-fit}
 use Rattle.moves.specs.ReadyLaws.{ready-n}
@@ -26,11 +33,14 @@ use Rattle.moves.proofs.Holding.{Holding, holding-first, holding-run, holding-r
 use Rattle.choosing.specs.declared.Chosen.{Chosen}
 use Rattle.choosing.specs.declared.Chosen.the-variants.{Nobody, Link}
 use Rattle.choosing.specs.declared.Lowest.{Lowest}
-use Rattle.choosing.specs.Loads.{Loaded, LoadedBut, chosenOf}
+use Rattle.choosing.specs.Loads.{Loaded, chosenOf}
+use Rattle.choosing.specs.Lows.{Lows, notedLoads, notedLows}
 use Rattle.choosing.specs.Lowest.{lowestAnswer}
-use Rattle.choosing.specs.LoadLaws.{loaded-deliver}
+use Rattle.choosing.specs.SenderLaws.{sent-few}
+use Rattle.choosing.specs.LoadLaws.{loaded-noted, loaded-few, loaded-some}
+use Rattle.choosing.specs.LowsLaws.{lows-noted}
 use Rattle.choosing.specs.OrderLaws.{chosenOf-nobody, chosenOf-link}
-use Rattle.choosing.specs.LowestLaws.{deliverOn-nobody, deliverOn-pair, deliver-refused}
+use Rattle.choosing.specs.LowestLaws.{deliverOn-nobody, deliverOn-pair}
 
 abbrev pub made : List ℤ → Picked
 made w = deliverOn (runIn w) (lowest (runIn w))
@@ -38,16 +48,20 @@ made w = deliverOn (runIn w) (lowest (runIn w))
 pub holding-lowest : {w : List ℤ} {sq : List ℕ} {n m : ℕ} (y : Ready w sq n m) {v u : List ℤ} {r : Run} → Holding w v r → u ≡ keeping v (made v .run) → Holding w u (deliverOn r (lowest r) .run)
 holding-lowest {w} y {r = r} h e = holding-next y h (λ q. deliverOn q (lowest q) .run) e (fit-on (fieldsIn w) r (h .fit) (lowest r) refl)
 
-abbrev pub Left : List ℤ → List ℕ → ℕ → ℕ → Lowest → List ℤ → List ℕ → Type 0
-Left w sq n m x v l =
-    (x ≡ lowestAnswer (lowest (runIn w)) (made w .answer)) × ((v ≡ keeping w (made w .run)) × (Loaded (runIn v) l × Ready v sq n m))
+abbrev pub Left : List ℤ → List ℕ → ℕ → ℕ → Lowest → List ℤ → List ℕ → List ℕ → Type 0
+Left w sq n m x v l j =
+    (x ≡ lowestAnswer (lowest (runIn w)) (made w .answer)) × ((v ≡ keeping w (made w .run)) × (Loaded (runIn v) l × (Lows (runIn v) j × Ready v sq n m)))
 
-module _ {w : List ℤ} {sq : List ℕ} {n m : ℕ} (y : Ready w sq n m) {l : List ℕ} (h : Loaded (runIn w) l) {c : Chosen} (g : c ≡ chosenOf (lowest (runIn w))) where
-  pub left-none : c ≡ Nobody → Left w sq n m (Lowest.Refused 24) w l
+module _ {w : List ℤ} {sq : List ℕ} {n m : ℕ} (y : Ready w sq n m) {l j : List ℕ} (h : Loaded (runIn w) l × Lows (runIn w) j) {c : Chosen} (g : c ≡ chosenOf (lowest (runIn w))) where
+  -- the delivery leaves the area as it was
+  left-same : {k : ℕ} → made w ≡ refused k (runIn w) → Lowest.Refused k ≡ lowestAnswer (lowest (runIn w)) (made w .answer) → Left w sq n m (Lowest.Refused k) w l j
+  left-same p e = (e, (rw p (holding-first y .is), (h .0, (h .1, y))))
+
+  pub left-none : c ≡ Nobody → Left w sq n m (Lowest.Refused 24) w l j
   left-none i =
       let e : lowest (runIn w) ≡ nobody = chosenOf-nobody (lowest (runIn w)) (sym g ∙ i) in
       let p = deliverOn-nobody (runIn w) e in
-      (rw (p, e) refl, (rw p (holding-first y .is), (h, y)))
+      left-same p (rw (p, e) refl)
 
   module _ {a b : ℕ} (i : c ≡ Link a b) where
     chosen : lowest (runIn w) ≡ pair a b
@@ -56,40 +70,43 @@ module _ {w : List ℤ} {sq : List ℕ} {n m : ℕ} (y : Ready w sq n m) {l : Li
     joined : neighbours (runIn w .waits) a b ≡ true
     joined = waiting-joined (fieldsIn w) (runIn w) (right-fit w (y .right) .held) a b (lowest-pair (runIn w) chosen .2)
 
-    sender : (1 ≤ a) × (a ≤ n)
-    sender = let p = lowest-pair (runIn w) chosen .0 in (p .0, omega (arith, p .1, ready-n y))
-
-    receiver : (1 ≤ b) × (b ≤ n)
-    receiver = let p = lowest-pair (runIn w) chosen .1 in (p .0, omega (arith, p .1, ready-n y))
+    sound : Sound (runIn w .waits)
+    sound = right-fit w (y .right) .sound
 
     pub link-asks : Ready w sq n m × ((neighbours (runIn w .waits) a b ≡ true) × ((a ≤ n) × (b ≤ n)))
-    link-asks = (y, (joined, (sender .1, receiver .1)))
+    link-asks =
+        let p = lowest-pair (runIn w) chosen in
+        (y, (joined, (omega (arith, p .0, ready-n y), omega (arith, p .1, ready-n y))))
 
-    -- d is the delivery's answer, and v the area that it leaves
-    module _ {d : Delivery} {v : List ℤ} (f : (d ≡ deliver (runIn w) a b (runIn w .link a b) .answer) × (v ≡ keeping w (deliver (runIn w) a b (runIn w .link a b) .run))) where
-      this : made w ≡ deliver (runIn w) a b (runIn w .link a b)
-      this = deliverOn-pair (runIn w) a b chosen
+    this : made w ≡ deliver (runIn w) a b (runIn w .link a b)
+    this = deliverOn-pair (runIn w) a b chosen
 
-      kept : v ≡ keeping w (made w .run)
-      kept = f .1 ∙ ap (λ (p : Picked). keeping w (p .run)) (sym this)
+    -- d is the prepared delivery
+    module _ {d : Prepared} (f : d ≡ preparedOf (runIn w) a b (runIn w .link a b)) where
+      pub left-refused : {k : ℕ} → d ≡ Prepared.Refused k → Left w sq n m (Lowest.Refused k) w l j
+      left-refused {k} e =
+          let p : made w ≡ refused k (runIn w) = this ∙ refused-of (runIn w) a b k (runIn w .link a b) (sym f ∙ e) in
+          left-same p (rw (p, chosen) refl)
 
-      holds : Holding w v (made w .run)
-      holds = holding-lowest y (holding-first y) kept
+      module _ {s : Message} {x : Process} {p : Probes} {z : Reply} {k : ℕ} (e : d ≡ Go s x p z k) where
+        going : Going (runIn w) n a b s x p z k
+        going = going-of y a b joined (sym f ∙ e)
 
-      now-run : runIn v ≡ deliver (runIn w) a b (runIn w .link a b) .run
-      now-run = holding-run y holds ∙ ap (λ (p : Picked). p .run) this
+        pub note-asks : ((length l ≡ 129) × (length j ≡ 129)) × (((a ≤ 128) × (1 ≤ getD l a 0)) × ((b ≤ 128) × (getD l b 0 ≤ 512) × (k ≤ 128)))
+        note-asks =
+            let q = lowest-pair (runIn w) chosen in
+            let few : runIn w .waits .n ≤ 128 = sound .few in
+            let put : k ≤ 128 = omega (arith, going .sent, sent-few (runIn w .waits) b p) in
+            ((h .0 .long, h .1 .long), ((omega (arith, q .0), loaded-some (h .0) a b (q .0 .0) (q .0 .1) (q .1 .0) (q .1 .1) (q .2)), (omega (arith, q .1), omega (arith, loaded-few w (h .0) b (q .1 .0) (q .1 .1)), put)))
 
-      pub link-after : Ready v sq n m × (((1 ≤ a) × (a ≤ n)) × (((1 ≤ b) × (b ≤ n)) × LoadedBut (runIn v) l a b))
-      link-after =
-          (holding-ready y holds, (sender, (receiver, subst (λ (r : Run). LoadedBut r l a b) (sym now-run) (loaded-deliver (runIn w) a b (runIn w .link a b) h))))
+        pub carry-asks : Ready w sq n m × Carried (runIn w) a b x p z
+        carry-asks = (y, going .carried)
 
-      answer : (x : Lowest) → x ≡ lowestAnswer (pair a b) d → x ≡ lowestAnswer (lowest (runIn w)) (made w .answer)
-      answer x e = e ∙ rw (this, chosen, f .0) refl
-
-      pub left-refused : {j : ℕ} → d ≡ Delivery.Refused j → Left w sq n m (Lowest.Refused j) v l
-      left-refused {j} e =
-          let stays : runIn v ≡ runIn w = now-run ∙ deliver-refused (runIn w) a b j (runIn w .link a b) (sym (f .0) ∙ e) in
-          (answer (Lowest.Refused j) (rw e refl), (kept, (subst (λ (r : Run). Loaded r l) (sym stays) h, holding-ready y holds)))
-
-      pub left-delivered : {x : Message} {k : List ℕ} → d ≡ Delivery.Delivered x → Loaded (runIn v) k → Left w sq n m (Lowest.Delivered a b x) v k
-      left-delivered {x} e j = (answer (Lowest.Delivered a b x) (rw e refl), (kept, (j, holding-ready y holds)))
+        -- the lists and the area after it
+        pub left-delivered : {l′ j′ : List ℕ} {v : List ℤ} → (l′ ≡ notedLoads l a b z k) × (j′ ≡ notedLows j a b z k) → v ≡ keeping w (carriedOut (runIn w) a b x p z) → Left w sq n m (Lowest.Delivered a b s) v l′ j′
+        left-delivered {l′} {j′} {v} t u =
+            let run : made w .run ≡ carriedOut (runIn w) a b x p z = ap (λ (o : Picked). o .run) this ∙ going .run in
+            let kept : v ≡ keeping w (made w .run) = u ∙ ap (keeping w) (sym run) in
+            let holds = holding-lowest y (holding-first y) kept in
+            let now-run : runIn v ≡ carriedOut (runIn w) a b x p z = holding-run y holds ∙ run in
+            (rw (this, chosen, going .answer) refl, (kept, (rw (now-run, t .0) (loaded-noted (runIn w) sound (h .0) a b x p z (going .carried) k (going .sent)), (rw (now-run, t .1) (lows-noted (runIn w) sound chosen (h .1) x p z (going .carried) k (going .sent)), holding-ready y holds))))

@@ -1,30 +1,44 @@
 -- Laws of loads.
 --   loadTo r a k                        == how many messages wait on the links from a to the processes 1 to k
 --   loadTo-none, loadTo-next, loadTo-few   == its first values and its bound; loadOf-is says that a load is one of these
---   loadOf-after                        == a delivery from a to b changes the load of no other sender
---   loaded-after, loaded-deliver        == so what is held for the others still holds after it, also where the delivery is refused
---   loaded-set                          == with the loads of a and b put anew, it holds for all
+--   loaded-one                          == with the load of the one sender put anew whose links have changed, a list holds all loads
 --   filled-next                         == values held up to an index, and one more
+--   loaded-noted                        == the list that the code keeps holds the loads after a delivery
+--   loaded-few, loaded-some             == a load is small; and not 0 where a message waits
 -- Assumes nothing.
 use Prim.Native.Nat.{ℕ, suc, _+_, _-_, _*_, _≤_, _<_}
+use mathlib.Core.Bool.{true}
 use mathlib.Core.List.{List, [], _∷_}
 use mathlib.Core.Path.{_≡_, refl, sym, ap, _∙_}
 use native.Mathlib.Omega.{arith}
-use borrow.Author.Tests.{ne-eqb}
 use lib.ListN.{length, getD, set, length-set}
 use lib.Seq.{getD-set-same, getD-set-other}
 use lib.IntN.{ℤ}
-use Rattle.base.specs.Choice.{choose, Tested, passed, failed, tested, Same, same, apart, same?}
-use Rattle.base.specs.Sums.{sumTo, sumTo-cong, sumTo-most}
+use Rattle.base.specs.Choice.{Same, same, apart, same?}
+use Rattle.base.specs.Sums.{sumTo, sumTo-part, sumTo-most}
+use Rattle.tables.specs.Waits.{Sound}
+use Rattle.tables.specs.WaitsLaws.{neighbours-ends}
 use Rattle.steps.specs.declared.Message.{Message}
-use Rattle.checks.specs.declared.Delivery.the-variants.{Delivered}
-use Rattle.checks.specs.Run.{Run, taken, after, accepts}
-use Rattle.checks.specs.Calls.{refused, delivered, deliver}
+use Rattle.steps.specs.declared.Process.{Process}
+use Rattle.steps.specs.declared.Probes.{Probes}
+use Rattle.steps.specs.declared.Reply.{Reply}
+use Rattle.steps.specs.declared.Reply.the-variants.{To}
+use Rattle.checks.specs.Run.{Run}
+use Rattle.checks.specs.Calls.{waiting}
 use Rattle.areas.specs.Area.{runIn}
+use Rattle.moves.specs.Changes.{answered}
+use Rattle.moves.specs.Delivering.{spreadBy, carriedOut, Carried, probesSent}
+use Rattle.moves.specs.DeliveryLaws.{changed}
 use Rattle.moves.specs.ReadyLaws.{runIn-few}
-use Rattle.choosing.specs.Loads.{loadOf, Loaded, LoadedBut}
+use Rattle.choosing.specs.Loads.{loadOf, Loaded}
+use Rattle.choosing.specs.Lows.{takenLoads, repliedLoads, sentLoads, notedLoads}
+use Rattle.choosing.specs.SenderLaws.{LinksFrom, load-others, taken-from, taken-load, replied-from, replied-load, sent-from, sent-load}
 
 -- ---- a load, link by link
+
+waiting-length : (ms : List Message) → waiting ms ≡ true → 1 ≤ length ms
+waiting-length [] e = absurd (mathlib.Core.Bool.false≢true e)
+waiting-length (m ∷ ms) e = omega arith
 
 abbrev pub loadTo : Run → ℕ → ℕ → ℕ
 loadTo r a k = sumTo k (λ b. length (r .link a b))
@@ -47,47 +61,16 @@ loadTo-next r a b l =
 pub loadTo-few : (w : List ℤ) (a k : ℕ) → loadTo (runIn w) a k ≤ 4 * k
 loadTo-few w a k = sumTo-most k 4 (λ b. length (runIn w .link a b)) (λ b _ _. runIn-few w a b)
 
--- ---- a delivery
-
-module _ (r : Run) (a b : ℕ) (m : Message) (rest : List Message) where
-  link-after : (x y : ℕ) → (x ≡ a → ⊥) → (x ≡ b → ⊥) → after r a b m rest .link x y ≡ r .link x y
-  unfolding after taken
-  link-after x y p q = rw (ne-eqb x b q, ne-eqb x a p)
-
-  pub loadOf-after : (x : ℕ) → (x ≡ a → ⊥) → (x ≡ b → ⊥) → loadOf (after r a b m rest) x ≡ loadOf r x
-  unfolding loadOf after
-  loadOf-after x p q =
-      sumTo-cong (r .waits .n) (λ y. length (after r a b m rest .link x y)) (λ y. length (r .link x y)) (λ y _ _. ap length (link-after x y p q))
-
-  pub loaded-after : {l : List ℕ} → Loaded r l → LoadedBut (after r a b m rest) l a b
-  unfolding after
-  loaded-after h = record { long = h .long; others = λ x l u p q. h .loads x l u ∙ sym (loadOf-after x p q) }
-
-pub loaded-deliver : (r : Run) (a b : ℕ) (ms : List Message) {l : List ℕ} → Loaded r l → LoadedBut (deliver r a b ms .run) l a b
-unfolding deliver delivered
-loaded-deliver r a b ms {l} h = at ms
-  where
-    stays : LoadedBut r l a b
-    stays = record { long = h .long; others = λ x l u p q. h .loads x l u }
-
-    made : (m : Message) (rest : List Message) → Tested (accepts r a b m rest) → LoadedBut ((choose (accepts r a b m rest) (record { answer = Delivered m; run = after r a b m rest }) (refused 22 r)) .run) l a b
-    made m rest (passed e) = rw e (loaded-after r a b m rest h)
-    made m rest (failed e) = rw e stays
-
-    at : (ms : List Message) → LoadedBut (deliver r a b ms .run) l a b
-    at [] = stays
-    at (m ∷ rest) = made m rest (tested (accepts r a b m rest))
-
 -- ---- lists of loads
 
-module _ {r : Run} {l : List ℕ} {a b : ℕ} (h : LoadedBut r l a b) where
-  pub loaded-set : {u v : ℕ} → a ≤ 128 → b ≤ 128 → u ≡ loadOf r a → v ≡ loadOf r b → Loaded r (set (set l a u) b v)
-  loaded-set {u} {v} la lb ua vb = record { long = simp length-set (h .long); loads = λ x lo hi. at x lo hi (same? x b) (same? x a) }
-    where
-      at : (x : ℕ) → 1 ≤ x → x ≤ r .waits .n → Same x b → Same x a → getD (set (set l a u) b v) x 0 ≡ loadOf r x
-      at x lo hi (same e _) d = rw e (getD-set-same (set l a u) b v 0 (simp length-set (omega arith)) ∙ vb)
-      at x lo hi (apart e _) (same f _) = getD-set-other (set l a u) b x v 0 e ∙ rw f (getD-set-same l a u 0 (omega arith) ∙ ua)
-      at x lo hi (apart e _) (apart f _) = getD-set-other (set l a u) b x v 0 e ∙ getD-set-other l a x u 0 f ∙ h .others x lo hi f e
+-- the links from b alone have changed, and b's load is put anew
+pub loaded-one : {r q : Run} {b : ℕ} → LinksFrom r q b → {l : List ℕ} → Loaded r l → b ≤ 128 → (v : ℕ) → v ≡ loadOf q b → Loaded q (set l b v)
+loaded-one {r} {q} {b} d {l} h u v e =
+    record { long = simp length-set (h .long); loads = λ x lo hi. at x lo (rw (d .waits) at hi) (same? x b) }
+  where
+    at : (x : ℕ) → 1 ≤ x → x ≤ r .waits .n → Same x b → getD (set l b v) x 0 ≡ loadOf q x
+    at x lo hi (same f _) = rw f (getD-set-same l b v 0 (omega (arith, h .long)) ∙ e)
+    at x lo hi (apart f _) = getD-set-other l b x v 0 f ∙ h .loads x lo hi ∙ sym (load-others d x f)
 
 pub filled-next : (f : ℕ → ℕ) (l : List ℕ) (a u : ℕ) → a < length l → ((x : ℕ) → 1 ≤ x → x < a → getD l x 0 ≡ f x) → u ≡ f a → (x : ℕ) → 1 ≤ x → x < a + 1 → getD (set l a u) x 0 ≡ f x
 filled-next f l a u s h e x lo hi = at (same? x a)
@@ -95,3 +78,60 @@ filled-next f l a u s h e x lo hi = at (same? x a)
     at : Same x a → getD (set l a u) x 0 ≡ f x
     at (same q _) = rw q (getD-set-same l a u 0 s ∙ e)
     at (apart q _) = getD-set-other l a x u 0 q ∙ h x lo (omega arith)
+
+-- ---- a delivery
+
+module _ (r : Run) (s : Sound (r .waits)) {l : List ℕ} (h : Loaded r l) (a b : ℕ) (x : Process) (y : Probes) (z : Reply) (k : Carried r a b x y z) where
+  ends : (1 ≤ a) × (a ≤ r .waits .n) × (1 ≤ b) × (b ≤ r .waits .n)
+  ends = neighbours-ends (r .waits) s a b (k .joined)
+
+  -- what is known of the run before each part
+  replying : (p : ℕ) (c : ℤ) → z ≡ To p c → (1 ≤ p) × (p ≤ changed r a b x .waits .n)
+  replying p c e =
+      let i = neighbours-ends (r .waits) s b p (k .replied p c e) in
+      (i .2, rw (taken-from r a b x .waits) (i .3))
+
+  replied-waits : answered (changed r a b x) b z .waits ≡ r .waits
+  replied-waits = replied-from (changed r a b x) b z .waits ∙ taken-from r a b x .waits
+
+  loaded-taken : Loaded (changed r a b x) (takenLoads l a)
+  unfolding takenLoads
+  loaded-taken =
+      let t = taken-load r a b x (k .waits) (ends .2) (ends .3) in
+      loaded-one (taken-from r a b x) h (omega (arith, ends, s .few)) (getD l a 0 - 1) (omega (arith, t, h .loads a (ends .0) (ends .1)))
+
+  -- b is a process of the run of every part
+  at-b : {q : Run} → q .waits ≡ r .waits → {j : List ℕ} → Loaded q j → getD j b 0 ≡ loadOf q b
+  at-b e g = g .loads b (ends .2) (rw e (ends .3))
+
+  loaded-replied : Loaded (answered (changed r a b x) b z) (repliedLoads (takenLoads l a) b z)
+  unfolding repliedLoads answered
+  loaded-replied = at z refl
+    where
+      at : (v : Reply) → z ≡ v → Loaded (answered (changed r a b x) b v) (repliedLoads (takenLoads l a) b v)
+      at Reply.Nothing e = loaded-taken
+      at (To p c) e =
+          let i = replying p c e in
+          let t = replied-load (changed r a b x) b p c (i .0) (i .1) in
+          loaded-one (replied-from (changed r a b x) b (To p c)) loaded-taken (omega (arith, ends, s .few)) (getD (takenLoads l a) b 0 + 1) (omega (arith, t, at-b (taken-from r a b x .waits) loaded-taken))
+
+  pub loaded-noted : (i : ℕ) → i ≡ probesSent (r .waits) b y → Loaded (carriedOut r a b x y z) (notedLoads l a b z i)
+  unfolding sentLoads carriedOut
+  loaded-noted i e =
+      let q = answered (changed r a b x) b z in
+      let j = repliedLoads (takenLoads l a) b z in
+      let c = spreadBy y q b .count + 1 in
+      let w : Sound (q .waits) = rw replied-waits s in
+      let t = sent-load y q w b c in
+      let v : i ≡ probesSent (q .waits) b y = rw replied-waits e in
+      loaded-one (sent-from y q w b c) loaded-replied (omega (arith, ends, s .few)) (getD j b 0 + i) (omega (arith, t, v, at-b replied-waits loaded-replied))
+
+-- what the code adds and takes
+pub loaded-few : (w : List ℤ) {l : List ℕ} → Loaded (runIn w) l → (a : ℕ) → 1 ≤ a → a ≤ runIn w .waits .n → getD l a 0 ≤ 4 * (runIn w .waits .n)
+loaded-few w h a lo hi = rw (h .loads a lo hi, loadOf-is (runIn w) a) (loadTo-few w a (runIn w .waits .n))
+
+pub loaded-some : {r : Run} {l : List ℕ} → Loaded r l → (a b : ℕ) → 1 ≤ a → a ≤ r .waits .n → 1 ≤ b → b ≤ r .waits .n → waiting (r .link a b) ≡ true → 1 ≤ getD l a 0
+unfolding loadOf
+loaded-some {r} h a b la ua lb ub e =
+    let p = sumTo-part (r .waits .n) (λ c. length (r .link a c)) b lb ub in
+    omega (arith, p, h .loads a la ua, waiting-length (r .link a b) e)

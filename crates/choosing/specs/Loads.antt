@@ -1,7 +1,6 @@
 -- How many messages wait on the links from each sender.
 --   loadOf r a          == how many messages wait on all links from a
 --   Loaded r l          == the list l holds that number for each sender of 1 to N, at its own index
---   LoadedBut r l a b   == the same for each sender but a and b
 --   chosenOf c          == the code's answer for a choice of `lowest`
 -- Assumes nothing.
 use Prim.Native.Nat.{ℕ, _≤_}
@@ -22,11 +21,6 @@ loadOf r a = sumTo (r .waits .n) (λ b. length (r .link a b))
 pub record Loaded (r : Run) (l : List ℕ) : Type 0 where
   pub long : length l ≡ 129
   pub loads : (a : ℕ) → 1 ≤ a → a ≤ r .waits .n → getD l a 0 ≡ loadOf r a
-
--- what is left of Loaded after a delivery from a to b, which changes no link from another process
-pub record LoadedBut (r : Run) (l : List ℕ) (a b : ℕ) : Type 0 where
-  pub long : length l ≡ 129
-  pub others : (x : ℕ) → 1 ≤ x → x ≤ r .waits .n → (x ≡ a → ⊥) → (x ≡ b → ⊥) → getD l x 0 ≡ loadOf r x
 
 -- "lowest sender first and then lowest receiver among links with a message"
 abbrev pub chosenOf : Choice → Chosen

@@ -1,18 +1,14 @@
 -- What an answer says of the one delivery in the fixed order.
 --   deliverOn-nobody, deliverOn-pair               == the delivery where no link is chosen, and where one is
---   deliver-refused                                == a refused delivery leaves the run
 --   lowestAnswer-refused, lowestAnswer-delivered   == which delivery an answer stands for
 --   lowestAnswer-number                            == its number is the delivery's
 -- Assumes nothing.
 use Prim.Native.Nat.{ℕ}
-use mathlib.Core.Bool.{Bool, true, false}
-use mathlib.Core.List.{List, [], _∷_}
 use mathlib.Core.Path.{_≡_, refl}
-use Rattle.base.specs.Choice.{choose}
 use Rattle.steps.specs.declared.Message.{Message}
 use Rattle.checks.specs.declared.Delivery.{Delivery}
-use Rattle.checks.specs.Run.{Run, after, accepts}
-use Rattle.checks.specs.Calls.{refused, delivered, deliver, Choice, nobody, pair, lowest, deliverOn, deliveryNumber}
+use Rattle.checks.specs.Run.{Run}
+use Rattle.checks.specs.Calls.{refused, deliver, Choice, nobody, pair, lowest, deliverOn, deliveryNumber}
 use Rattle.choosing.specs.declared.Lowest.{Lowest}
 use Rattle.choosing.specs.Lowest.{lowestAnswer, lowestNumber}
 
@@ -26,15 +22,6 @@ module _ (r : Run) where
   pub deliverOn-pair : (a b : ℕ) → lowest r ≡ pair a b → deliverOn r (lowest r) ≡ deliver r a b (r .link a b)
   unfolding deliverOn
   deliverOn-pair a b e = rw e
-
-  pub deliver-refused : (a b j : ℕ) (ms : List Message) → deliver r a b ms .answer ≡ Delivery.Refused j → deliver r a b ms .run ≡ r
-  unfolding deliver delivered
-  deliver-refused a b j [] e = refl
-  deliver-refused a b j (m ∷ rest) e = at (accepts r a b m rest) e
-    where
-      at : (t : Bool) → choose t (record { answer = Delivery.Delivered m; run = after r a b m rest }) (refused 22 r) .answer ≡ Delivery.Refused j → choose t (record { answer = Delivery.Delivered m; run = after r a b m rest }) (refused 22 r) .run ≡ r
-      at true e = cc
-      at false e = refl
 
 -- ---- the answer
 

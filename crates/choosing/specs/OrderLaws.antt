@@ -1,7 +1,7 @@
 -- How the first link with a message is found, sender by sender and receiver by receiver.
---   lowestReceiver-start, lowestReceiver-pass, lowestReceiver-hit   == the receivers before b have nothing from a, and b has nothing, or something
+--   lowestReceiver-pass, lowestReceiver-hit   == the receivers before b have nothing from a, and b has nothing, or something
 --   lowestReceiver-none                       == a sender whose load is 0 has nothing for any receiver
---   lowestSender-start, lowestSender-pass     == the senders before a have nothing, and a has nothing
+--   lowestSender-pass                         == the senders before a have nothing, and a has nothing
 --   lowest-hit, lowest-miss                   == what is chosen where a has something, or nobody has
 --   chosenOf-nobody, chosenOf-link            == which choice an answer stands for
 -- Assumes nothing.
@@ -61,10 +61,6 @@ module _ (r : Run) (a : ℕ) where
   unfolding lowestReceiver
   receiver-next k = refl
 
-  pub lowestReceiver-start : lowestReceiver r a 0 ≡ nobody
-  unfolding lowestReceiver
-  lowestReceiver-start = refl
-
   pub lowestReceiver-pass : (b : ℕ) → 1 ≤ b → lowestReceiver r a (b - 1) ≡ nobody → length (r .link a b) ≡ 0 → lowestReceiver r a (b + 1 - 1) ≡ nobody
   lowestReceiver-pass b l e h = first-pass (lowestReceiver r a) only receiver-next b l e (rw (waiting-none (r .link a b) h))
 
@@ -90,10 +86,6 @@ module _ (r : Run) where
   sender-next : (k : ℕ) → lowestSender r (suc k) ≡ orElse (lowestSender r k) (from (suc k))
   unfolding lowestSender
   sender-next k = refl
-
-  pub lowestSender-start : lowestSender r 0 ≡ nobody
-  unfolding lowestSender
-  lowestSender-start = refl
 
   pub lowestSender-pass : (a : ℕ) → 1 ≤ a → lowestSender r (a - 1) ≡ nobody → lowestReceiver r a (r .waits .n) ≡ nobody → lowestSender r (a + 1 - 1) ≡ nobody
   lowestSender-pass a l e h = first-pass (lowestSender r) from sender-next a l e h

@@ -1,15 +1,17 @@
 // The fixed order of running on: "lowest sender first and then lowest receiver among links with a message". It stands alone so that another
 // order is another function beside it.
-use checks::Delivery;
 use moves::delivering;
+use moves::delivering::Prepared;
 use steps::Message;
+use steps::Reply;
 ghost use mathlib.Core.Path.{_≡_};
 ghost use Prim.Native.Nat.{_≤_};
-ghost use lib.ListN.{length};
+ghost use lib.ListN.{length, getD};
 ghost use Rattle.areas.specs.Area.{runIn, keeping};
 ghost use Rattle.checks.specs.Calls.{lowest, deliverOn};
 ghost use Rattle.moves.specs.Ready.{Ready};
-ghost use Rattle.choosing.specs.Loads.{loadOf, Loaded, LoadedBut, chosenOf};
+ghost use Rattle.choosing.specs.Loads.{loadOf, Loaded, chosenOf};
+ghost use Rattle.choosing.specs.Lows.{Lows, lower, takenLoads, takenLows, repliedLoads, repliedLows, sentLoads, sentLows, notedLoads, notedLows};
 ghost use Rattle.choosing.specs.Lowest.{lowestAnswer};
 
 // A link with a message, or none.
@@ -55,44 +57,28 @@ pub fn fill_loads(area: &[i32], square: &[u16; 16641], n: usize, m: usize, loads
     }
 }
 
-// The loads of a and b anew: after a delivery from a to b those of the others stand.
-pub fn refresh(
-    area: &[i32],
-    square: &[u16; 16641],
-    n: usize,
-    m: usize,
-    a: usize,
-    b: usize,
-    loads: &mut [usize; 129],
-)
-    requires { ⌜ Ready (now area) (now square) n m ⌝ }
-    requires { ⌜ (1 ≤ a) × (a ≤ n) ⌝ }
-    requires { ⌜ (1 ≤ b) × (b ≤ n) ⌝ }
-    requires { ⌜ LoadedBut (runIn (now area)) (now loads) a b ⌝ }
-    ensures { λ _. ⌜ Loaded (runIn (now (area .entry))) (now (loads .exit)) ⌝ }
-{
-    loads[a] = load_of(area, square, n, m, a);
-    loads[b] = load_of(area, square, n, m, b);
-}
-
-// The first link with a message, in the fixed order: a sender with none is passed over by its load.
+// The first link with a message, in the fixed order, from the bounds on: a sender with none is passed over by its load.
 pub fn choose(
     area: &[i32],
     square: &[u16; 16641],
     n: usize,
     m: usize,
     loads: &[usize; 129],
+    lows: &[usize; 129],
 ) -> Chosen
     requires { ⌜ Ready (now area) (now square) n m ⌝ }
     requires { ⌜ Loaded (runIn (now area)) (now loads) ⌝ }
+    requires { ⌜ Lows (runIn (now area)) (now lows) ⌝ }
     ensures { λ r. ⌜ r ≡ chosenOf (lowest (runIn (now (area .entry)))) ⌝ }
 {
     let end = n + 1;
     let mut from = 0;
     let mut to = 0;
-    'scan: for a in 1..end {
+    let least = lows[0];
+    'scan: for a in least..end {
         if loads[a] != 0 {
-            for b in 1..end {
+            let first = lows[a];
+            for b in first..end {
                 if delivering::load(area, square, n, m, a, b) != 0 {
                     from = a;
                     to = b;
@@ -107,29 +93,107 @@ pub fn choose(
     Chosen::Link { from, to }
 }
 
-// Delivers the oldest message on the first link with one: 24 if nothing waits on any link, then 22. The area stays ready and the loads its
-// loads, so the next delivery may follow.
+// The lower of two numbers.
+fn lower(x: usize, y: usize) -> usize
+    ensures { λ r. ⌜ r ≡ lower x y ⌝ }
+{
+    if x < y { x } else { y }
+}
+
+// The first message of all comes off its link: none waits before that link, and its receiver may send next.
+fn note_taken(from: usize, to: usize, loads: &mut [usize; 129], lows: &mut [usize; 129])
+    requires { ⌜ (length (now loads) ≡ 129) × (length (now lows) ≡ 129) ⌝ }
+    requires { ⌜ (from ≤ 128) × (1 ≤ getD (now loads) from 0) ⌝ }
+    ensures { λ _. ⌜ now (loads .exit) ≡ takenLoads (now (loads .entry)) from ⌝ }
+    ensures { λ _. ⌜ now (lows .exit) ≡ takenLows (now (lows .entry)) from to ⌝ }
+{
+    loads[from] -= 1;
+    lows[from] = to;
+    lows[0] = lower(from, to);
+}
+
+// An acknowledgement goes out.
+fn note_reply(reply: Reply, to: usize, loads: &mut [usize; 129], lows: &mut [usize; 129])
+    requires { ⌜ (length (now loads) ≡ 129) × (length (now lows) ≡ 129) ⌝ }
+    requires { ⌜ (to ≤ 128) × (getD (now loads) to 0 ≤ 512) ⌝ }
+    ensures { λ _. ⌜ now (loads .exit) ≡ repliedLoads (now (loads .entry)) to reply ⌝ }
+    ensures { λ _. ⌜ now (lows .exit) ≡ repliedLows (now (lows .entry)) to reply ⌝ }
+{
+    match reply {
+        Reply::Nothing => {}
+        Reply::To { process, count: _ } => {
+            loads[to] += 1;
+            lows[to] = lower(process as usize, lows[to]);
+        }
+    }
+}
+
+// So many probes go out.
+fn note_probes(sent: u32, to: usize, loads: &mut [usize; 129], lows: &mut [usize; 129])
+    requires { ⌜ (length (now loads) ≡ 129) × (length (now lows) ≡ 129) ⌝ }
+    requires { ⌜ (to ≤ 128) × (getD (now loads) to 0 ≤ 513) × (sent ≤ 128) ⌝ }
+    ensures { λ _. ⌜ now (loads .exit) ≡ sentLoads (now (loads .entry)) to sent ⌝ }
+    ensures { λ _. ⌜ now (lows .exit) ≡ sentLows (now (lows .entry)) to sent ⌝ }
+{
+    loads[to] += sent as usize;
+    if sent != 0 {
+        lows[to] = 1;
+    }
+}
+
+// What a delivery of the first message of all leaves of loads and bounds.
+fn note(
+    from: usize,
+    to: usize,
+    reply: Reply,
+    sent: u32,
+    loads: &mut [usize; 129],
+    lows: &mut [usize; 129],
+)
+    requires { ⌜ (length (now loads) ≡ 129) × (length (now lows) ≡ 129) ⌝ }
+    requires { ⌜ (from ≤ 128) × (1 ≤ getD (now loads) from 0) ⌝ }
+    requires { ⌜ (to ≤ 128) × (getD (now loads) to 0 ≤ 512) × (sent ≤ 128) ⌝ }
+    ensures { λ _. ⌜ now (loads .exit) ≡ notedLoads (now (loads .entry)) from to reply sent ⌝ }
+    ensures { λ _. ⌜ now (lows .exit) ≡ notedLows (now (lows .entry)) from to reply sent ⌝ }
+{
+    note_taken(from, to, loads, lows);
+    note_reply(reply, to, loads, lows);
+    note_probes(sent, to, loads, lows);
+}
+
+// Delivers the oldest message on the first link with one: 24 if nothing waits on any link, then 22. The area stays ready and the lists its
+// loads and bounds, so the next delivery may follow.
 pub fn deliver_lowest(
     area: &mut [i32],
     square: &[u16; 16641],
     n: usize,
     m: usize,
     loads: &mut [usize; 129],
+    lows: &mut [usize; 129],
 ) -> Lowest
     requires { ⌜ Ready (now area) (now square) n m ⌝ }
     requires { ⌜ Loaded (runIn (now area)) (now loads) ⌝ }
+    requires { ⌜ Lows (runIn (now area)) (now lows) ⌝ }
     ensures { λ r. ⌜ r ≡ lowestAnswer (lowest (runIn (now (area .entry)))) (deliverOn (runIn (now (area .entry))) (lowest (runIn (now (area .entry)))) .answer) ⌝ }
     ensures { λ _. ⌜ now (area .exit) ≡ keeping (now (area .entry)) (deliverOn (runIn (now (area .entry))) (lowest (runIn (now (area .entry)))) .run) ⌝ }
     ensures { λ _. ⌜ Loaded (runIn (now (area .exit))) (now (loads .exit)) ⌝ }
+    ensures { λ _. ⌜ Lows (runIn (now (area .exit))) (now (lows .exit)) ⌝ }
     ensures { λ _. ⌜ Ready (now (area .exit)) (now (square .entry)) n m ⌝ }
 {
-    let Chosen::Link { from, to } = choose(area, square, n, m, loads) else {
+    let Chosen::Link { from, to } = choose(area, square, n, m, loads, lows) else {
         return Lowest::Refused(24);
     };
-    match delivering::deliver(area, square, n, m, from, to) {
-        Delivery::Refused(number) => Lowest::Refused(number),
-        Delivery::Delivered(message) => {
-            refresh(area, square, n, m, from, to, loads);
+    match delivering::prepare(area, square, n, m, from, to) {
+        Prepared::Refused(number) => Lowest::Refused(number),
+        Prepared::Go {
+            message,
+            process,
+            probes,
+            reply,
+            sent,
+        } => {
+            note(from, to, reply, sent, loads, lows);
+            delivering::carry_out(area, square, n, m, from, to, process, probes, reply);
             Lowest::Delivered { from, to, message }
         }
     }

@@ -1,10 +1,12 @@
 -- A delivery in code: what each call asks, and that each answer is the one that the promise names.
---   Outcome w a b d v     == the answer d and the area v that a delivery from a to b leaves
+--   Answer w a b d        == d is a delivery from a to b before anything is changed
 --   place-asks, place-small, place-within, message-asks   == what is asked up to the oldest message's word
---   none-waits            == the outcome where that word is 0
+--   none-waits            == the answer where that word is 0
 --   Oldest w sq n m a b x == x is the oldest message on the link from a to b; oldest-of, where the word is not 0
---   step-asks, carry-asks == what the step and the changes ask
---   step-refused, count-full, links-full, delivery-done   == the outcome at each later return
+--   step-asks, room-asks, process-asks, sent-asks   == what the step, the test of room, the reading of the record and the count of probes ask
+--   step-refused, count-full, links-full, prepared   == the answer at each later return
+--   Outcome w a b d v     == the answer d and the area v that a delivery from a to b leaves
+--   refusal, delivery     == the outcome where it is refused, and where it is carried out
 -- Assumes nothing.
 use Prim.Native.Nat.{ℕ, suc, _^_, _≤_, _<_}
 use mathlib.Core.Bool.{Bool, true, false, not}
@@ -18,12 +20,14 @@ use lib.Signed.{mag}
 use mir.Syntax.{w32}
 use mir.Val.{toZ, ofZ}
 use Rattle.base.specs.Sums.{allTo}
+use Rattle.tables.specs.declared.Chain.{Chain}
 use Rattle.tables.specs.Waits.{neighbours}
 use Rattle.tables.specs.WaitsLaws.{neighbours-ends}
 use Rattle.steps.specs.declared.Message.{Message}
 use Rattle.steps.specs.declared.Process.{Process}
 use Rattle.steps.specs.declared.Probes.{Probes}
 use Rattle.steps.specs.declared.Reply.{Reply}
+use Rattle.steps.specs.declared.Reply.the-variants.{To}
 use Rattle.steps.specs.declared.Stepped.{Stepped}
 use Rattle.steps.specs.declared.Stepped.the-variants.{Taken}
 use Rattle.steps.specs.Step.{countSmall}
@@ -31,7 +35,7 @@ use Rattle.base.specs.Choice.{value-not, value-yes}
 use Rattle.checks.specs.declared.Delivery.{Delivery}
 use Rattle.checks.specs.declared.Delivery.the-variants.{Delivered}
 use Rattle.checks.specs.Run.{accepts}
-use Rattle.checks.specs.Calls.{refused, deliver}
+use Rattle.checks.specs.Calls.{deliver}
 use Rattle.areas.specs.Area.{fieldsIn, messageOf, messagesAt, runIn, keeping}
 use Rattle.areas.specs.Squares.{joinedBy, placeBy}
 use Rattle.areas.specs.StoredLaws.{linkOf-fits}
@@ -39,22 +43,20 @@ use Rattle.areas.specs.AreaLaws.{stored-same}
 use Rattle.steps.proofs.Counts.{signed-back}
 use Rattle.areas.proofs.Signs.{word-is, word-zero}
 use Rattle.moves.specs.Rooms.{loadAfter}
-use Rattle.moves.specs.Delivering.{steppedAt, carriedOut, Carried}
+use Rattle.moves.specs.declared.delivering.Prepared.{Prepared}
+use Rattle.moves.specs.declared.delivering.Prepared.the-variants.{Go}
+use Rattle.moves.specs.Delivering.{steppedAt, probesOf, carriedOut, Carried, grownBy, preparedOf}
 use Rattle.moves.specs.Fit.{Fit}
 use Rattle.moves.specs.Ready.{Ready, right-fit}
-use Rattle.moves.specs.AcceptLaws.{roomy, message-small, accepts-refused, accepts-full, accepts-crowded, carried-of, deliver-answer, deliver-run, deliver-refused, deliver-empty}
+use Rattle.moves.specs.AcceptLaws.{roomy, message-small, taken-replied, accepts-refused, accepts-full, accepts-crowded}
+use Rattle.moves.specs.PreparedLaws.{prepared-empty, prepared-refused, sent-grows, sent-is, prepared-go, refused-of, going-of}
 use Rattle.moves.specs.ReadyLaws.{ready-n, ready-sizes}
 use Rattle.moves.proofs.Stores.{by-table, joined, link-place, link-within}
 use Rattle.moves.proofs.Picks.{first-none, first-some, first-fits}
 
--- the answer and the area that a delivery leaves
-abbrev pub Outcome : List ℤ → ℕ → ℕ → Delivery → List ℤ → Type 0
-Outcome w a b d v =
-    (d ≡ deliver (runIn w) a b (runIn w .link a b) .answer) × (v ≡ keeping w (deliver (runIn w) a b (runIn w .link a b) .run))
-
--- a refusal leaves the area as it was
-refusal : {w : List ℤ} {sq : List ℕ} {n m : ℕ} → Ready w sq n m → (a b k : ℕ) → deliver (runIn w) a b (runIn w .link a b) ≡ refused k (runIn w) → Outcome w a b (Delivery.Refused k) w
-refusal {w} y a b k e = rw e (refl, sym (stored-same w (y .right)))
+-- a delivery before anything is changed
+abbrev pub Answer : List ℤ → ℕ → ℕ → Prepared → Type 0
+Answer w a b d = d ≡ preparedOf (runIn w) a b (runIn w .link a b)
 
 -- the oldest message on the link from a to b
 pub record Oldest (w : List ℤ) (sq : List ℕ) (n m a b : ℕ) (x : Message) : Type 0 where
@@ -85,9 +87,9 @@ module _ {w : List ℤ} {sq : List ℕ} {n m : ℕ} (y : Ready w sq n m) {a b : 
     place-within = omega (arith, link-within y j low high e)
 
     module _ (h : mag (getD w i (pos 0)) < 2 ^ 31) where
-      pub none-waits : ofZ w32 (getD w i (pos 0)) ≡ 0 → Outcome w a b (Delivery.Refused 24) w
+      pub none-waits : ofZ w32 (getD w i (pos 0)) ≡ 0 → Answer w a b (Prepared.Refused 24)
       none-waits z =
-          refusal y a b 24 (deliver-empty (runIn w) a b (first-none y j low high e (ap natAbs (word-is (getD w i (pos 0)) 0 h (omega arith) z))))
+          sym (prepared-empty (runIn w) a b (first-none y j low high e (ap natAbs (word-is (getD w i (pos 0)) 0 h (omega arith) z))))
 
       pub message-asks : natAbs (toZ w32 (ofZ w32 (getD w i (pos 0)))) ≤ 65535
       message-asks = rw (signed-back (getD w i (pos 0)) h) (first-fits y j low high e)
@@ -113,13 +115,16 @@ module _ {w : List ℤ} {sq : List ℕ} {n m a b : ℕ} {x : Message} (h : Oldes
       let k = neighbours-ends (runIn w .waits) (f .sound) a b (h .near) in
       (h .ready, ((k .0, h .ends .0), ((k .2, h .ends .1), message-small (runIn w) (f .formed) (f .sound) a b (h .near) x (h .rest) (h .link))))
 
-  by-22 : accepts (runIn w) a b x (h .rest) ≡ false → Outcome w a b (Delivery.Refused 22) w
-  by-22 k = refusal (h .ready) a b 22 (deliver-refused (runIn w) (f .formed) (f .sound) a b (h .near) x (h .rest) (h .link) k)
+  by-22 : accepts (runIn w) a b x (h .rest) ≡ false → Answer w a b (Prepared.Refused 22)
+  by-22 k = sym (prepared-refused (runIn w) (f .formed) (f .sound) a b (h .near) x (h .rest) (h .link) k)
 
-  pub step-refused : {s : Stepped} {k : ℕ} → s ≡ steppedAt (runIn w) a b x → s ≡ Stepped.Refused k → Outcome w a b (Delivery.Refused 22) w
+  pub process-asks : Ready w sq n m × ((1 ≤ b) × (b ≤ n))
+  process-asks = (h .ready, step-asks .1 .1 .0)
+
+  pub step-refused : {s : Stepped} {k : ℕ} → s ≡ steppedAt (runIn w) a b x → s ≡ Stepped.Refused k → Answer w a b (Prepared.Refused 22)
   step-refused {k = k} t o = by-22 (accepts-refused (runIn w) (f .formed) (f .sound) a b (h .near) x (h .rest) (h .link) k (sym t ∙ o))
 
-  pub count-full : {c : ℕ} → c ≡ runIn w .count → 2048 ≤ c → Outcome w a b (Delivery.Refused 22) w
+  pub count-full : {c : ℕ} → c ≡ runIn w .count → 2048 ≤ c → Answer w a b (Prepared.Refused 22)
   count-full k u = by-22 (accepts-full (runIn w) (f .formed) (f .sound) a b (h .near) x (h .rest) (h .link) (omega arith))
 
   module _ {s : Stepped} {q : Process} {p : Probes} {z : Reply} (t : s ≡ steppedAt (runIn w) a b x) (o : s ≡ Taken q p z) where
@@ -127,23 +132,47 @@ module _ {w : List ℤ} {sq : List ℕ} {n m a b : ℕ} {x : Message} (h : Oldes
     room-is : {v : Bool} → v ≡ allTo n (λ i. leb (loadAfter (runIn w) a b p z i) 4) → roomy (runIn w) a b p z ≡ v
     room-is e = rw (ready-n (h .ready)) (sym e)
 
-    pub links-full : (v : Bool) → v ≡ allTo n (λ i. leb (loadAfter (runIn w) a b p z i) 4) → not v ≡ true → Outcome w a b (Delivery.Refused 22) w
+    pub room-asks : Ready w sq n m × ((b ≤ n) × ((i : ℕ) (c : ℤ) → z ≡ To i c → (1 ≤ i) × (i ≤ n)))
+    room-asks = (h .ready, (h .ends .1, λ i c e. within i c e))
+      where
+        within : (i : ℕ) (c : ℤ) → z ≡ To i c → (1 ≤ i) × (i ≤ n)
+        within i c e =
+            let k = neighbours-ends (runIn w .waits) (f .sound) b i (taken-replied (runIn w) (f .formed) (f .sound) a b (h .near) x (h .rest) (h .link) q p z (sym t ∙ o) i c e) in
+            (k .2, omega (arith, k .3, ready-n (h .ready)))
+
+    pub links-full : (v : Bool) → v ≡ allTo n (λ i. leb (loadAfter (runIn w) a b p z i) 4) → not v ≡ true → Answer w a b (Prepared.Refused 22)
     links-full v e k =
         by-22 (accepts-crowded (runIn w) (f .formed) (f .sound) a b (h .near) x (h .rest) (h .link) q p z (sym t ∙ o) (value-not (sym (room-is e)) k))
 
-    module _ {c : ℕ} (k : c ≡ runIn w .count) (u : c < 2048) (v : Bool) (e : v ≡ allTo n (λ i. leb (loadAfter (runIn w) a b p z i) 4)) (r : not v ≡ false) where
-      few : runIn w .count < 2048
-      few = omega arith
+    -- the record as it was, of which the growth of num is counted
+    module _ {v : Process} (d : v ≡ runIn w .process b) where
+      pub sent-asks : (c : Chain) → p ≡ probesOf c → v .num ≤ q .num
+      sent-asks c e =
+          let g = sent-grows (runIn w) (f .formed) (f .sound) a b (h .near) x (h .rest) (h .link) q p z (sym t ∙ o) c e in
+          let u : v .num ≡ runIn w .process b .num = ap (λ (y : Process). y .num) d in
+          omega arith
 
-      free : roomy (runIn w) a b p z ≡ true
-      free = value-yes (sym (room-is e)) r
+      pub prepared : {c : ℕ} → c ≡ runIn w .count → c < 2048 → (r : Bool) → r ≡ allTo n (λ i. leb (loadAfter (runIn w) a b p z i) 4) → not r ≡ false → {k : ℕ} → k ≡ grownBy v q p → Answer w a b (Go x q p z k)
+      prepared c u r e l s =
+          let i = sent-is (runIn w) (f .formed) (f .sound) a b (h .near) x (h .rest) (h .link) q p z (sym t ∙ o) in
+          ap (Go x q p z) (s ∙ ap (λ (y : Process). grownBy y q p) d ∙ i)
+          ∙ sym (prepared-go (runIn w) (f .formed) (f .sound) a b (h .near) x (h .rest) (h .link) q p z (sym t ∙ o) (omega arith) (value-yes (sym (room-is e)) l))
 
-      pub carry-asks : Ready w sq n m × Carried (runIn w) a b q p z
-      carry-asks =
-          (h .ready, carried-of (runIn w) (f .formed) (f .sound) a b (h .near) x (h .rest) (h .link) q p z (sym t ∙ o) few free (fieldsIn w) (f .held))
+-- ---- the delivery itself
 
-      pub delivery-done : {l : List ℤ} → l ≡ keeping w (carriedOut (runIn w) a b q p z) → Outcome w a b (Delivered x) l
-      delivery-done d = (
-        sym (deliver-answer (runIn w) (f .formed) (f .sound) a b (h .near) x (h .rest) (h .link) q p z (sym t ∙ o) few free),
-        d ∙ ap (keeping w) (sym (deliver-run (runIn w) (f .formed) (f .sound) a b (h .near) x (h .rest) (h .link) q p z (sym t ∙ o) few free)),
-      )
+-- the answer and the area that a delivery leaves
+abbrev pub Outcome : List ℤ → ℕ → ℕ → Delivery → List ℤ → Type 0
+Outcome w a b d v =
+    (d ≡ deliver (runIn w) a b (runIn w .link a b) .answer) × (v ≡ keeping w (deliver (runIn w) a b (runIn w .link a b) .run))
+
+module _ {w : List ℤ} {sq : List ℕ} {n m : ℕ} (y : Ready w sq n m) where
+  -- a refusal leaves the area as it was
+  pub refusal : (a b : ℕ) {d : Prepared} → Answer w a b d → {k : ℕ} → d ≡ Prepared.Refused k → Outcome w a b (Delivery.Refused k) w
+  refusal a b t {k} o = rw (refused-of (runIn w) a b k (runIn w .link a b) (sym t ∙ o)) (refl, sym (stored-same w (y .right)))
+
+  module _ (a b : ℕ) (j : neighbours (runIn w .waits) a b ≡ true) {d : Prepared} (t : Answer w a b d) {g : Message} {x : Process} {p : Probes} {z : Reply} {k : ℕ} (o : d ≡ Go g x p z k) where
+    pub carry-asks : Ready w sq n m × Carried (runIn w) a b x p z
+    carry-asks = (y, going-of y a b j (sym t ∙ o) .carried)
+
+    pub delivery : {l : List ℤ} → l ≡ keeping w (carriedOut (runIn w) a b x p z) → Outcome w a b (Delivered g) l
+    delivery e = let i = going-of y a b j (sym t ∙ o) in (sym (i .answer), e ∙ ap (keeping w) (sym (i .run)))

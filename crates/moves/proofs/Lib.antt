@@ -1,6 +1,7 @@
 pub mod Stores
 pub mod Spreads
 pub mod Picks
+pub mod Loads
 pub mod Holding
 pub mod Carrying
 pub mod Deliveries

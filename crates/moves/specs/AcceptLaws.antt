@@ -1,40 +1,43 @@
 -- What the answer of the receiver's step says of a delivery in a well-formed run.
+--   outDegree-most, inDegree-most   == a degree is at most N
 --   steppedAt-is          == the receiver's step is refused only by 22, and is else its turn
 --   Taking r a b m x y z  == x, y and z are what the receiver's turn leaves, and it meets no 22
 --   steppedAt-taken, steppedAt-refused   == what an answer of the step says
 --   roomy r a b y z       == no link from b would hold a fifth message
 --   accepts-is            == the delivery of a step that is taken meets no 22 exactly if the count and the links have room
+--   taken-replied         == whom a step that is taken acknowledges is a neighbour of the receiver
+--   accepts-taken         == what an accepted delivery says of the step, the count and the links
 --   accepts-of, accepts-refused, accepts-full, accepts-crowded   == it meets no 22, or 22 for one of its three reasons
 --   carried-of            == what makes the changes of an accepted delivery possible
 --   message-small         == the count of a waiting message is in range
---   deliver-empty, deliver-refused, deliver-answer, deliver-run   == what a delivery answers, and the run that it leaves
+--   deliver-answer, deliver-run   == what a delivery answers, and the run that it leaves
 -- Assumes nothing.
 use Prim.Native.Nat.{ℕ, _+_, _≤_, _<_}
 use mathlib.Core.Bool.{Bool, true, false, not, _&&_}
-use mathlib.Core.List.{List, [], _∷_}
+use mathlib.Core.List.{List, _∷_}
 use mathlib.Core.Path.{_≡_, refl, sym, ap, _∙_, fun-ext}
 use native.Mathlib.Omega.{arith}
 use borrow.Author.Tests.{leb-true, le-leb, lt-leb}
 use lib.Dec.{eqb, leb}
 use lib.ListN.{length}
-use Rattle.base.specs.Choice.{choose, Tested, passed, failed, tested, and-both, and-left}
+use lib.IntN.{ℤ}
+use Rattle.base.specs.Choice.{choose, Tested, passed, failed, tested, and-both, and-left, and-three}
 use Rattle.base.specs.Sums.{allTo, allTo-at}
 use Rattle.base.specs.Counts.{countTo-most}
-use Rattle.tables.specs.Table.{Fields}
 use Rattle.tables.specs.Waits.{Waits, Sound, outDegree, inDegree, neighbours}
 use Rattle.tables.specs.WaitsLaws.{neighbours-ends}
 use Rattle.steps.specs.declared.Message.{Message}
 use Rattle.steps.specs.declared.Process.{Process}
 use Rattle.steps.specs.declared.Probes.{Probes}
 use Rattle.steps.specs.declared.Reply.{Reply}
+use Rattle.steps.specs.declared.Reply.the-variants.{To}
 use Rattle.steps.specs.declared.Stepped.{Stepped}
 use Rattle.steps.specs.declared.Stepped.the-variants.{Taken}
-use Rattle.steps.specs.Step.{inRange, countSmall, fitting, lentInRange, startStepped, answer}
+use Rattle.steps.specs.Step.{inRange, countSmall, numSuffices, replyFits, fitting, lentInRange, startStepped, answer}
 use Rattle.steps.specs.Within.{stepped-inside}
 use Rattle.checks.specs.declared.Delivery.the-variants.{Delivered}
 use Rattle.checks.specs.Run.{Run, wellFormed, countsSmall, turnAt, after, accepts}
-use Rattle.checks.specs.Calls.{refused, delivered, deliver}
-use Rattle.areas.specs.Held.{Held}
+use Rattle.checks.specs.Calls.{delivered, deliver}
 use Rattle.moves.specs.Formed.{parts-of, new-range, new-reply, new-father, replied}
 use Rattle.moves.specs.ChangeLaws.{father-few}
 use Rattle.moves.specs.Rooms.{loadAfter}
@@ -43,11 +46,11 @@ use Rattle.moves.specs.DeliveryLaws.{carriedOut-is, loadAfter-is}
 
 -- ---- degrees
 
-outDegree-most : (w : Waits) (p : ℕ) → outDegree w p ≤ w .n
+pub outDegree-most : (w : Waits) (p : ℕ) → outDegree w p ≤ w .n
 unfolding outDegree
 outDegree-most w p = countTo-most (w .n) (λ q. w .waits p q)
 
-inDegree-most : (w : Waits) (p : ℕ) → inDegree w p ≤ w .n
+pub inDegree-most : (w : Waits) (p : ℕ) → inDegree w p ≤ w .n
 unfolding inDegree
 inDegree-most w p = countTo-most (w .n) (λ q. w .waits q p)
 
@@ -153,6 +156,13 @@ module _ (r : Run) (h : wellFormed r ≡ true) (sd : Sound (r .waits)) (a b : �
   pub roomy-is : held ≡ roomy r a b (turnAt r a b m .probes) (turnAt r a b m .reply)
   roomy-is = ap (allTo (r .waits .n)) (fun-ext (λ q. ap (λ (k : ℕ). leb k 4) (loadAfter-is r sd a b m rest l q)))
 
+  -- the step of an accepted delivery is taken, and the count and the links have room
+  pub accepts-taken : accepts r a b m rest ≡ true → (steppedAt r a b m ≡ Taken (turnAt r a b m .process) (turnAt r a b m .probes) (turnAt r a b m .reply)) × (r .count < 2048) × (roomy r a b (turnAt r a b m .probes) (turnAt r a b m .reply) ≡ true)
+  unfolding accepts answer
+  accepts-taken e =
+      let k = and-three counted fits held e in
+      (rw (steppedAt-is r h sd a b j m message-small, k .1), omega (arith, leb-true (r .count + 1) 2048 (k .0)), sym roomy-is ∙ k .2)
+
   pub accepts-refused : (n : ℕ) → steppedAt r a b m ≡ Stepped.Refused n → accepts r a b m rest ≡ false
   unfolding accepts
   accepts-refused n e = not-second counted fits held (steppedAt-refused r h sd a b j m message-small n e)
@@ -164,6 +174,13 @@ module _ (r : Run) (h : wellFormed r ≡ true) (sd : Sound (r .waits)) (a b : �
   module _ (x : Process) (y : Probes) (z : Reply) (e : steppedAt r a b m ≡ Taken x y z) where
     taking : Taking r a b m x y z
     taking = steppedAt-taken r h sd a b j m message-small x y z e
+
+    -- whom the step acknowledges is a neighbour of the receiver
+    pub taken-replied : (p : ℕ) (c : ℤ) → z ≡ To p c → neighbours (r .waits) b p ≡ true
+    unfolding fitting
+    taken-replied p c f =
+        let k = and-three (numSuffices m (r .process b)) (inRange (turnAt r a b m .process)) (replyFits (turnAt r a b m .reply)) (taking .fits) in
+        replied r h sd a b j m (k .2) p c (sym (taking .reply) ∙ f)
 
     roomy-taken : held ≡ roomy r a b y z
     roomy-taken = rw (taking .probes, taking .reply) roomy-is
@@ -180,15 +197,15 @@ module _ (r : Run) (h : wellFormed r ≡ true) (sd : Sound (r .waits)) (a b : �
       pub accepts-of : accepts r a b m rest ≡ true
       accepts-of = accepts-is ∙ and-both counted (roomy r a b y z) (le-leb (r .count + 1) 2048 (omega arith)) free
 
-      pub carried-of : (t : Fields) → Held t r → Carried r a b x y z
-      carried-of t hd =
+      pub carried-of : Carried r a b x y z
+      carried-of =
           record {
             joined = j;
             waits = rw l;
             range = rw (taking .process) (new-range r h sd a b j m rest l accepts-of);
-            father = rw (taking .process) (new-father r h sd a b j m rest l accepts-of);
+            father = rw (taking .process) (new-father r h sd a b j m);
             replies = rw (taking .reply) (new-reply r h sd a b j m rest l accepts-of);
-            replied = λ p c f. replied t r hd h sd a b j m rest l accepts-of p c (sym (taking .reply) ∙ f);
+            replied = taken-replied;
             count = omega arith;
             room = λ q u v. leb-true (loadAfter r a b y z q) 4 (allTo-at (r .waits .n) (λ q. leb (loadAfter r a b y z q) 4) free q u v);
           }
@@ -200,11 +217,3 @@ module _ (r : Run) (h : wellFormed r ≡ true) (sd : Sound (r .waits)) (a b : �
       pub deliver-run : deliver r a b (r .link a b) .run ≡ carriedOut r a b x y z
       unfolding deliver delivered
       deliver-run = rw (l, accepts-of, taking .process, taking .probes, taking .reply) (sym (carriedOut-is r sd a b m rest l))
-
-  pub deliver-refused : accepts r a b m rest ≡ false → deliver r a b (r .link a b) ≡ refused 22 r
-  unfolding deliver delivered
-  deliver-refused e = rw (l, e)
-
-pub deliver-empty : (r : Run) (a b : ℕ) → r .link a b ≡ [] → deliver r a b (r .link a b) ≡ refused 24 r
-unfolding deliver
-deliver-empty r a b e = rw e

@@ -1,21 +1,26 @@
 -- What the parts of a delivery compute.
 --   steppedAt r a b m     == the receiver's step as the answer of `step` or of the start's step
+--   outNeeded, inNeeded   == the degree if the step broadcasts, and else 0
 --   probesOf c            == the probes that go along a chain
 --   probesGo, replyGoes   == whether a broadcast, and an acknowledgement, goes to q
 --   carriedOut r a b x y z   == the delivery as changes one after another; that this is `after` is a law
 --   Carried r a b x y z   == what makes these changes possible
+--   probesSent w b y      == how many probes a broadcast of b sends
+--   grownBy x y z         == by how much num grows from the record x to the record y, where the step of both sends probes
+--   preparedOf r a b ms   == a delivery as far as nothing is changed: 24, then 22, and else what the receiver's step leaves and sends
 -- Assumes nothing.
-use Prim.Native.Nat.{ℕ, _+_, _≤_}
+use Prim.Native.Nat.{ℕ, _+_, _-_, _≤_}
 use mathlib.Core.Bool.{Bool, true, false}
-use mathlib.Core.List.{List}
+use mathlib.Core.List.{List, [], _∷_}
 use mathlib.Core.Path.{_≡_}
 use lib.IntN.{ℤ}
 use lib.Dec.{eqb}
 use Rattle.base.specs.Choice.{choose}
 use Rattle.tables.specs.declared.Chain.{Chain}
 use Rattle.tables.specs.declared.Chain.the-variants.{Out, In}
-use Rattle.tables.specs.Waits.{outDegree, inDegree, neighbours}
+use Rattle.tables.specs.Waits.{Waits, outDegree, inDegree, neighbours}
 use Rattle.steps.specs.declared.Message.{Message}
+use Rattle.steps.specs.declared.Message.the-variants.{Suc, Pre, Ack}
 use Rattle.steps.specs.declared.Process.{Process}
 use Rattle.steps.specs.declared.Probes.{Probes}
 use Rattle.steps.specs.declared.Probes.the-variants.{Sucs, Pres}
@@ -23,10 +28,12 @@ use Rattle.steps.specs.declared.Reply.{Reply}
 use Rattle.steps.specs.declared.Reply.the-variants.{To}
 use Rattle.steps.specs.declared.Stepped.{Stepped}
 use Rattle.steps.specs.Step.{stepped, startStepped, inRange, replyFits}
-use Rattle.checks.specs.Run.{Run, fatherRight}
+use Rattle.checks.specs.Run.{Run, fatherRight, turnAt, accepts}
 use Rattle.checks.specs.Calls.{waiting}
 use Rattle.areas.specs.Held.{putProcess, putLink, putCount}
 use Rattle.areas.specs.Squares.{joinsBy}
+use Rattle.moves.specs.declared.delivering.Prepared.{Prepared}
+use Rattle.moves.specs.declared.delivering.Prepared.the-variants.{Go}
 use Rattle.moves.specs.Changes.{tailOf, answered, spread}
 use Rattle.moves.specs.Rooms.{loadAfter}
 
@@ -35,6 +42,17 @@ steppedAt r a b m =
     choose (eqb b (r .start))
     (startStepped m a (r .process b))
     (stepped m (outDegree (r .waits) b) (inDegree (r .waits) b) a (r .process b))
+
+-- "A suc probe when not succeeding .. sends suc to all successors"; "A pre probe does the same with preceding and predecessors"
+abbrev pub outNeeded : Message → Process → ℕ → ℕ
+outNeeded Suc x o = choose (eqb (x .succeeding) 0) o 0
+outNeeded Pre x o = 0
+outNeeded (Ack c) x o = 0
+
+abbrev pub inNeeded : Message → Process → ℕ → ℕ
+inNeeded Suc x i = 0
+inNeeded Pre x i = choose (eqb (x .preceding) 0) i 0
+inNeeded (Ack c) x i = 0
 
 abbrev pub probesGo : List ℕ → Probes → ℕ → ℕ → Bool
 probesGo sq Probes.Nothing b q = false
@@ -72,3 +90,25 @@ pub record Carried (r : Run) (a b : ℕ) (x : Process) (y : Probes) (z : Reply) 
   pub replied : (p : ℕ) (c : ℤ) → z ≡ To p c → neighbours (r .waits) b p ≡ true
   pub count : r .count + 1 ≤ 2048
   pub room : (q : ℕ) → 1 ≤ q → q ≤ r .waits .n → loadAfter r a b y z q ≤ 4
+
+-- ---- before anything is changed
+
+-- "sends suc to all successors"; "the same with preceding and predecessors"
+abbrev pub probesSent : Waits → ℕ → Probes → ℕ
+probesSent w b Probes.Nothing = 0
+probesSent w b Sucs = outDegree w b
+probesSent w b Pres = inDegree w b
+
+-- "adds their number to num"
+abbrev pub grownBy : Process → Process → Probes → ℕ
+grownBy x y Probes.Nothing = 0
+grownBy x y Sucs = y .num - x .num
+grownBy x y Pres = y .num - x .num
+
+-- 24, "nothing waits on that link", then 22
+unfoldable pub preparedOf : Run → ℕ → ℕ → List Message → Prepared
+preparedOf r a b [] = Prepared.Refused 24
+preparedOf r a b (m ∷ rest) =
+    choose (accepts r a b m rest)
+    (Go m (turnAt r a b m .process) (turnAt r a b m .probes) (turnAt r a b m .reply) (probesSent (r .waits) b (turnAt r a b m .probes)))
+    (Prepared.Refused 22)

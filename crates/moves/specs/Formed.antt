@@ -1,6 +1,7 @@
 -- An accepted delivery leaves a well-formed run well formed, and within its area: for any well-formed run, whether start made it or not.
 --   Fathered p x t, turnAt-fathered   == whom a step takes as father, and whom it acknowledges
---   new-range, new-reply, new-father, replied   == the record and the acknowledgement that an accepted delivery makes
+--   new-father, replied       == the father that a step leaves is right, and whom it acknowledges is a neighbour
+--   new-range, new-reply      == the record and the acknowledgement that an accepted delivery makes are in range
 --   formed-after              == wellFormed is kept
 --   held-after                == Held is kept
 --   counts-append             == two lists of messages with counts in range, one after the other, have them in range
@@ -176,6 +177,40 @@ formed-of r p =
       links = λ a b la ua lb ub. and-both (leb (length (r .link a b)) 4) (countsSmall (r .link a b)) (le-leb (length (r .link a b)) 4 (p .short a b la ua lb ub)) (p .counts a b la ua lb ub);
     })
 
+-- ---- whom a step names
+
+module _ (r : Run) (h : wellFormed r ≡ true) (sd : Sound (r .waits)) (a b : ℕ) (j : neighbours (r .waits) a b ≡ true) (m : Message) where
+  back : neighbours (r .waits) b a ≡ true
+  back = neighbours-swap (r .waits) b a ∙ j
+
+  pub new-father : fatherRight (r .waits) b (turnAt r a b m .process) ≡ true
+  unfolding fatherRight
+  new-father =
+      let i = neighbours-ends (r .waits) sd a b j in
+      ⊎-elim
+      (λ (e : turnAt r a b m .process .father ≡ r .process b .father). rw e (parts-of r h .father b (i .2) (i .3)))
+      (λ (e : turnAt r a b m .process .father ≡ a). rw e (or-right (eqb a 0) (neighbours (r .waits) b a) back))
+      (turnAt-fathered r a b m .father)
+
+  -- whom the step acknowledges is a neighbour of the receiver
+  pub replied : replyFits (turnAt r a b m .reply) ≡ true → (q : ℕ) (c : ℤ) → turnAt r a b m .reply ≡ To q c → neighbours (r .waits) b q ≡ true
+  unfolding replyFits fatherRight
+  replied k q c e =
+      ⊎-elim
+      (λ (f : q ≡ a). rw f back)
+      (λ (f : q ≡ turnAt r a b m .process .father). far f)
+      (turnAt-fathered r a b m .reply q c e)
+    where
+      low : leb 1 q ≡ true
+      low = and-left (leb 1 q) (small c) (rw e at k)
+
+      far : q ≡ turnAt r a b m .process .father → neighbours (r .waits) b q ≡ true
+      far f =
+          ⊎-elim
+          (λ (z : eqb (turnAt r a b m .process .father) 0 ≡ true). absurd (omega (arith, leb-true 1 q low, eqb-true (turnAt r a b m .process .father) 0 z)))
+          (λ (z : neighbours (r .waits) b (turnAt r a b m .process .father) ≡ true). rw f z)
+          (or-cases (eqb (turnAt r a b m .process .father) 0) (neighbours (r .waits) b (turnAt r a b m .process .father)) new-father)
+
 -- ---- a delivery
 
 module _ (r : Run) (h : wellFormed r ≡ true) (sd : Sound (r .waits)) (a b : ℕ) (j : neighbours (r .waits) a b ≡ true) (m : Message) (rest : List Message) (l : r .link a b ≡ m ∷ rest) (ok : accepts r a b m rest ≡ true) where
@@ -202,17 +237,6 @@ module _ (r : Run) (h : wellFormed r ≡ true) (sd : Sound (r .waits)) (a b : �
   -- both ends of the link are processes
   ends : (1 ≤ a) × (a ≤ r .waits .n) × (1 ≤ b) × (b ≤ r .waits .n)
   ends = neighbours-ends (r .waits) sd a b j
-
-  back : neighbours (r .waits) b a ≡ true
-  back = neighbours-swap (r .waits) b a ∙ j
-
-  pub new-father : fatherRight (r .waits) b (turnAt r a b m .process) ≡ true
-  unfolding fatherRight
-  new-father =
-      ⊎-elim
-      (λ (e : turnAt r a b m .process .father ≡ r .process b .father). rw e (parts-of r h .father b (ends .2) (ends .3)))
-      (λ (e : turnAt r a b m .process .father ≡ a). rw e (or-right (eqb a 0) (neighbours (r .waits) b a) back))
-      (turnAt-fathered r a b m .father)
 
   -- what stays of the picked link is in range, as it was
   rest-short : length rest ≤ 4
@@ -252,7 +276,7 @@ module _ (r : Run) (h : wellFormed r ≡ true) (sd : Sound (r .waits)) (a b : �
           at false = o
 
       fath : (p : ℕ) → 1 ≤ p → p ≤ r .waits .n → Same p b → fatherRight (r .waits) p (choose (eqb p b) (turnAt r a b m .process) (r .process p)) ≡ true
-      fath p lp up (same e f) = rw (f, e) new-father
+      fath p lp up (same e f) = rw (f, e) (new-father r h sd a b j m)
       fath p lp up (apart e f) = rw f (parts-of r h .father p lp up)
 
       shorts : (x y : ℕ) → 1 ≤ x → x ≤ r .waits .n → 1 ≤ y → y ≤ r .waits .n → Same x b → length (after r a b m rest .link x y) ≤ 4
@@ -266,32 +290,13 @@ module _ (r : Run) (h : wellFormed r ≡ true) (sd : Sound (r .waits)) (a b : �
 -- ---- within the area
 
 module _ (t : Fields) (r : Run) (hd : Held t r) (h : wellFormed r ≡ true) (sd : Sound (r .waits)) (a b : ℕ) (j : neighbours (r .waits) a b ≡ true) (m : Message) (rest : List Message) (l : r .link a b ≡ m ∷ rest) (ok : accepts r a b m rest ≡ true) where
-  -- whom the step acknowledges is a neighbour of the receiver
-  pub replied : (q : ℕ) (c : ℤ) → turnAt r a b m .reply ≡ To q c → neighbours (r .waits) b q ≡ true
-  unfolding replyFits fatherRight
-  replied q c e =
-      ⊎-elim
-      (λ (f : q ≡ a). rw f (back r h sd a b j m rest l ok))
-      (λ (f : q ≡ turnAt r a b m .process .father). far f)
-      (turnAt-fathered r a b m .reply q c e)
-    where
-      low : leb 1 q ≡ true
-      low = and-left (leb 1 q) (small c) (rw e at (new-reply r h sd a b j m rest l ok))
-
-      far : q ≡ turnAt r a b m .process .father → neighbours (r .waits) b q ≡ true
-      far f =
-          ⊎-elim
-          (λ (z : eqb (turnAt r a b m .process .father) 0 ≡ true). absurd (omega (arith, leb-true 1 q low, eqb-true (turnAt r a b m .process .father) 0 z)))
-          (λ (z : neighbours (r .waits) b (turnAt r a b m .process .father) ≡ true). rw f z)
-          (or-cases (eqb (turnAt r a b m .process .father) 0) (neighbours (r .waits) b (turnAt r a b m .process .father)) (new-father r h sd a b j m rest l ok))
-
   no-replies : (y : ℕ) → neighbours (r .waits) b y ≡ false → (z : Reply) → turnAt r a b m .reply ≡ z → replyTo z y ≡ []
   unfolding replyTo
   no-replies y n Reply.Nothing e = refl
   no-replies y n (To q c) e = at (same? y q)
     where
       at : Same y q → one (eqb y q) (Ack c) ≡ []
-      at (same f g) = absurd (false≢true (sym n ∙ rw f (replied q c e)))
+      at (same f g) = absurd (false≢true (sym n ∙ rw f (replied r h sd a b j m (new-reply r h sd a b j m rest l ok) q c e)))
       at (apart f g) = rw g
 
   no-probes : (y : ℕ) → neighbours (r .waits) b y ≡ false → (z : Probes) → probesTo (r .waits) b z y ≡ []

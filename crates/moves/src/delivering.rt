@@ -10,22 +10,39 @@ use steps::Reply;
 use steps::Stepped;
 use tables::Chain;
 ghost use mathlib.Core.Path.{_≡_};
-ghost use mathlib.Core.Bool.{true, _&&_};
+ghost use mathlib.Core.Bool.{true, not, _&&_, _||_};
 ghost use Prim.Native.Nat.{ℕ, _-_, _≤_};
 ghost use lib.Dec.{eqb, leb};
+ghost use lib.IntN.{ℤ};
 ghost use lib.ListN.{length};
-ghost use Rattle.base.specs.Choice.{bit};
-ghost use Rattle.base.specs.Sums.{allTo};
+ghost use Rattle.base.specs.Choice.{choose, bit};
+ghost use Rattle.base.specs.Sums.{countTo, allTo};
 ghost use Rattle.tables.specs.declared.Chain.{Chain};
+ghost use Rattle.tables.specs.declared.Chain.the-variants.{Out, In};
 ghost use Rattle.tables.specs.Waits.{neighbours};
 ghost use Rattle.tables.specs.Chains.{joins};
+ghost use Rattle.steps.specs.declared.Reply.the-variants.{To};
 ghost use Rattle.steps.specs.Step.{countSmall};
 ghost use Rattle.checks.specs.Run.{over};
 ghost use Rattle.checks.specs.Calls.{deliver};
 ghost use Rattle.areas.specs.Area.{runIn, keeping};
+ghost use Rattle.areas.specs.Squares.{joinsBy};
 ghost use Rattle.moves.specs.Ready.{Ready};
 ghost use Rattle.moves.specs.Rooms.{loadAfter};
-ghost use Rattle.moves.specs.Delivering.{steppedAt, probesOf, probesGo, replyGoes, spreadBy, carriedOut, Carried};
+ghost use Rattle.moves.specs.Delivering.{steppedAt, outNeeded, inNeeded, probesOf, probesGo, replyGoes, spreadBy, carriedOut, Carried, grownBy, preparedOf};
+
+// A delivery before anything is changed: the message, what the receiver's step leaves and sends, and how many probes it broadcasts; or the
+// number of the refusal.
+pub enum Prepared {
+    Go {
+        message: Message,
+        process: Process,
+        probes: Probes,
+        reply: Reply,
+        sent: u32,
+    },
+    Refused(u32),
+}
 
 // The start process.
 pub fn start_of(area: &[i32], square: &[u16; 16641], n: usize, m: usize) -> usize
@@ -53,6 +70,41 @@ pub fn is_over(area: &[i32], square: &[u16; 16641], n: usize, m: usize) -> bool
     x.num == 0
 }
 
+// A degree of b, counted only while a flag is 0: each count is a pass over N.
+fn degree_if_unset(square: &[u16; 16641], n: usize, c: Chain, b: usize, flag: u32) -> u32
+    requires { ⌜ (n ≤ 128) × (b ≤ 128) ⌝ }
+    ensures { λ r. ⌜ r ≡ choose (eqb flag 0) (countTo n (λ q. joinsBy (now (square .entry)) c b q)) 0 ⌝ }
+{
+    if flag != 0 {
+        return 0;
+    }
+    squares::degree(square, n, c, b)
+}
+
+// The successors of b, if its step on the message broadcasts to them.
+fn out_needed(square: &[u16; 16641], n: usize, b: usize, x: Process, message: Message) -> u32
+    requires { ⌜ (n ≤ 128) × (b ≤ 128) ⌝ }
+    ensures { λ r. ⌜ r ≡ outNeeded message x (countTo n (λ q. joinsBy (now (square .entry)) Out b q)) ⌝ }
+{
+    match message {
+        Message::Suc => degree_if_unset(square, n, Chain::Out, b, x.succeeding),
+        Message::Pre => 0,
+        Message::Ack(_) => 0,
+    }
+}
+
+// The predecessors of b, if its step on the message broadcasts to them.
+fn in_needed(square: &[u16; 16641], n: usize, b: usize, x: Process, message: Message) -> u32
+    requires { ⌜ (n ≤ 128) × (b ≤ 128) ⌝ }
+    ensures { λ r. ⌜ r ≡ inNeeded message x (countTo n (λ q. joinsBy (now (square .entry)) In b q)) ⌝ }
+{
+    match message {
+        Message::Suc => 0,
+        Message::Pre => degree_if_unset(square, n, Chain::In, b, x.preceding),
+        Message::Ack(_) => 0,
+    }
+}
+
 // The receiver's step: the start's own, or that of any other process.
 fn step_at(
     area: &[i32],
@@ -73,8 +125,8 @@ fn step_at(
     if b == start_of(area, square, n, m) {
         return steps::start_step(x, message, a as u32);
     }
-    let out_degree = squares::degree(square, n, Chain::Out, b);
-    let in_degree = squares::degree(square, n, Chain::In, b);
+    let out_degree = out_needed(square, n, b, x, message);
+    let in_degree = in_needed(square, n, b, x, message);
     steps::step(x, message, out_degree, in_degree, a as u32)
 }
 
@@ -158,7 +210,80 @@ fn load_after(
     left + acknowledgements + sent
 }
 
-// No link from b would hold a fifth message.
+// The link on which b acknowledges would not hold a fifth message.
+fn reply_has_room(
+    area: &[i32],
+    square: &[u16; 16641],
+    n: usize,
+    m: usize,
+    a: usize,
+    b: usize,
+    probes: Probes,
+    reply: Reply,
+) -> bool
+    requires { ⌜ Ready (now area) (now square) n m ⌝ }
+    requires { ⌜ b ≤ n ⌝ }
+    requires { ⌜ ((p : ℕ) (c : ℤ) → reply ≡ To p c → (1 ≤ p) × (p ≤ n)) ⌝ }
+    ensures { λ r. ⌜ r ≡ allTo n (λ q. not (replyGoes reply q) || leb (loadAfter (runIn (now (area .entry))) a b probes reply q) 4) ⌝ }
+{
+    match reply {
+        Reply::Nothing => true,
+        Reply::To { process, count: _ } => {
+            load_after(area, square, n, m, a, b, probes, reply, process as usize) <= 4
+        }
+    }
+}
+
+// No probe goes to q, or the link to it would not hold a fifth message.
+fn probe_has_room(
+    area: &[i32],
+    square: &[u16; 16641],
+    n: usize,
+    m: usize,
+    a: usize,
+    b: usize,
+    probes: Probes,
+    reply: Reply,
+    q: usize,
+) -> bool
+    requires { ⌜ Ready (now area) (now square) n m ⌝ }
+    requires { ⌜ (b ≤ n) × (q ≤ n) ⌝ }
+    ensures { λ r. ⌜ r ≡ (not (probesGo (now (square .entry)) probes b q) || leb (loadAfter (runIn (now (area .entry))) a b probes reply q) 4) ⌝ }
+{
+    if !goes_to(square, probes, b, q) {
+        return true;
+    }
+    load_after(area, square, n, m, a, b, probes, reply, q) <= 4
+}
+
+// No link on which b sends a probe would hold a fifth message.
+fn probes_have_room(
+    area: &[i32],
+    square: &[u16; 16641],
+    n: usize,
+    m: usize,
+    a: usize,
+    b: usize,
+    probes: Probes,
+    reply: Reply,
+) -> bool
+    requires { ⌜ Ready (now area) (now square) n m ⌝ }
+    requires { ⌜ b ≤ n ⌝ }
+    ensures { λ r. ⌜ r ≡ allTo n (λ q. not (probesGo (now (square .entry)) probes b q) || leb (loadAfter (runIn (now (area .entry))) a b probes reply q) 4) ⌝ }
+{
+    if let Probes::Nothing = probes {
+        return true;
+    }
+    let end = n + 1;
+    for q in 1..end {
+        if !probe_has_room(area, square, n, m, a, b, probes, reply, q) {
+            return false;
+        }
+    }
+    true
+}
+
+// No link from b would hold a fifth message: only those on which the step sends something are looked at, since every other has room.
 fn has_room(
     area: &[i32],
     square: &[u16; 16641],
@@ -171,15 +296,13 @@ fn has_room(
 ) -> bool
     requires { ⌜ Ready (now area) (now square) n m ⌝ }
     requires { ⌜ b ≤ n ⌝ }
+    requires { ⌜ ((p : ℕ) (c : ℤ) → reply ≡ To p c → (1 ≤ p) × (p ≤ n)) ⌝ }
     ensures { λ r. ⌜ r ≡ allTo n (λ q. leb (loadAfter (runIn (now (area .entry))) a b probes reply q) 4) ⌝ }
 {
-    let end = n + 1;
-    for q in 1..end {
-        if load_after(area, square, n, m, a, b, probes, reply, q) > 4 {
-            return false;
-        }
+    if !reply_has_room(area, square, n, m, a, b, probes, reply) {
+        return false;
     }
-    true
+    probes_have_room(area, square, n, m, a, b, probes, reply)
 }
 
 // b sends the probes of its step, if there are any.
@@ -197,7 +320,7 @@ fn send(area: &mut [i32], square: &[u16; 16641], n: usize, m: usize, b: usize, p
 }
 
 // b's step has been taken: the message comes off its link, the record changes, and the step's messages go out.
-fn carry_out(
+pub fn carry_out(
     area: &mut [i32],
     square: &[u16; 16641],
     n: usize,
@@ -220,6 +343,64 @@ fn carry_out(
     moving::put_count(area, square, n, m, count + 1);
 }
 
+// How many probes a step broadcasts, by the growth of num: so that nothing need be counted.
+fn probes_sent(before: Process, after: Process, probes: Probes) -> u32
+    requires { ⌜ ((c : Chain) → probes ≡ probesOf c → before .num ≤ after .num) ⌝ }
+    ensures { λ r. ⌜ r ≡ grownBy before after probes ⌝ }
+{
+    match probes {
+        Probes::Nothing => 0,
+        Probes::Sucs => after.num - before.num,
+        Probes::Pres => after.num - before.num,
+    }
+}
+
+// The delivery of the oldest message on the link from a to b, which are neighbours, before anything is changed: 24 if nothing waits there,
+// then 22, and else what the receiver's step leaves and sends.
+pub fn prepare(
+    area: &[i32],
+    square: &[u16; 16641],
+    n: usize,
+    m: usize,
+    a: usize,
+    b: usize,
+) -> Prepared
+    requires { ⌜ Ready (now area) (now square) n m ⌝ }
+    requires { ⌜ neighbours (runIn (now area) .waits) a b ≡ true ⌝ }
+    requires { ⌜ (a ≤ n) × (b ≤ n) ⌝ }
+    ensures { λ r. ⌜ r ≡ preparedOf (runIn (now (area .entry))) a b (runIn (now (area .entry)) .link a b) ⌝ }
+{
+    let i = squares::place(square, n, m, a, b);
+    let word = area[i];
+    if word == 0 {
+        return Prepared::Refused(24);
+    }
+    let message = words::message_of(word);
+    let Stepped::Taken {
+        process,
+        probes,
+        reply,
+    } = step_at(area, square, n, m, a, b, message)
+    else {
+        return Prepared::Refused(22);
+    };
+    if count_of(area, square, n, m) >= 2048 {
+        return Prepared::Refused(22);
+    }
+    if !has_room(area, square, n, m, a, b, probes, reply) {
+        return Prepared::Refused(22);
+    }
+    let before = moving::process(area, square, n, m, b);
+    let sent = probes_sent(before, process, probes);
+    Prepared::Go {
+        message,
+        process,
+        probes,
+        reply,
+        sent,
+    }
+}
+
 // Delivers the oldest message on the link from a to b, which are neighbours: 24 if nothing waits there, then 22.
 pub fn deliver(
     area: &mut [i32],
@@ -235,26 +416,17 @@ pub fn deliver(
     ensures { λ r. ⌜ r ≡ deliver (runIn (now (area .entry))) a b (runIn (now (area .entry)) .link a b) .answer ⌝ }
     ensures { λ _. ⌜ now (area .exit) ≡ keeping (now (area .entry)) (deliver (runIn (now (area .entry))) a b (runIn (now (area .entry)) .link a b) .run) ⌝ }
 {
-    let i = squares::place(square, n, m, a, b);
-    let word = area[i];
-    if word == 0 {
-        return Delivery::Refused(24);
+    match prepare(area, square, n, m, a, b) {
+        Prepared::Refused(number) => Delivery::Refused(number),
+        Prepared::Go {
+            message,
+            process,
+            probes,
+            reply,
+            sent: _,
+        } => {
+            carry_out(area, square, n, m, a, b, process, probes, reply);
+            Delivery::Delivered(message)
+        }
     }
-    let message = words::message_of(word);
-    let Stepped::Taken {
-        process,
-        probes,
-        reply,
-    } = step_at(area, square, n, m, a, b, message)
-    else {
-        return Delivery::Refused(22);
-    };
-    if count_of(area, square, n, m) >= 2048 {
-        return Delivery::Refused(22);
-    }
-    if !has_room(area, square, n, m, a, b, probes, reply) {
-        return Delivery::Refused(22);
-    }
-    carry_out(area, square, n, m, a, b, process, probes, reply);
-    Delivery::Delivered(message)
 }

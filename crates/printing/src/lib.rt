@@ -21,6 +21,7 @@ ghost use Rattle.areas.specs.Area.{runIn};
 ghost use Rattle.checks.specs.Calls.{deliveryNumber};
 ghost use Rattle.moves.specs.Ready.{Ready};
 ghost use Rattle.choosing.specs.Loads.{Loaded};
+ghost use Rattle.choosing.specs.Lows.{Lows};
 ghost use Rattle.inputs.specs.Input.{tableEnd, picksIn};
 
 fn print(text: &[u8]) {
@@ -97,13 +98,16 @@ fn print_own(
     n: usize,
     m: usize,
     loads: &mut [usize; 129],
+    lows: &mut [usize; 129],
 ) -> bool
     requires { ⌜ Ready (now area) (now square) n m ⌝ }
     requires { ⌜ Loaded (runIn (now area)) (now loads) ⌝ }
+    requires { ⌜ Lows (runIn (now area)) (now lows) ⌝ }
     ensures { λ _. ⌜ Ready (now (area .exit)) (now (square .entry)) n m ⌝ }
     ensures { λ _. ⌜ Loaded (runIn (now (area .exit))) (now (loads .exit)) ⌝ }
+    ensures { λ _. ⌜ Lows (runIn (now (area .exit))) (now (lows .exit)) ⌝ }
 {
-    match choosing::deliver_lowest(area, square, n, m, loads) {
+    match choosing::deliver_lowest(area, square, n, m, loads, lows) {
         Lowest::Delivered { from, to, message } => {
             print_delivery(true, from as u32, to as u32, message);
             true
@@ -116,9 +120,17 @@ fn print_own(
 }
 
 // "After the picks it runs on to the end": a run counts 2,048 deliveries at most.
-fn run_out(area: &mut [i32], square: &[u16; 16641], n: usize, m: usize, loads: &mut [usize; 129])
+fn run_out(
+    area: &mut [i32],
+    square: &[u16; 16641],
+    n: usize,
+    m: usize,
+    loads: &mut [usize; 129],
+    lows: &mut [usize; 129],
+)
     requires { ⌜ Ready (now area) (now square) n m ⌝ }
     requires { ⌜ Loaded (runIn (now area)) (now loads) ⌝ }
+    requires { ⌜ Lows (runIn (now area)) (now lows) ⌝ }
     ensures { λ _. ⌜ Ready (now (area .exit)) (now (square .entry)) n m ⌝ }
 {
     let mut turns: usize = 0;
@@ -126,7 +138,7 @@ fn run_out(area: &mut [i32], square: &[u16; 16641], n: usize, m: usize, loads: &
         if delivering::is_over(area, square, n, m) {
             return;
         }
-        if !print_own(area, square, n, m, loads) {
+        if !print_own(area, square, n, m, loads, lows) {
             return;
         }
         turns += 1;
@@ -173,7 +185,8 @@ fn finish(area: &mut [i32], square: &[u16; 16641], n: usize, m: usize)
 {
     let mut loads = [0usize; 129];
     choosing::fill_loads(area, square, n, m, &mut loads);
-    run_out(area, square, n, m, &mut loads);
+    let mut lows = [1usize; 129];
+    run_out(area, square, n, m, &mut loads, &mut lows);
     print_processes(area, square, n, m);
     print_report(area);
 }

@@ -1,6 +1,6 @@
 -- Running on, turn by turn: what holds at the head of a turn, each way out of it, and the next turn.
---   Turn w k area l made   == made deliveries are done: the area is w with the run of now in it; l holds its loads; and what is left to do from here is what was to do from w
---   Ended w k x area       == what running on from w ends with: the answer x and the area
+--   Turn w k area l j made   == made deliveries are done: the area is w with the run of now in it; l holds its loads, and j bounds of what waits; and what is left to do from here is what was to do from w
+--   Ended w k x area         == what running on from w ends with: the answer x and the area
 --   turn-first, turn-ready, turn-length   == the first turn; the area of a turn is ready, and as long as w
 --   turn-over, turn-spent, turn-refused   == each way out
 --   turn-next              == the next turn
@@ -22,13 +22,14 @@ use Rattle.moves.specs.Ready.{Ready}
 use Rattle.moves.proofs.Holding.{Holding, holding-first, holding-run, holding-ready, holding-length}
 use Rattle.choosing.specs.declared.Lowest.{Lowest}
 use Rattle.choosing.specs.Loads.{Loaded}
+use Rattle.choosing.specs.Lows.{Lows}
 use Rattle.choosing.specs.LowestLaws.{lowestAnswer-refused, lowestAnswer-delivered}
 use Rattle.choosing.proofs.OnLink.{Left, holding-lowest}
 use Rattle.runs.specs.RunningLaws.{runFrom-over, runFrom-spent, runFrom-refused, runFrom-next}
 
-pub record Turn (w : List ℤ) (k : ℕ) (area : List ℤ) (l : List ℕ) (made : ℕ) : Type 0 where
+pub record Turn (w : List ℤ) (k : ℕ) (area : List ℤ) (l j : List ℕ) (made : ℕ) : Type 0 where
   pub holds : Holding w area (runIn area)
-  pub loaded : Loaded (runIn area) l
+  pub indexed : Loaded (runIn area) l × Lows (runIn area) j
   pub rest : runFrom k 0 (runIn w) ≡ runFrom (k - made) made (runIn area)
 
 -- what the loop ends with
@@ -39,12 +40,12 @@ ended : (k : ℕ) {w : List ℤ} {x : Ran} {area : List ℤ} {r : Run} → runFr
 ended k {w} e h = (sym (ap (λ (o : RanOn). o .answer) e), h .is ∙ sym (ap (λ (o : RanOn). keeping w (o .run)) e))
 
 module _ {w : List ℤ} {sq : List ℕ} {n m k : ℕ} (y : Ready w sq n m) where
-  pub turn-first : {l : List ℕ} → Loaded (runIn w) l → Turn w k w l 0
+  pub turn-first : {l j : List ℕ} → Loaded (runIn w) l × Lows (runIn w) j → Turn w k w l j 0
   turn-first h =
       let z : k ≡ k - 0 = omega arith in
-      record { holds = holding-first y; loaded = h; rest = ap (λ (j : ℕ). runFrom j 0 (runIn w)) z }
+      record { holds = holding-first y; indexed = h; rest = ap (λ (j : ℕ). runFrom j 0 (runIn w)) z }
 
-  module _ {area : List ℤ} {l : List ℕ} {made : ℕ} (t : Turn w k area l made) where
+  module _ {area : List ℤ} {l j : List ℕ} {made : ℕ} (t : Turn w k area l j made) where
     pub turn-ready : Ready area sq n m
     turn-ready = holding-ready y (t .holds)
 
@@ -61,8 +62,8 @@ module _ {w : List ℤ} {sq : List ℕ} {n m k : ℕ} (y : Ready w sq n m) where
             let z : k - made ≡ 0 = omega arith in
             ended k (t .rest ∙ rw z (runFrom-spent made (runIn area) (sym e ∙ f))) (t .holds)
 
-        -- the delivery answers x and leaves the area v with the loads j
-        module _ (u : made < k) {x : Lowest} {v : List ℤ} {j : List ℕ} (d : Left area sq n m x v j) where
+        -- the delivery answers x and leaves the area v with the loads l′ and the bounds j′
+        module _ (u : made < k) {x : Lowest} {v : List ℤ} {l′ j′ : List ℕ} (d : Left area sq n m x v l′ j′) where
           turned : runFrom k 0 (runIn w) ≡ runFrom (suc (k - suc made)) made (runIn area)
           turned =
               let z : k - made ≡ suc (k - suc made) = omega arith in
@@ -79,13 +80,13 @@ module _ {w : List ℤ} {sq : List ℕ} {n m k : ℕ} (y : Ready w sq n m) where
           turn-refused {i} h =
               ended k (turned ∙ runFrom-refused (k - suc made) made (runIn area) i (sym e ∙ f) (lowestAnswer-refused (runIn area) (lowest (runIn area)) i (sym (d .0) ∙ h))) next-holds
 
-          pub turn-next : {a b : ℕ} {z : Message} → x ≡ Lowest.Delivered a b z → Turn w k v j (made + 1)
+          pub turn-next : {a b : ℕ} {z : Message} → x ≡ Lowest.Delivered a b z → Turn w k v l′ j′ (made + 1)
           turn-next {a} {b} {z} h =
               let r : next ≡ runIn v = sym (holding-run y next-holds) in
               let s : suc made ≡ made + 1 = omega arith in
               let p = lowestAnswer-delivered (runIn area) (lowest (runIn area)) a b z (sym (d .0) ∙ h) .1 in
               record {
                 holds = subst (Holding w v) r next-holds;
-                loaded = d .1 .1 .0;
+                indexed = (d .1 .1 .0, d .1 .1 .1 .0);
                 rest = turned ∙ runFrom-next (k - suc made) made (runIn area) z (sym e ∙ f) p ∙ ap (runFrom (k - suc made) (suc made)) r ∙ ap (λ (i : ℕ). runFrom (k - i) i (runIn v)) s;
               }

@@ -1,4 +1,4 @@
-// Running on in the fixed order. The area is tested once; a delivery then costs a small multiple of N.
+// Running on in the fixed order. The area is tested once; what waits is looked for from bounds on, which follow each delivery.
 use areas::testing;
 use areas::testing::Sizes;
 use checks::Ran;
@@ -9,9 +9,10 @@ ghost use Rattle.checks.specs.Calls.{runFrom};
 ghost use Rattle.areas.specs.Area.{runIn, keeping};
 ghost use Rattle.moves.specs.Ready.{Ready};
 ghost use Rattle.choosing.specs.Loads.{Loaded};
+ghost use Rattle.choosing.specs.Lows.{Lows};
 ghost use Rattle.runs.specs.AreaCalls.{runOnAnswer, runOnArea};
 
-// The deliveries in a tested area, with the load of each sender at hand: over, then spent, then 24, 22.
+// The deliveries in a tested area, with the load of each sender and the bounds of what waits at hand: over, then spent, then 24, 22.
 fn drive(
     area: &mut [i32],
     square: &[u16; 16641],
@@ -19,9 +20,11 @@ fn drive(
     m: usize,
     k: u32,
     loads: &mut [usize; 129],
+    lows: &mut [usize; 129],
 ) -> Ran
     requires { ⌜ Ready (now area) (now square) n m ⌝ }
     requires { ⌜ Loaded (runIn (now area)) (now loads) ⌝ }
+    requires { ⌜ Lows (runIn (now area)) (now lows) ⌝ }
     ensures { λ r. ⌜ r ≡ runFrom k 0 (runIn (now (area .entry))) .answer ⌝ }
     ensures { λ _. ⌜ now (area .exit) ≡ keeping (now (area .entry)) (runFrom k 0 (runIn (now (area .entry))) .run) ⌝ }
 {
@@ -33,7 +36,7 @@ fn drive(
         if made >= k {
             return Ran::Spent(made);
         }
-        if let Lowest::Refused(number) = choosing::deliver_lowest(area, square, n, m, loads) {
+        if let Lowest::Refused(number) = choosing::deliver_lowest(area, square, n, m, loads, lows) {
             return Ran::Refused { number, made };
         }
         made += 1;
@@ -54,5 +57,6 @@ pub fn run_on(area: &mut [i32], k: u32) -> Ran
     };
     let mut loads = [0usize; 129];
     choosing::fill_loads(area, &square, n, m, &mut loads);
-    drive(area, &square, n, m, k, &mut loads)
+    let mut lows = [1usize; 129];
+    drive(area, &square, n, m, k, &mut loads, &mut lows)
 }

@@ -1,5 +1,5 @@
--- `choosing::choose` meets its contract. The outer loop's invariant: no sender before a has a message waiting; the inner one's: none waits from a to a receiver before b.
--- Until the loops are left by label `from` is 0. The measures are what is left.
+-- `choosing::choose` meets its contract. The outer loop's invariant: no sender before a has a message waiting; the inner one's: none waits from a to a receiver before b;
+-- both hold at the bounds. Until the loops are left by label `from` is 0. The measures are what is left.
 -- Assumes nothing.
 use Prim.Native.Nat.{ℕ, _-_, _≤_}
 use mathlib.Core.Path.{_≡_, refl, sym, _∙_}
@@ -12,23 +12,24 @@ use Rattle.areas.specs.Area.{runIn}
 use Rattle.moves.specs.ReadyLaws.{ready-n, ready-sizes}
 use Rattle.choosing.specs.declared.Chosen.the-variants.{Nobody, Link}
 use Rattle.choosing.specs.Loads.{chosenOf}
-use Rattle.choosing.specs.OrderLaws.{lowestReceiver-start, lowestReceiver-pass, lowestReceiver-hit, lowestReceiver-none, lowestSender-start, lowestSender-pass, lowest-hit, lowest-miss}
+use Rattle.choosing.specs.LowsLaws.{lows-sender, lows-receiver}
+use Rattle.choosing.specs.OrderLaws.{lowestReceiver-pass, lowestReceiver-hit, lowestReceiver-none, lowestSender-pass, lowest-hit, lowest-miss}
 use Rattle.choosing.proofs.choose.Statement.{statement}
 use Rattle.choosing.proofs.choose.Tie as tie
 
 abbrev Inv-loop : tie.InvT-loop
-Inv-loop area square n m loads end from₀ to₀ a b₀ from to b =
+Inv-loop area square n m loads lows end from₀ to₀ least a first b₀ from to b =
     (1 ≤ b) × (b ≤ end) × (from ≡ 0) × (lowestReceiver (runIn area) a (b - 1) ≡ nobody)
 
 abbrev μ-loop : tie.MeasureT-loop
-μ-loop area square n m loads end from₀ to₀ a b₀ from to b = end - b
+μ-loop area square n m loads lows end from₀ to₀ least a first b₀ from to b = end - b
 
 abbrev Inv-scan : tie.InvT-scan
-Inv-scan area square n m loads end from₀ to₀ a₀ from to a =
+Inv-scan area square n m loads lows end from₀ to₀ least a₀ from to a =
     (1 ≤ a) × (a ≤ end) × (from ≡ 0) × (lowestSender (runIn area) (a - 1) ≡ nobody)
 
 abbrev μ-scan : tie.MeasureT-scan
-μ-scan area square n m loads end from₀ to₀ a₀ from to a = end - a
+μ-scan area square n m loads lows end from₀ to₀ least a₀ from to a = end - a
 
 -- ---- what the loops find
 
@@ -63,65 +64,70 @@ add-end : tie.Need-add-end Inv-loop μ-loop Inv-scan μ-scan
 add-end c = omega (arith, ready-sizes (c .pre .0) .0)
 
 scan-holds : tie.Need-scan-holds Inv-loop μ-loop Inv-scan μ-scan
-scan-holds c = (omega arith, omega arith, refl, lowestSender-start (runIn (c .args .area .now)))
+scan-holds c =
+    let low = c .before .pre .1 .1 in
+    (low .least .0, omega (arith, low .least .1, ready-n (c .before .pre .0)), refl, lows-sender low)
 
-mul-if1 : tie.Need-mul-if1 Inv-loop μ-loop Inv-scan μ-scan
-mul-if1 c = omega (arith, ready-sizes (c .before .before .pre .0) .0)
-
-element-copy-out-if1 : tie.Need-element-copy-out-if1 Inv-loop μ-loop Inv-scan μ-scan
-element-copy-out-if1 c = omega (arith, ready-sizes (c .before .before .pre .0) .0)
+-- a sender is a process, and N is small
+sender : (c : tie.In-scan Inv-loop μ-loop Inv-scan μ-scan) → (1 ≤ c .before .scan .a) × (c .before .scan .a ≤ c .before .before .before .args .n) × (c .before .before .before .args .n ≤ 128)
+sender c = omega (arith, ready-sizes (c .before .before .before .pre .0) .0)
 
 loop-holds : tie.Need-loop-holds Inv-loop μ-loop Inv-scan μ-scan
 loop-holds c =
-    let scan = c .before .before .before .scan in
-    let start = c .before .before .before .before in
-    (omega arith, omega arith, scan .inv .2, lowestReceiver-start (runIn (start .args .area .now)) (scan .a))
+    let s = c .before .before .before in
+    let start = s .before .before .before in
+    let few = ready-n (start .pre .0) in
+    let low = start .pre .1 .1 in
+    let a = s .before .scan .a in
+    let bound = low .firsts a (sender s .0) (omega (arith, sender s, few)) in
+    (bound .0, omega (arith, bound, few), s .before .scan .inv .2, lows-receiver low a (sender s .0) (omega (arith, sender s, few)))
 
 load-requires : tie.Need-load-requires Inv-loop μ-loop Inv-scan μ-scan
 load-requires c κs =
-    (c .before .before .before .before .before .before .pre .0, omega arith)
+    let s = c .before .before .before .before .before in
+    (s .before .before .before .pre .0, omega (arith, sender s))
 
 add-b : tie.Need-add-b Inv-loop μ-loop Inv-scan μ-scan
-add-b c = omega (arith, ready-sizes (c .before .before .before .before .before .before .before .before .pre .0) .0)
+add-b c = omega (arith, ready-sizes (c .before .before .before .before .before .before .before .before .before .before .pre .0) .0)
 
 loop-again : tie.Need-loop-again Inv-loop μ-loop Inv-scan μ-scan
 loop-again c =
     let loop = c .before .before .before .loop in
-    let scan = c .before .before .before .before .before .before .before .scan in
-    let start = c .before .before .before .before .before .before .before .before in
+    let scan = c .before .before .before .before .before .before .before .before .scan in
+    let start = c .before .before .before .before .before .before .before .before .before .before in
     let r = runIn (start .args .area .now) in
     (omega arith, omega arith, loop .inv .2, lowestReceiver-pass r (scan .a) (loop .b) (omega arith) (loop .inv .3) (sym (c .before .load .ensures .0) ∙ c .if2 .left))
 
 add-a : tie.Need-add-a Inv-loop μ-loop Inv-scan μ-scan
-add-a c = omega (arith, ready-sizes (c .before .before .before .before .pre .0) .0)
+add-a c = omega (arith, sender (c .before .before))
 
 -- a sender has nothing waiting: by its load, or receiver by receiver
-passed : (c : tie.Joined1 Inv-loop μ-loop Inv-scan μ-scan) → (c .if1 .from ≡ 0) × (lowestReceiver (runIn (c .before .before .before .before .args .area .now)) (c .before .before .before .scan .a) (runIn (c .before .before .before .before .args .area .now) .waits .n) ≡ nobody)
+passed : (c : tie.Joined1 Inv-loop μ-loop Inv-scan μ-scan) → (c .if1 .from ≡ 0) × (lowestReceiver (runIn (c .before .before .before .before .before .args .area .now)) (c .before .before .before .scan .a) (runIn (c .before .before .before .before .before .args .area .now) .waits .n) ≡ nobody)
 passed c =
     let scan = c .before .before .before .scan in
-    let start = c .before .before .before .before in
+    let start = c .before .before .before .before .before in
     let r = runIn (start .args .area .now) in
     let few = ready-n (start .pre .0) in
     ⊎-elim
-    (λ w. (w .3 ∙ w .1 .inv .2, receiver-none r (scan .a) (w .1 .b - 1) (omega (arith, few)) (w .1 .inv .3)))
-    (λ w. (w .1 ∙ scan .inv .2, lowestReceiver-none r (scan .a) (sym (start .pre .1 .loads (scan .a) (omega arith) (omega (arith, few))) ∙ w .0 .left)))
+    (λ w. (w .4 ∙ w .2 .inv .2, receiver-none r (scan .a) (w .2 .b - 1) (omega (arith, few)) (w .2 .inv .3)))
+    (λ w. (w .1 ∙ scan .inv .2, lowestReceiver-none r (scan .a) (sym (start .pre .1 .0 .loads (scan .a) (omega arith) (omega (arith, few))) ∙ w .0 .left)))
     (c .if1 .came)
 
 scan-again : tie.Need-scan-again Inv-loop μ-loop Inv-scan μ-scan
 scan-again c =
     let scan = c .before .before .before .scan in
-    let start = c .before .before .before .before in
+    let start = c .before .before .before .before .before in
     let r = runIn (start .args .area .now) in
     (omega arith, omega arith, passed c .0, lowestSender-pass r (scan .a) (omega arith) (scan .inv .3) (passed c .1))
 
-found : (c : tie.Left-scan Inv-loop μ-loop Inv-scan μ-scan) → Found (runIn (c .before .before .args .area .now)) (c .scan-test .from) (c .scan-test .to)
+found : (c : tie.Left-scan Inv-loop μ-loop Inv-scan μ-scan) → Found (runIn (c .before .before .before .args .area .now)) (c .scan-test .from) (c .scan-test .to)
 found c =
     let scan = c .before .scan in
-    let start = c .before .before in
+    let start = c .before .before .before in
     let few = ready-n (start .pre .0) in
     ⊎-elim
     (λ w. found-none (scan .a - 1) (w .1 ∙ scan .inv .2) (omega (arith, few)) (scan .inv .3))
-    (λ w. found-some (w .5 .result) (omega arith) (omega (arith, few)) (omega arith) (omega (arith, few)) (scan .inv .3) (w .3 .inv .3) (w .5 .ensures .0) (w .6 .taken) (w .7) (w .8))
+    (λ w. found-some (w .6 .result) (omega arith) (omega (arith, few)) (omega arith) (omega (arith, few)) (scan .inv .3) (w .4 .inv .3) (w .6 .ensures .0) (w .7 .taken) (w .8) (w .9))
     (c .scan-test .came)
 
 returns : tie.Need-returns Inv-loop μ-loop Inv-scan μ-scan
@@ -139,9 +145,12 @@ choose-spec =
     Inv-scan
     μ-scan
     add-end
+    (λ c. omega arith)
     scan-holds
-    mul-if1
-    element-copy-out-if1
+    (λ c. omega (arith, sender c))
+    (λ c. omega (arith, sender c))
+    (λ c. omega (arith, sender (c .before .before)))
+    (λ c. omega (arith, sender (c .before .before)))
     loop-holds
     load-requires
     add-b

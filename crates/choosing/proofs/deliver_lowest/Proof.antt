@@ -1,47 +1,59 @@
 -- `choosing::deliver_lowest` meets its contract: each way out is a law of OnLink.
 -- Assumes nothing.
 use borrow.Author.Needs.{needs}
-use Rattle.choosing.proofs.OnLink.{left-none, link-asks, link-after, left-refused, left-delivered}
+use Rattle.choosing.proofs.OnLink.{left-none, link-asks, note-asks, carry-asks, left-refused, left-delivered}
 use Rattle.choosing.proofs.deliver_lowest.Statement.{statement}
 use Rattle.choosing.proofs.deliver_lowest.Tie as tie
 
 returns : tie.Need-returns
 returns c =
     let h = c .before .before in
-    let s = h .before .before .before in
+    let s = h .before .before .before .before in
     left-none (s .pre .0) (s .pre .1) (h .choose .ensures) (c .enum-told .given .1)
 
-deliver-requires : tie.Need-deliver-requires
-deliver-requires c κs =
+prepare-requires : tie.Need-prepare-requires
+prepare-requires c κs =
     let k = c .before in
     let h = k .before .before .before in
-    let s = h .before .before .before in
+    let s = h .before .before .before .before in
     link-asks (s .pre .0) (s .pre .1) (h .choose .ensures) (k .before .from .given .1)
 
-refresh-requires : tie.Need-refresh-requires
-refresh-requires c κs =
-    let d = c .before .before .before .before .before .before in
+note-requires : tie.Need-note-requires
+note-requires c κs =
+    let g = c .before .before .before in
+    let d = g .before .before in
     let k = d .before .before in
     let h = k .before .before .before in
-    let s = h .before .before .before in
-    link-after (s .pre .0) (s .pre .1) (h .choose .ensures) (k .before .from .given .1) (d .deliver .ensures)
+    let s = h .before .before .before .before in
+    note-asks (s .pre .0) (s .pre .1) (h .choose .ensures) (k .before .from .given .1) (d .prepare .ensures) (g .message .given .1)
+
+carry-out-requires : tie.Need-carry-out-requires
+carry-out-requires c κs =
+    let g = c .before .before .before .before .before in
+    let d = g .before .before in
+    let k = d .before .before in
+    let h = k .before .before .before in
+    let s = h .before .before .before .before in
+    carry-asks (s .pre .0) (s .pre .1) (h .choose .ensures) (k .before .from .given .1) (d .prepare .ensures) (g .message .given .1)
 
 returns-2 : tie.Need-returns-2
 returns-2 c =
-    let d = c .before .before .before .before in
+    let d = c .before .before .before in
     let k = d .before .before in
     let h = k .before .before .before in
-    let s = h .before .before .before in
-    left-refused (s .pre .0) (s .pre .1) (h .choose .ensures) (k .before .from .given .1) (d .deliver .ensures) (c .before .number .given .1)
+    let s = h .before .before .before .before in
+    left-refused (s .pre .0) (s .pre .1) (h .choose .ensures) (k .before .from .given .1) (d .prepare .ensures) (c .before .number .given .1)
 
 returns-3 : tie.Need-returns-3
 returns-3 c =
-    let m = c .before .before .before .before in
-    let d = m .before .before .before in
+    let o = c .before in
+    let n = o .before .before in
+    let g = n .before .before .before .before in
+    let d = g .before .before in
     let k = d .before .before in
     let h = k .before .before .before in
-    let s = h .before .before .before in
-    left-delivered (s .pre .0) (s .pre .1) (h .choose .ensures) (k .before .from .given .1) (d .deliver .ensures) (m .message .given .1) (c .refresh .ensures)
+    let s = h .before .before .before .before in
+    left-delivered (s .pre .0) (s .pre .1) (h .choose .ensures) (k .before .from .given .1) (d .prepare .ensures) (g .message .given .1) (n .note .ensures) (o .carry-out .ensures)
 
 pub deliver-lowest-spec : {M : Type 1} → statement M
 deliver-lowest-spec =
@@ -52,10 +64,11 @@ deliver-lowest-spec =
     (λ c. search needs)
     (λ c. search needs)
     returns
-    deliver-requires
+    prepare-requires
     (λ c. search needs)
     (λ c. search needs)
-    refresh-requires
+    note-requires
+    carry-out-requires
     (λ c. search needs)
     returns-2
     (λ c. search needs)

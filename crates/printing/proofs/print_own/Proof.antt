@@ -11,7 +11,7 @@ use Rattle.printing.proofs.print_own.Tie as tie
 small : (c : tie.After-known-told) → let g = c .before .from .given .0 in (g .0 ≤ 128) × (g .1 .0 ≤ 128)
 small c =
     let d = c .before .before .before .before in
-    lowest-small (d .before .before .before .pre .0) _ (d .deliver-lowest .ensures .0) _ _ _ (c .before .from .given .1)
+    lowest-small (d .before .before .before .before .pre .0) _ (d .deliver-lowest .ensures .0) _ _ _ (c .before .from .given .1)
 
 cast-print-delivery : tie.Need-cast-print-delivery
 cast-print-delivery c = omega (arith, small c .0)

@@ -1,101 +1,39 @@
--- `moves::delivering::deliver` meets its contract: 24 where the link's first word is 0, then 22 for each of its reasons, and else the delivery.
+-- `moves::delivering::deliver` meets its contract: a refusal changes nothing, and what is prepared is carried out.
 -- Assumes nothing.
-use native.Mathlib.Omega.{arith}
 use borrow.Author.Needs.{needs}
-use Rattle.moves.proofs.Deliveries.{place-asks, place-small, place-within, none-waits, message-asks, Oldest, oldest-of, step-asks, step-refused, count-full, links-full, carry-asks, delivery-done}
+use Rattle.moves.proofs.Deliveries.{refusal, carry-asks, delivery}
 use Rattle.moves.proofs.delivering.deliver.Statement.{statement}
 use Rattle.moves.proofs.delivering.deliver.Tie as tie
 
-place-requires : tie.Need-place-requires
-place-requires c κs = place-asks (c .pre .0) (c .pre .1 .0) (c .pre .1 .1)
-
-mul-word : tie.Need-mul-word
-mul-word c =
-    let p = c .before .pre in
-    omega (arith, place-small (p .0) (p .1 .0) (p .1 .1) (c .place .ensures))
-
-slice-copy-out-word : tie.Need-slice-copy-out-word
-slice-copy-out-word c =
-    let p = c .before .pre in
-    place-within (p .0) (p .1 .0) (p .1 .1) (c .place .ensures)
+carry-out-requires : tie.Need-carry-out-requires
+carry-out-requires c κs =
+    let g = c .before .before in
+    let p = g .before .before in
+    let s = p .before .before in
+    carry-asks (s .pre .0) (s .args .a) (s .args .b) (s .pre .1 .0) (p .prepare .ensures) (g .message .given .1)
 
 returns : tie.Need-returns
 returns c =
-    let p = c .before .before .before .pre in
-    none-waits (p .0) (p .1 .0) (p .1 .1) (c .before .before .place .ensures) (c .before .word .given) (c .if1 .taken)
-
-message-of-requires : tie.Need-message-of-requires
-message-of-requires c κs =
-    let p = c .before .before .before .pre in
-    message-asks (p .0) (p .1 .0) (p .1 .1) (c .before .before .place .ensures) (c .before .word .given)
-
--- the oldest message, once it is read
-abbrev start : tie.After-message-of → tie.Start
-start c = c .before .before .before .before
-
-oldest : (c : tie.After-message-of) → Oldest (start c .args .area .now) (start c .args .square .now) (start c .args .n) (start c .args .m) (start c .args .a) (start c .args .b) (c .message-of .result)
-oldest c =
-    let p = start c .pre in
-    oldest-of (p .0) (p .1 .0) (p .1 .1) (c .before .before .before .place .ensures) (c .before .before .word .given) (c .before .if1 .left) (c .message-of .ensures)
-
-step-at-requires : tie.Need-step-at-requires
-step-at-requires c κs = step-asks (oldest (c .before))
+    let p = c .before .before .before in
+    let s = p .before .before in
+    refusal (s .pre .0) (s .args .a) (s .args .b) (p .prepare .ensures) (c .before .number .given .1)
 
 returns-2 : tie.Need-returns-2
 returns-2 c =
-    let s = c .before .before in
-    step-refused (oldest (s .before .before)) (s .step-at .ensures) (c .enum-told .given .1)
-
-returns-3 : tie.Need-returns-3
-returns-3 c = count-full (oldest (c .before .before .before .before .before .before .before .before)) (c .before .count-of .ensures) (c .if2 .taken)
-
-has-room-requires : tie.Need-has-room-requires
-has-room-requires c κs =
-    let h = oldest (c .before .before .before .before .before .before .before .before .before) in
-    (h .ready, h .ends .1)
-
-returns-4 : tie.Need-returns-4
-returns-4 c =
-    let d = c .before .before .before .before .before .before .before in
-    let s = d .before .before in
-    links-full (oldest (s .before .before)) (s .step-at .ensures) (d .process .given .1) (c .before .has-room .result) (c .before .has-room .ensures) (c .if3 .taken)
-
-carry-out-requires : tie.Need-carry-out-requires
-carry-out-requires c κs =
-    let o = c .before in
-    let k = o .before .before .before in
-    let d = k .before .before .before .before in
-    let s = d .before .before in
-    carry-asks (oldest (s .before .before)) (s .step-at .ensures) (d .process .given .1) (k .before .count-of .ensures) (k .if2 .left) (o .before .has-room .result) (o .before .has-room .ensures) (o .if3 .left)
-
-returns-5 : tie.Need-returns-5
-returns-5 c =
-    let o = c .before .before .before in
-    let k = o .before .before .before in
-    let d = k .before .before .before .before in
-    let s = d .before .before in
-    delivery-done (oldest (s .before .before)) (s .step-at .ensures) (d .process .given .1) (k .before .count-of .ensures) (k .if2 .left) (o .before .has-room .result) (o .before .has-room .ensures) (o .if3 .left) (c .before .carry-out .ensures)
+    let g = c .before .before .before .before in
+    let p = g .before .before in
+    let s = p .before .before in
+    delivery (s .pre .0) (s .args .a) (s .args .b) (s .pre .1 .0) (p .prepare .ensures) (g .message .given .1) (c .before .carry-out .ensures)
 
 pub deliver-spec : {M : Type 1} → statement M
 deliver-spec =
     tie.close
     (tie.spec
-    place-requires
-    mul-word
-    slice-copy-out-word
-    returns
-    message-of-requires
-    step-at-requires
-    (λ c. search needs)
-    (λ c. search needs)
-    (λ c. search needs)
-    returns-2
     (λ c κs. search needs)
     (λ c. search needs)
-    returns-3
-    has-room-requires
     (λ c. search needs)
-    returns-4
     carry-out-requires
     (λ c. search needs)
-    returns-5)
+    returns
+    (λ c. search needs)
+    returns-2)

@@ -1,77 +1,37 @@
--- `moves::delivering::has_room` meets its contract. The loop's invariant: no link passed would hold a fifth message. The measure is what is left.
+-- `moves::delivering::has_room` meets its contract: a link on which nothing is sent has room, and the others are tested.
 -- Assumes nothing.
-use Prim.Native.Nat.{ℕ, _-_, _≤_, _<_}
-use mathlib.Core.Bool.{true, false}
-use mathlib.Core.Path.{_≡_, sym}
-use native.Mathlib.Omega.{arith}
-use borrow.Author.Tests.{le-leb, lt-leb}
+use Prim.Native.Nat.{ℕ}
+use mathlib.Core.Bool.{Bool, not, _||_}
+use mathlib.Core.Path.{sym}
+use borrow.Author.Needs.{needs}
 use lib.Dec.{leb}
+use Rattle.base.specs.Choice.{value-not, value-yes}
 use Rattle.base.specs.Sums.{allTo}
-use Rattle.base.specs.Prefix.{allTo-none, allTo-more, allTo-stop, allTo-last}
 use Rattle.areas.specs.Area.{runIn}
 use Rattle.moves.specs.Rooms.{loadAfter}
-use Rattle.moves.specs.ReadyLaws.{ready-sizes}
+use Rattle.moves.specs.Delivering.{probesGo, replyGoes}
+use Rattle.moves.proofs.Loads.{some-fails, all-pass, unsent-room}
 use Rattle.moves.proofs.delivering.has_room.Statement.{statement}
 use Rattle.moves.proofs.delivering.has_room.Tie as tie
 
-abbrev Inv-loop : tie.InvT-loop
-Inv-loop area square n m a b probes reply end q₀ q = (1 ≤ q) × (q ≤ end) × (allTo (q - 1) (λ k. leb (loadAfter (runIn area) a b probes reply k) 4) ≡ true)
+-- the room on one link
+abbrev room : tie.Start → ℕ → Bool
+room s q = leb (loadAfter (runIn (s .args .area .now)) (s .args .a) (s .args .b) (s .args .probes) (s .args .reply) q) 4
 
-abbrev μ-loop : tie.MeasureT-loop
-μ-loop area square n m a b probes reply end q₀ q = end - q
+-- and its test where the acknowledgement goes
+abbrev replies : tie.Start → Bool
+replies s = allTo (s .args .n) (λ q. not (replyGoes (s .args .reply) q) || room s q)
 
-add-end : tie.Need-add-end Inv-loop μ-loop
-add-end c = omega (arith, ready-sizes (c .pre .0))
-
-loop-holds : tie.Need-loop-holds Inv-loop μ-loop
-loop-holds c = (omega arith, omega arith, allTo-none (λ k. leb (loadAfter (runIn (c .args .area .now)) (c .args .a) (c .args .b) (c .args .probes) (c .args .reply) k) 4))
-
-load-after-requires : tie.Need-load-after-requires Inv-loop μ-loop
-load-after-requires c κs =
-    let s = c .before .before in
-    (s .pre .0, (s .pre .1, omega (arith, c .loop-test .taken)))
-
--- the test of a load, by what it was found to be
-crowded : (k : ℕ) {l : ℕ} → l ≡ k → 4 < l → leb k 4 ≡ false
-crowded k {l} e h = rw e at (lt-leb l 4 h)
-
-roomy : (k : ℕ) {l : ℕ} → l ≡ k → l ≤ 4 → leb k 4 ≡ true
-roomy k {l} e h = rw e at (le-leb l 4 h)
-
-returns : tie.Need-returns Inv-loop μ-loop
+returns : tie.Need-returns
 returns c =
-    let loop = c .before .before .before .loop in
-    let a = c .before .before .before .before .args in
-    sym (allTo-stop (a .n) (loop .q) (λ k. leb (loadAfter (runIn (a .area .now)) (a .a) (a .b) (a .probes) (a .reply) k) 4) (loop .inv .0) (omega (arith, c .before .before .loop-test .taken)) (crowded (loadAfter (runIn (a .area .now)) (a .a) (a .b) (a .probes) (a .reply) (loop .q)) (c .before .load-after .ensures) (c .if1 .taken)))
+    let s = c .before .before in
+    sym (some-fails (s .args .n) (room s) (replyGoes (s .args .reply)) (value-not {v = replies s} (c .before .reply-has-room .ensures) (c .if1 .taken)))
 
-add-q : tie.Need-add-q Inv-loop μ-loop
-add-q c =
-    let s = c .before .before .before .before in
-    omega (arith, ready-sizes (s .pre .0))
-
-loop-again : tie.Need-loop-again Inv-loop μ-loop
-loop-again c =
-    let loop = c .before .before .before .loop in
-    let a = c .before .before .before .before .args in
-    (omega arith, omega arith, allTo-more (loop .q) (λ k. leb (loadAfter (runIn (a .area .now)) (a .a) (a .b) (a .probes) (a .reply) k) 4) (loop .inv .0) (loop .inv .2) (roomy (loadAfter (runIn (a .area .now)) (a .a) (a .b) (a .probes) (a .reply) (loop .q)) (c .before .load-after .ensures) (c .if1 .left)))
-
-returns-2 : tie.Need-returns-2 Inv-loop μ-loop
+returns-2 : tie.Need-returns-2
 returns-2 c =
-    let loop = c .before .loop in
-    let a = c .before .before .args in
-    sym (allTo-last (a .n) (loop .q) (λ k. leb (loadAfter (runIn (a .area .now)) (a .a) (a .b) (a .probes) (a .reply) k) 4) (omega arith) (loop .inv .2))
+    let s = c .before .before .before in
+    let a = s .args in
+    all-pass (a .n) (room s) (replyGoes (a .reply)) (probesGo (a .square .now) (a .probes) (a .b)) (unsent-room (s .pre .0) (a .a) (a .b) (a .probes) (a .reply) (s .pre .1 .0)) (value-yes {v = replies s} (c .before .before .reply-has-room .ensures) (c .before .if1 .left)) (c .probes-have-room .ensures)
 
 pub has-room-spec : {M : Type 1} → statement M
-has-room-spec =
-    tie.close
-    (tie.spec
-    Inv-loop
-    μ-loop
-    add-end
-    loop-holds
-    load-after-requires
-    returns
-    add-q
-    (λ c. omega arith)
-    loop-again
-    returns-2)
+has-room-spec = tie.close (tie.spec (λ c κs. search needs) returns (λ c κs. search needs) returns-2)

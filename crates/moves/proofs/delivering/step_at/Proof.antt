@@ -1,16 +1,25 @@
 -- `moves::delivering::step_at` meets its contract: the record, the degrees and the sender are those of the run.
 -- Assumes nothing.
 use Prim.Native.Nat.{ℕ, _≤_}
+use mathlib.Core.List.{List}
 use mathlib.Core.Path.{_≡_, sym, ap, _∙_}
 use native.Mathlib.Omega.{arith}
 use borrow.Author.Needs.{needs}
 use borrow.Author.Tests.{eq-eqb, ne-eqb}
+use lib.IntN.{ℤ}
+use Rattle.base.specs.Sums.{countTo}
 use Rattle.tables.specs.declared.Chain.the-variants.{Out, In}
+use Rattle.tables.specs.Waits.{outDegree, inDegree}
 use Rattle.steps.specs.declared.Message.{Message}
 use Rattle.steps.specs.declared.Process.{Process}
 use Rattle.steps.specs.declared.Stepped.{Stepped}
 use Rattle.steps.specs.Step.{stepped, startStepped}
 use Rattle.areas.specs.Area.{runIn}
+use Rattle.areas.specs.Squares.{joinsBy}
+use Rattle.moves.specs.Delivering.{outNeeded, inNeeded}
+use Rattle.moves.specs.Ready.{Ready, right-fit}
+use Rattle.moves.specs.DegreeLaws.{stepped-needed}
+use Rattle.moves.specs.AcceptLaws.{outDegree-most, inDegree-most}
 use Rattle.moves.specs.ReadyLaws.{ready-sizes, ready-degree}
 use Rattle.moves.proofs.Picks.{process-right}
 use Rattle.moves.proofs.delivering.step_at.Statement.{statement}
@@ -32,13 +41,13 @@ returns c =
     rw (eq-eqb (s .args .b) (runIn (s .args .area .now) .start) (c .before .if1 .taken ∙ c .before .before .start-of .ensures))
     (c .start-step .ensures ∙ ap (startStepped (s .args .message) (s .args .a)) (c .before .before .before .process .ensures))
 
-degree-requires : tie.Need-degree-requires
-degree-requires c κs =
+out-needed-requires : tie.Need-out-needed-requires
+out-needed-requires c κs =
     let s = c .before .before .before in
     omega (arith, ready-sizes (s .pre .0), s .pre .1 .1 .0)
 
-degree-requires-2 : tie.Need-degree-requires-2
-degree-requires-2 c κs =
+in-needed-requires : tie.Need-in-needed-requires
+in-needed-requires c κs =
     let s = c .before .before .before .before in
     omega (arith, ready-sizes (s .pre .0), s .pre .1 .1 .0)
 
@@ -47,9 +56,12 @@ cast-step c =
     let s = c .before .before .before .before .before in
     omega (arith, ready-sizes (s .pre .0), s .pre .1 .0)
 
--- the same step, of equal values
-stepped-by : (m : Message) (p : ℕ) {o o′ i i′ : ℕ} {x x′ : Process} {r : Stepped} → r ≡ stepped m o i p x → o ≡ o′ → i ≡ i′ → x ≡ x′ → r ≡ stepped m o′ i′ p x′
-stepped-by m p e f g h = cc
+-- the step by the degrees that it needs, of which no other is known
+step-is : {w : List ℤ} {sq : List ℕ} {n m : ℕ} → Ready w sq n m → (v : Message) (p b : ℕ) → b ≤ 128 → {x : Process} → x ≡ runIn w .process b → {o i : ℕ} → o ≡ outNeeded v x (countTo n (λ q. joinsBy sq Out b q)) → i ≡ inNeeded v x (countTo n (λ q. joinsBy sq In b q)) → {r : Stepped} → r ≡ stepped v o i p x → r ≡ stepped v (outDegree (runIn w .waits) b) (inDegree (runIn w .waits) b) p (runIn w .process b)
+step-is {w} y v p b u {x} e f g h =
+    let d = right-fit w (y .right) .sound in
+    let k = stepped-needed v (outDegree (runIn w .waits) b) (inDegree (runIn w .waits) b) p x (omega (arith, outDegree-most (runIn w .waits) b, d .few)) (omega (arith, inDegree-most (runIn w .waits) b, d .few)) in
+    h ∙ rw (f, g, ready-degree y Out b u, ready-degree y In b u) k ∙ ap (stepped v (outDegree (runIn w .waits) b) (inDegree (runIn w .waits) b) p) e
 
 returns-2 : tie.Need-returns-2
 returns-2 c =
@@ -57,7 +69,7 @@ returns-2 c =
     let s = d .before .before .before in
     let u : s .args .b ≤ 128 = omega (arith, ready-sizes (s .pre .0), s .pre .1 .1 .0) in
     rw (ne-eqb (s .args .b) (runIn (s .args .area .now) .start) (λ e. d .if1 .left (e ∙ sym (d .before .start-of .ensures))))
-    (stepped-by (s .args .message) (s .args .a) (c .step .ensures) (c .before .before .degree .ensures ∙ ready-degree (s .pre .0) Out (s .args .b) u) (c .before .degree2 .ensures ∙ ready-degree (s .pre .0) In (s .args .b) u) (d .before .before .process .ensures))
+    (step-is (s .pre .0) (s .args .message) (s .args .a) (s .args .b) u (d .before .before .process .ensures) (c .before .before .out-needed .ensures) (c .before .in-needed .ensures) (c .step .ensures))
 
 pub step-at-spec : {M : Type 1} → statement M
 step-at-spec =
@@ -68,8 +80,8 @@ step-at-spec =
     cast-start-step
     start-step-requires
     returns
-    degree-requires
-    degree-requires-2
+    out-needed-requires
+    in-needed-requires
     cast-step
     (λ c κs. search needs)
     returns-2)

@@ -9,10 +9,10 @@ use Rattle.runs.proofs.running.drive.Statement.{statement}
 use Rattle.runs.proofs.running.drive.Tie as tie
 
 abbrev Inv-loop : tie.InvT-loop
-Inv-loop area₀ square n m k loads₀ made₀ area loads made = Turn area₀ k area loads made
+Inv-loop area₀ square n m k loads₀ lows₀ made₀ area loads lows made = Turn area₀ k area loads lows made
 
 abbrev μ-loop : tie.MeasureT-loop
-μ-loop area₀ square n m k loads₀ made₀ area loads made = k - made
+μ-loop area₀ square n m k loads₀ lows₀ made₀ area loads lows made = k - made
 
 loop-holds : tie.Need-loop-holds Inv-loop μ-loop
 loop-holds c = turn-first (c .pre .0) (c .pre .1)
@@ -39,19 +39,19 @@ returns-2 c =
 
 deliver-lowest-requires : tie.Need-deliver-lowest-requires Inv-loop μ-loop
 deliver-lowest-requires c κs =
-    let a = c .before .before .before .before .before .before in
-    (turn-ready (a .before .pre .0) (a .loop .inv), a .loop .inv .loaded)
+    let a = c .before .before .before .before .before .before .before in
+    (turn-ready (a .before .pre .0) (a .loop .inv), a .loop .inv .indexed)
 
 same-length-3 : tie.Need-same-length-3 Inv-loop μ-loop
 same-length-3 c =
     let d = c .before .before .before .before in
-    let a = d .before .before .before .before .before .before .before in
+    let a = d .before .before .before .before .before .before .before .before in
     d .deliver-lowest .kept .0 ∙ turn-length (a .before .pre .0) (a .loop .inv)
 
 returns-3 : tie.Need-returns-3 Inv-loop μ-loop
 returns-3 c =
     let d = c .before .before .before .before in
-    let o = d .before .before .before in
+    let o = d .before .before .before .before in
     let i = o .before .before in
     let a = i .before .before in
     turn-refused (a .before .pre .0) (a .loop .inv) (i .is-over .ensures) (o .before .if1 .left) (o .if2 .left) (d .deliver-lowest .ensures) (c .before .number .given .1)
@@ -59,7 +59,7 @@ returns-3 c =
 loop-again : tie.Need-loop-again Inv-loop μ-loop
 loop-again c =
     let d = c .before .before .before in
-    let o = d .before .before .before in
+    let o = d .before .before .before .before in
     let i = o .before .before in
     let a = i .before .before in
     turn-next (a .before .pre .0) (a .loop .inv) (i .is-over .ensures) (o .before .if1 .left) (o .if2 .left) (d .deliver-lowest .ensures) (c .enum-told .given .1)

@@ -1,8 +1,12 @@
 -- `runs::running::run_on` meets its contract: 21 where the test fails, and else the deliveries from the run in the area.
 -- Assumes nothing.
-use mathlib.Core.Path.{_≡_, refl, _∙_}
+use mathlib.Core.Path.{refl, _∙_}
+use native.Mathlib.Omega.{arith}
 use borrow.Author.Needs.{needs}
+use Rattle.areas.specs.Area.{runIn}
 use Rattle.moves.specs.Ready.{Ready}
+use Rattle.moves.specs.ReadyLaws.{ready-n, ready-sizes}
+use Rattle.choosing.specs.LowsLaws.{lows-ones}
 use Rattle.runs.specs.CallLaws.{runOn-21, runOn-on}
 use Rattle.runs.proofs.Tested.{fresh-long, fresh-empty, wrong-area, right-ready}
 use Rattle.runs.proofs.running.run_on.Statement.{statement}
@@ -30,12 +34,15 @@ fill-loads-requires : tie.Need-fill-loads-requires
 fill-loads-requires c κs = (ready (c .before .before .before .before), refl)
 
 drive-requires : tie.Need-drive-requires
-drive-requires c κs = (ready (c .before .before .before .before .before .before .before .before), c .before .before .before .fill-loads .ensures)
+drive-requires c κs =
+    let f = c .before .before .before .before in
+    let y = ready (f .before .before .before .before .before) in
+    (y, (f .fill-loads .ensures, lows-ones (runIn (start (f .before .before .before .before .before) .args .area .now)) (omega (arith, ready-n y, ready-sizes y .0)) _ refl))
 
 returns-2 : tie.Need-returns-2
 returns-2 c =
     let d = c .before in
-    let n = d .before .before .before .before .before .before .before .before .before in
+    let n = d .before .before .before .before .before .before .before .before .before .before in
     let o = runOn-on (start n .args .area .now) (ready n .right) (start n .args .k) in
     (d .drive .ensures .0 ∙ o .0, d .drive .ensures .1 ∙ o .1)
 

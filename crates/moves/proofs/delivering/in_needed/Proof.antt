@@ -1,0 +1,20 @@
+-- `moves::delivering::in_needed` meets its contract, by the kind of the message.
+-- Assumes nothing.
+use borrow.Author.Needs.{needs}
+use Rattle.moves.proofs.delivering.in_needed.Statement.{statement}
+use Rattle.moves.proofs.delivering.in_needed.Tie as tie
+
+returns-2 : tie.Need-returns-2
+returns-2 c = rw (c .before .enum-told2 .given .1) (c .degree-if-unset .ensures)
+
+pub in-needed-spec : {M : Type 1} → statement M
+in-needed-spec =
+    tie.close
+    (tie.spec
+    (λ c. search needs)
+    (λ c. search needs)
+    (λ c κs. search needs)
+    (λ c. search needs)
+    (λ c. search needs)
+    returns-2
+    (λ c. search needs))

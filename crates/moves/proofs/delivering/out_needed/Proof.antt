@@ -1,0 +1,20 @@
+-- `moves::delivering::out_needed` meets its contract, by the kind of the message.
+-- Assumes nothing.
+use borrow.Author.Needs.{needs}
+use Rattle.moves.proofs.delivering.out_needed.Statement.{statement}
+use Rattle.moves.proofs.delivering.out_needed.Tie as tie
+
+returns : tie.Need-returns
+returns c = rw (c .before .enum-told .given .1) (c .degree-if-unset .ensures)
+
+pub out-needed-spec : {M : Type 1} → statement M
+out-needed-spec =
+    tie.close
+    (tie.spec
+    (λ c. search needs)
+    (λ c κs. search needs)
+    (λ c. search needs)
+    (λ c. search needs)
+    returns
+    (λ c. search needs)
+    (λ c. search needs))
