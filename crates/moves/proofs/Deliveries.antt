@@ -132,8 +132,8 @@ module _ {w : List ℤ} {sq : List ℕ} {n m a b : ℕ} {x : Message} (h : Oldes
     room-is : {v : Bool} → v ≡ allTo n (λ i. leb (loadAfter (runIn w) a b p z i) 4) → roomy (runIn w) a b p z ≡ v
     room-is e = rw (ready-n (h .ready)) (sym e)
 
-    pub room-asks : Ready w sq n m × ((b ≤ n) × ((i : ℕ) (c : ℤ) → z ≡ To i c → (1 ≤ i) × (i ≤ n)))
-    room-asks = (h .ready, (h .ends .1, λ i c e. within i c e))
+    pub room-asks : Ready w sq n m × (((1 ≤ b) × (b ≤ n)) × ((i : ℕ) (c : ℤ) → z ≡ To i c → (1 ≤ i) × (i ≤ n)))
+    room-asks = (h .ready, (process-asks .1, λ i c e. within i c e))
       where
         within : (i : ℕ) (c : ℤ) → z ≡ To i c → (1 ≤ i) × (i ≤ n)
         within i c e =

@@ -1,5 +1,6 @@
 pub mod Stores
 pub mod Spreads
+pub mod Walking
 pub mod Picks
 pub mod Loads
 pub mod Holding

@@ -1,12 +1,13 @@
 -- Room on the receiver's links, of which only those on which the step sends something are looked at.
 --   test-one, test-none   == a test of one number, or of none, as a test of 1 to n
+--   test-named            == a test of some numbers, which are named otherwise
 --   some-fails, all-pass  == a test of 1 to n from two tests of some of them each
 --   unsent-room           == a link on which nothing is sent has room
 -- Assumes nothing.
 use Prim.Native.Nat.{ℕ, _≤_}
 use mathlib.Core.Bool.{Bool, true, false, not, _||_, false≢true}
 use mathlib.Core.List.{List}
-use mathlib.Core.Path.{_≡_, refl, sym, ap, _∙_}
+use mathlib.Core.Path.{_≡_, refl, sym, ap, _∙_, fun-ext}
 use native.Mathlib.Omega.{arith}
 use borrow.Author.Tests.{eq-eqb, le-leb}
 use lib.Dec.{eqb, leb}
@@ -39,6 +40,10 @@ module _ (n : ℕ) (v : ℕ → Bool) where
   -- the test of none
   pub test-none : (f : ℕ → Bool) → ((q : ℕ) → f q ≡ false) → true ≡ allTo n (λ q. not (f q) || v q)
   test-none f h = sym (allTo-of n (λ q. not (f q) || v q) (λ q _ _. rw (h q)))
+
+  -- the same numbers, named otherwise
+  pub test-named : (f g : ℕ → Bool) → ((q : ℕ) → f q ≡ g q) → {r : Bool} → r ≡ allTo n (λ q. not (f q) || v q) → r ≡ allTo n (λ q. not (g q) || v q)
+  test-named f g h e = e ∙ ap {A = ℕ → Bool} (λ i. allTo n (λ q. not (i q) || v q)) (fun-ext h)
 
   -- one of those that are looked at fails
   pub some-fails : (f : ℕ → Bool) → allTo n (λ q. not (f q) || v q) ≡ false → allTo n v ≡ false

@@ -1,4 +1,5 @@
 // The delivery of one message in a tested area.
+use crate::chains;
 use crate::moving;
 use areas::squares;
 use areas::words;
@@ -9,6 +10,7 @@ use steps::Process;
 use steps::Reply;
 use steps::Stepped;
 use tables::Chain;
+use tables::reader;
 ghost use mathlib.Core.Path.{_≡_};
 ghost use mathlib.Core.Bool.{true, not, _&&_, _||_};
 ghost use Prim.Native.Nat.{ℕ, _-_, _≤_};
@@ -70,37 +72,64 @@ pub fn is_over(area: &[i32], square: &[u16; 16641], n: usize, m: usize) -> bool
     x.num == 0
 }
 
-// A degree of b, counted only while a flag is 0: each count is a pass over N.
-fn degree_if_unset(square: &[u16; 16641], n: usize, c: Chain, b: usize, flag: u32) -> u32
-    requires { ⌜ (n ≤ 128) × (b ≤ 128) ⌝ }
+// A degree of b, counted only while a flag is 0: each count is a walk of a chain.
+fn degree_if_unset(
+    area: &[i32],
+    square: &[u16; 16641],
+    n: usize,
+    m: usize,
+    c: Chain,
+    b: usize,
+    flag: u32,
+) -> u32
+    requires { ⌜ Ready (now area) (now square) n m ⌝ }
+    requires { ⌜ (1 ≤ b) × (b ≤ n) ⌝ }
     ensures { λ r. ⌜ r ≡ choose (eqb flag 0) (countTo n (λ q. joinsBy (now (square .entry)) c b q)) 0 ⌝ }
 {
     if flag != 0 {
         return 0;
     }
-    squares::degree(square, n, c, b)
+    chains::degree_in(area, square, n, m, c, b)
 }
 
 // The successors of b, if its step on the message broadcasts to them.
-fn out_needed(square: &[u16; 16641], n: usize, b: usize, x: Process, message: Message) -> u32
-    requires { ⌜ (n ≤ 128) × (b ≤ 128) ⌝ }
+fn out_needed(
+    area: &[i32],
+    square: &[u16; 16641],
+    n: usize,
+    m: usize,
+    b: usize,
+    x: Process,
+    message: Message,
+) -> u32
+    requires { ⌜ Ready (now area) (now square) n m ⌝ }
+    requires { ⌜ (1 ≤ b) × (b ≤ n) ⌝ }
     ensures { λ r. ⌜ r ≡ outNeeded message x (countTo n (λ q. joinsBy (now (square .entry)) Out b q)) ⌝ }
 {
     match message {
-        Message::Suc => degree_if_unset(square, n, Chain::Out, b, x.succeeding),
+        Message::Suc => degree_if_unset(area, square, n, m, Chain::Out, b, x.succeeding),
         Message::Pre => 0,
         Message::Ack(_) => 0,
     }
 }
 
 // The predecessors of b, if its step on the message broadcasts to them.
-fn in_needed(square: &[u16; 16641], n: usize, b: usize, x: Process, message: Message) -> u32
-    requires { ⌜ (n ≤ 128) × (b ≤ 128) ⌝ }
+fn in_needed(
+    area: &[i32],
+    square: &[u16; 16641],
+    n: usize,
+    m: usize,
+    b: usize,
+    x: Process,
+    message: Message,
+) -> u32
+    requires { ⌜ Ready (now area) (now square) n m ⌝ }
+    requires { ⌜ (1 ≤ b) × (b ≤ n) ⌝ }
     ensures { λ r. ⌜ r ≡ inNeeded message x (countTo n (λ q. joinsBy (now (square .entry)) In b q)) ⌝ }
 {
     match message {
         Message::Suc => 0,
-        Message::Pre => degree_if_unset(square, n, Chain::In, b, x.preceding),
+        Message::Pre => degree_if_unset(area, square, n, m, Chain::In, b, x.preceding),
         Message::Ack(_) => 0,
     }
 }
@@ -125,8 +154,8 @@ fn step_at(
     if b == start_of(area, square, n, m) {
         return steps::start_step(x, message, a as u32);
     }
-    let out_degree = out_needed(square, n, b, x, message);
-    let in_degree = in_needed(square, n, b, x, message);
+    let out_degree = out_needed(area, square, n, m, b, x, message);
+    let in_degree = in_needed(area, square, n, m, b, x, message);
     steps::step(x, message, out_degree, in_degree, a as u32)
 }
 
@@ -234,26 +263,32 @@ fn reply_has_room(
     }
 }
 
-// No probe goes to q, or the link to it would not hold a fifth message.
-fn probe_has_room(
+// No link on which b sends a probe along a chain would hold a fifth message: only the far ends of the chain's arcs are looked at.
+fn chain_has_room(
     area: &[i32],
     square: &[u16; 16641],
     n: usize,
     m: usize,
+    c: Chain,
     a: usize,
     b: usize,
     probes: Probes,
     reply: Reply,
-    q: usize,
 ) -> bool
     requires { ⌜ Ready (now area) (now square) n m ⌝ }
-    requires { ⌜ (b ≤ n) × (q ≤ n) ⌝ }
-    ensures { λ r. ⌜ r ≡ (not (probesGo (now (square .entry)) probes b q) || leb (loadAfter (runIn (now (area .entry))) a b probes reply q) 4) ⌝ }
+    requires { ⌜ (1 ≤ b) × (b ≤ n) ⌝ }
+    ensures { λ r. ⌜ r ≡ allTo n (λ q. not (joinsBy (now (square .entry)) c b q) || leb (loadAfter (runIn (now (area .entry))) a b probes reply q) 4) ⌝ }
 {
-    if !goes_to(square, probes, b, q) {
-        return true;
+    let mut k = chains::first_in(area, square, n, m, c, b);
+    while k != 0 {
+        let arc = chains::arc_in(area, square, n, m, k);
+        let q = chains::far_of(c, arc);
+        if load_after(area, square, n, m, a, b, probes, reply, q) > 4 {
+            return false;
+        }
+        k = reader::next_of(c, arc);
     }
-    load_after(area, square, n, m, a, b, probes, reply, q) <= 4
+    true
 }
 
 // No link on which b sends a probe would hold a fifth message.
@@ -268,19 +303,14 @@ fn probes_have_room(
     reply: Reply,
 ) -> bool
     requires { ⌜ Ready (now area) (now square) n m ⌝ }
-    requires { ⌜ b ≤ n ⌝ }
+    requires { ⌜ (1 ≤ b) × (b ≤ n) ⌝ }
     ensures { λ r. ⌜ r ≡ allTo n (λ q. not (probesGo (now (square .entry)) probes b q) || leb (loadAfter (runIn (now (area .entry))) a b probes reply q) 4) ⌝ }
 {
-    if let Probes::Nothing = probes {
-        return true;
+    match probes {
+        Probes::Nothing => true,
+        Probes::Sucs => { chain_has_room(area, square, n, m, Chain::Out, a, b, probes, reply) }
+        Probes::Pres => chain_has_room(area, square, n, m, Chain::In, a, b, probes, reply),
     }
-    let end = n + 1;
-    for q in 1..end {
-        if !probe_has_room(area, square, n, m, a, b, probes, reply, q) {
-            return false;
-        }
-    }
-    true
 }
 
 // No link from b would hold a fifth message: only those on which the step sends something are looked at, since every other has room.
@@ -295,7 +325,7 @@ fn has_room(
     reply: Reply,
 ) -> bool
     requires { ⌜ Ready (now area) (now square) n m ⌝ }
-    requires { ⌜ b ≤ n ⌝ }
+    requires { ⌜ (1 ≤ b) × (b ≤ n) ⌝ }
     requires { ⌜ ((p : ℕ) (c : ℤ) → reply ≡ To p c → (1 ≤ p) × (p ≤ n)) ⌝ }
     ensures { λ r. ⌜ r ≡ allTo n (λ q. leb (loadAfter (runIn (now (area .entry))) a b probes reply q) 4) ⌝ }
 {

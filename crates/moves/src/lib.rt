@@ -1,4 +1,5 @@
 // A delivery in a tested run area.
 
+pub mod chains;
 pub mod delivering;
 pub mod moving;

@@ -1,10 +1,12 @@
 // Changes of a tested area: one record, one link, the count, or the probes that a process broadcasts. Each leaves a well-formed area.
+use crate::chains;
 use areas::squares;
 use areas::words;
 use steps::Message;
 use steps::Process;
 use steps::Reply;
 use tables::Chain;
+use tables::reader;
 ghost use mathlib.Core.Path.{_≡_};
 ghost use mathlib.Core.Bool.{true};
 ghost use mathlib.Core.List.{[], _∷_, _++_, List};
@@ -99,18 +101,18 @@ fn probe(c: Chain) -> Message
     }
 }
 
-// b sends suc to all successors, or pre to all predecessors.
+// b sends suc to all successors, or pre to all predecessors: those at the far ends of its chain's arcs.
 pub fn broadcast(area: &mut [i32], square: &[u16; 16641], n: usize, m: usize, c: Chain, b: usize)
     requires { ⌜ Ready (now area) (now square) n m ⌝ }
     requires { ⌜ (1 ≤ b) × (b ≤ n) ⌝ }
     requires { ⌜ ((q : ℕ) → 1 ≤ q → q ≤ n → joins c (runIn (now area) .waits) b q ≡ true → length (runIn (now area) .link b q) ≤ 3) ⌝ }
     ensures { λ _. ⌜ now (area .exit) ≡ keeping (now (area .entry)) (spread c (runIn (now (area .entry))) b) ⌝ }
 {
-    let end = n + 1;
-    for q in 1..end {
-        if squares::joins(square, c, b, q) {
-            push(area, square, n, m, b, q, probe(c));
-        }
+    let mut k = chains::first_in(area, square, n, m, c, b);
+    while k != 0 {
+        let arc = chains::arc_in(area, square, n, m, k);
+        push(area, square, n, m, b, chains::far_of(c, arc), probe(c));
+        k = reader::next_of(c, arc);
     }
 }
 

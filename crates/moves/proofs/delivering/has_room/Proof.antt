@@ -31,7 +31,7 @@ returns-2 : tie.Need-returns-2
 returns-2 c =
     let s = c .before .before .before in
     let a = s .args in
-    all-pass (a .n) (room s) (replyGoes (a .reply)) (probesGo (a .square .now) (a .probes) (a .b)) (unsent-room (s .pre .0) (a .a) (a .b) (a .probes) (a .reply) (s .pre .1 .0)) (value-yes {v = replies s} (c .before .before .reply-has-room .ensures) (c .before .if1 .left)) (c .probes-have-room .ensures)
+    all-pass (a .n) (room s) (replyGoes (a .reply)) (probesGo (a .square .now) (a .probes) (a .b)) (unsent-room (s .pre .0) (a .a) (a .b) (a .probes) (a .reply) (s .pre .1 .0 .1)) (value-yes {v = replies s} (c .before .before .reply-has-room .ensures) (c .before .if1 .left)) (c .probes-have-room .ensures)
 
 pub has-room-spec : {M : Type 1} → statement M
 has-room-spec = tie.close (tie.spec (λ c κs. search needs) returns (λ c κs. search needs) returns-2)

@@ -4,8 +4,14 @@ use borrow.Author.Needs.{needs}
 use Rattle.moves.proofs.delivering.in_needed.Statement.{statement}
 use Rattle.moves.proofs.delivering.in_needed.Tie as tie
 
+returns : tie.Need-returns
+returns c = rw (c .enum-told .given .1)
+
 returns-2 : tie.Need-returns-2
 returns-2 c = rw (c .before .enum-told2 .given .1) (c .degree-if-unset .ensures)
+
+returns-3 : tie.Need-returns-3
+returns-3 c = rw (c .enum-told3 .given .1)
 
 pub in-needed-spec : {M : Type 1} → statement M
 in-needed-spec =
@@ -15,6 +21,6 @@ in-needed-spec =
     (λ c. search needs)
     (λ c κs. search needs)
     (λ c. search needs)
-    (λ c. search needs)
+    returns
     returns-2
-    (λ c. search needs))
+    returns-3)

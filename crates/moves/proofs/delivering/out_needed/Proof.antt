@@ -7,6 +7,12 @@ use Rattle.moves.proofs.delivering.out_needed.Tie as tie
 returns : tie.Need-returns
 returns c = rw (c .before .enum-told .given .1) (c .degree-if-unset .ensures)
 
+returns-2 : tie.Need-returns-2
+returns-2 c = rw (c .enum-told2 .given .1)
+
+returns-3 : tie.Need-returns-3
+returns-3 c = rw (c .enum-told3 .given .1)
+
 pub out-needed-spec : {M : Type 1} → statement M
 out-needed-spec =
     tie.close
@@ -16,5 +22,5 @@ out-needed-spec =
     (λ c. search needs)
     (λ c. search needs)
     returns
-    (λ c. search needs)
-    (λ c. search needs))
+    returns-2
+    returns-3)

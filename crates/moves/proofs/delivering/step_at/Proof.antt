@@ -41,16 +41,6 @@ returns c =
     rw (eq-eqb (s .args .b) (runIn (s .args .area .now) .start) (c .before .if1 .taken ∙ c .before .before .start-of .ensures))
     (c .start-step .ensures ∙ ap (startStepped (s .args .message) (s .args .a)) (c .before .before .before .process .ensures))
 
-out-needed-requires : tie.Need-out-needed-requires
-out-needed-requires c κs =
-    let s = c .before .before .before in
-    omega (arith, ready-sizes (s .pre .0), s .pre .1 .1 .0)
-
-in-needed-requires : tie.Need-in-needed-requires
-in-needed-requires c κs =
-    let s = c .before .before .before .before in
-    omega (arith, ready-sizes (s .pre .0), s .pre .1 .1 .0)
-
 cast-step : tie.Need-cast-step
 cast-step c =
     let s = c .before .before .before .before .before in
@@ -80,8 +70,8 @@ step-at-spec =
     cast-start-step
     start-step-requires
     returns
-    out-needed-requires
-    in-needed-requires
+    (λ c κs. search needs)
+    (λ c κs. search needs)
     cast-step
     (λ c κs. search needs)
     returns-2)

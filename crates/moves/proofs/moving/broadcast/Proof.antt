@@ -1,68 +1,74 @@
--- `moves::moving::broadcast` meets its contract. The loop's invariant: b has sent its probe to those passed to whom it goes. The measure is what is left.
+-- `moves::moving::broadcast` meets its contract. The loop's invariant: b has sent its probe to the far ends of the arcs passed. The measure
+-- is how many arcs are left.
 -- Assumes nothing.
-use Prim.Native.Nat.{_+_, _-_, _≤_}
-use mathlib.Core.Path.{_≡_, sym, _∙_}
-use mathlib.Core.Logic.{⊎-elim}
-use native.Mathlib.Omega.{arith}
 use borrow.Author.Needs.{needs}
-use Rattle.areas.specs.Area.{runIn, keeping}
-use Rattle.moves.specs.Changes.{spreadTo}
-use Rattle.moves.specs.ReadyLaws.{ready-sizes}
-use Rattle.moves.proofs.Spreads as spreads
+use lib.ListN.{length}
+use Rattle.areas.specs.Area.{fieldsIn}
+use Rattle.moves.proofs.Holding.{holding-ready, holding-length}
+use Rattle.moves.proofs.Walking.{toGo, far-is, next-is}
+use Rattle.moves.proofs.Spreads.{Sending, sending-first, sending-arc, sending-asks, sending-on, sending-less, sending-at, sending-last}
 use Rattle.moves.proofs.moving.broadcast.Statement.{statement}
 use Rattle.moves.proofs.moving.broadcast.Tie as tie
 
 abbrev Inv-loop : tie.InvT-loop
-Inv-loop area₀ square n m c b end q₀ area q = (1 ≤ q) × (q ≤ end) × (area ≡ keeping area₀ (spreadTo c (runIn area₀) b (q - 1)))
+Inv-loop area₀ square n m c b k₀ area k = Sending area₀ area c b k
 
 abbrev μ-loop : tie.MeasureT-loop
-μ-loop area₀ square n m c b end q₀ area q = end - q
-
-few : (start : tie.Start Inv-loop μ-loop) → start .args .n ≤ 128
-few start = ready-sizes (start .pre .0) .0
+μ-loop area₀ square n m c b k₀ area k = length (toGo c (fieldsIn area₀) k)
 
 loop-holds : tie.Need-loop-holds Inv-loop μ-loop
-loop-holds c = (omega arith, omega arith, spreads.first (c .pre .0) (c .args .c) (c .args .b) (c .pre .1 .0 .1) (c .pre .1 .1))
+loop-holds c =
+    let s = c .before .before in
+    sending-first (s .pre .0) (s .args .c) (s .args .b) (s .pre .1 .0) (c .first-in .ensures)
 
-joins-requires : tie.Need-joins-requires Inv-loop μ-loop
-joins-requires c κs = let h = few (c .before .before) in omega arith
+arc-in-requires : tie.Need-arc-in-requires Inv-loop μ-loop
+arc-in-requires c κs =
+    let d = c .before in
+    let s = d .before .before .before .before in
+    let l = d .before .loop in
+    (holding-ready (s .pre .0) (l .inv .holds), sending-at (s .pre .0) (s .args .c) (s .args .b) (s .pre .1 .0) (s .pre .1 .1) (l .inv) (d .loop-test .taken))
 
 push-requires : tie.Need-push-requires Inv-loop μ-loop
 push-requires c κs =
-    let start = c .before .before .before .before .before .before in
-    let a = start .args in
-    let loop = c .before .before .before .before .before .loop in
-    spreads.asked (start .pre .0) (a .c) (a .b) (start .pre .1 .0 .1) (start .pre .1 .1) (loop .q - 1) (omega arith) (omega arith) (loop .inv .2) (sym (c .before .before .before .joins .ensures) ∙ c .before .before .if1 .taken) (c .probe .ensures)
+    let f = c .before in
+    let r = f .before .before in
+    let d = r .before .before in
+    let s = d .before .before .before .before in
+    let l = d .before .loop in
+    let x = sending-arc (s .pre .0) (s .args .c) (s .args .b) (s .pre .1 .0) (s .pre .1 .1) (l .inv) (d .loop-test .taken) (r .arc-in .ensures) in
+    sending-asks (s .pre .0) (s .args .c) (s .args .b) (s .pre .1 .0) (s .pre .1 .1) (l .inv) (d .loop-test .taken) (c .probe .ensures) (far-is (s .args .c) (fieldsIn (s .args .area .now)) (l .k) x (f .far-of .ensures))
+
+loop-less : tie.Need-loop-less Inv-loop μ-loop
+loop-less c =
+    let r = c .before .before .before .before .before .before in
+    let d = r .before .before in
+    let s = d .before .before .before .before in
+    let l = d .before .loop in
+    let x = sending-arc (s .pre .0) (s .args .c) (s .args .b) (s .pre .1 .0) (s .pre .1 .1) (l .inv) (d .loop-test .taken) (r .arc-in .ensures) in
+    sending-less (s .pre .0) (s .args .c) (s .args .b) (s .pre .1 .0) (s .pre .1 .1) (l .inv) (d .loop-test .taken) (next-is (s .args .c) (fieldsIn (s .args .area .now)) (l .k) x (c .next-of .ensures))
 
 loop-again : tie.Need-loop-again Inv-loop μ-loop
 loop-again c =
-    let start = c .before .before .before .before in
-    let a = start .args in
-    let loop = c .before .before .before .loop in
-    let q : loop .q + 1 - 1 ≡ loop .q = omega arith in
-    let e = sym (c .before .joins .ensures) in (
-      omega arith,
-      omega arith,
-      rw q
-          (⊎-elim
-          (λ w. spreads.left (start .pre .0) (a .c) (a .b) (start .pre .1 .0 .1) (start .pre .1 .1) (loop .q - 1) (omega arith) (omega arith) (loop .inv .2) (e ∙ w .0 .taken) (w .2 .ensures) (w .5 ∙ w .3 .ensures))
-          (λ w. w .1 ∙ spreads.passed (start .pre .0) (a .c) (a .b) (start .pre .1 .0 .1) (start .pre .1 .1) (loop .q - 1) (omega arith) (omega arith) (loop .inv .2) (e ∙ w .0 .left))
-          (c .if1 .came)),
-    )
+    let p = c .before .before in
+    let f = p .before .before in
+    let r = f .before .before in
+    let d = r .before .before in
+    let s = d .before .before .before .before in
+    let l = d .before .loop in
+    let t = fieldsIn (s .args .area .now) in
+    let x = sending-arc (s .pre .0) (s .args .c) (s .args .b) (s .pre .1 .0) (s .pre .1 .1) (l .inv) (d .loop-test .taken) (r .arc-in .ensures) in
+    sending-on (s .pre .0) (s .args .c) (s .args .b) (s .pre .1 .0) (s .pre .1 .1) (l .inv) (d .loop-test .taken) (p .before .probe .ensures) (far-is (s .args .c) t (l .k) x (f .far-of .ensures)) (p .push .ensures) (next-is (s .args .c) t (l .k) x (c .next-of .ensures))
 
 same-length : tie.Need-same-length Inv-loop μ-loop
 same-length c =
-    let start = c .before .before in
-    let a = start .args in
-    let loop = c .before .loop in
-    spreads.long (start .pre .0) (a .c) (a .b) (start .pre .1 .0 .1) (start .pre .1 .1) (loop .q - 1) (omega arith) (loop .inv .2)
+    let l = c .before in
+    holding-length (l .before .before .before .pre .0) (l .loop .inv .holds)
 
 returns : tie.Need-returns Inv-loop μ-loop
 returns c =
-    let start = c .before .before in
-    let a = start .args in
-    let loop = c .before .loop in
-    spreads.last (start .pre .0) (a .c) (a .b) (start .pre .1 .0 .1) (start .pre .1 .1) (loop .q - 1) (omega arith) (loop .inv .2)
+    let l = c .before in
+    let s = l .before .before .before in
+    sending-last (s .pre .0) (s .args .c) (s .args .b) (s .pre .1 .0) (l .loop .inv) (c .loop-test .left)
 
 pub broadcast-spec : {M : Type 1} → statement M
 broadcast-spec =
@@ -70,13 +76,14 @@ broadcast-spec =
     (tie.spec
     Inv-loop
     μ-loop
-    (λ c. omega (arith, few c))
+    (λ c κs. search needs)
     loop-holds
-    joins-requires
+    arc-in-requires
+    (λ c κs. search needs)
     (λ c κs. search needs)
     push-requires
-    (λ c. omega (arith, few (c .before .before .before .before)))
-    (λ c. omega arith)
+    (λ c κs. search needs)
+    loop-less
     loop-again
     same-length
     returns)

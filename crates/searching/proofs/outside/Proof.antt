@@ -1,0 +1,25 @@
+-- `outside` is safe and ends. The measure is the number of processes that are left. Assumes nothing.
+use Prim.Native.Nat.{_-_}
+use borrow.Author.Needs.{needs}
+use Rattle.searching.proofs.outside.Statement.{statement}
+use Rattle.searching.proofs.outside.Tie as tie
+
+abbrev Inv-loop : tie.InvT-loop
+Inv-loop after before count₀ p₀ count p = Unit {0}
+
+abbrev μ-loop : tie.MeasureT-loop
+μ-loop after before count₀ p₀ count p = 129 - p
+
+pub outside-spec : {M : Type 1} → statement M
+outside-spec =
+    tie.close
+    (tie.spec
+    Inv-loop
+    μ-loop
+    (λ c. search needs)
+    (λ c κs. search needs)
+    (λ c κs. search needs)
+    (λ c. search needs)
+    (λ c. search needs)
+    (λ c. search needs)
+    (λ c. search needs))

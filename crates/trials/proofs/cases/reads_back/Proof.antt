@@ -1,0 +1,36 @@
+-- `reads_back` is safe and ends. The measure is the number of waits that are left. Assumes nothing.
+use Prim.Native.Nat.{_-_}
+use borrow.Author.Needs.{needs}
+use Rattle.trials.proofs.cases.reads_back.Statement.{statement}
+use Rattle.trials.proofs.cases.reads_back.Tie as tie
+
+abbrev Inv-loop : tie.InvT-loop
+Inv-loop table n list m k₀ k = Unit {0}
+
+abbrev μ-loop : tie.MeasureT-loop
+μ-loop table n list m k₀ k = m - k
+
+pub reads-back-spec : {M : Type 1} → statement M
+reads-back-spec =
+    tie.close
+    (tie.spec
+    Inv-loop
+    μ-loop
+    (λ c κs. search needs)
+    (λ c. search needs)
+    (λ c κs. search needs)
+    (λ c. search needs)
+    (λ c. search needs)
+    (λ c κs. search needs)
+    (λ c. search needs)
+    (λ c κs. search needs)
+    (λ c. search needs)
+    (λ c κs. search needs)
+    (λ c. search needs)
+    (λ c. search needs)
+    (λ c κs. search needs)
+    (λ c. search needs)
+    (λ c. search needs)
+    (λ c. search needs)
+    (λ c. search needs)
+    (λ c. search needs))
