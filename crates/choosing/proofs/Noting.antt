@@ -15,7 +15,7 @@ use lib.IntN.{ℤ}
 use Rattle.base.specs.Choice.{Same, same, apart, same?}
 use Rattle.steps.specs.declared.Reply.{Reply}
 use Rattle.steps.specs.declared.Reply.the-variants.{To}
-use Rattle.choosing.specs.Lows.{lower, takenLoads, takenLows, repliedLoads, repliedLows, sentLoads, sentLows, notedLoads, notedLows}
+use Rattle.choosing.specs.Lows.{lower, lowered, takenLoads, takenLows, repliedLoads, repliedLows, sentLoads, sentLows, notedLoads, notedLows}
 
 module _ (l j : List ℕ) (b : ℕ) {z : Reply} where
   pub replied-none : z ≡ Reply.Nothing → (l ≡ repliedLoads l b z) × (j ≡ repliedLows j b z)
@@ -26,14 +26,14 @@ module _ (l j : List ℕ) (b : ℕ) {z : Reply} where
   unfolding repliedLoads repliedLows
   replied-to e f = rw (e, f) (refl, refl)
 
-module _ (l j : List ℕ) (b k : ℕ) where
-  pub probes-none : k ≡ 0 → (set l b (getD l b 0 + k) ≡ sentLoads l b k) × (j ≡ sentLows j b k)
+module _ (l j : List ℕ) (b k v : ℕ) where
+  pub probes-none : k ≡ 0 → (set l b (getD l b 0 + k) ≡ sentLoads l b k) × (j ≡ sentLows j b k v)
   unfolding sentLoads sentLows
   probes-none e = (refl, rw (eq-eqb k 0 e))
 
-  pub probes-some : (k ≡ 0 → ⊥) → (set l b (getD l b 0 + k) ≡ sentLoads l b k) × (set j b 1 ≡ sentLows j b k)
+  pub probes-some : (k ≡ 0 → ⊥) → {o : List ℕ} → o ≡ lowered j b v → (set l b (getD l b 0 + k) ≡ sentLoads l b k) × (o ≡ sentLows j b k v)
   unfolding sentLoads sentLows
-  probes-some e = (refl, rw (ne-eqb k 0 e))
+  probes-some e f = (refl, rw (ne-eqb k 0 e) f)
 
 -- ---- one part after another
 
@@ -60,8 +60,8 @@ module _ (l j : List ℕ) {l′ j′ : List ℕ} (g : Long l j) (a b : ℕ) wher
   probes-asks (To p c) e ub m u =
       ((ap length (e .0) ∙ simp length-set (g .0), ap length (e .1) ∙ simp length-set (g .1)), (ub, rw (e .0) (set-most l b (getD l b 0 + 1) b 513 ub (g .0) (λ f. omega arith) (omega arith)), u))
 
-pub noted-is : (l j : List ℕ) {l₁ j₁ l₂ j₂ l₃ j₃ : List ℕ} (a b : ℕ) (z : Reply) (k : ℕ) → (l₁ ≡ takenLoads l a) × (j₁ ≡ takenLows j a b) → (l₂ ≡ repliedLoads l₁ b z) × (j₂ ≡ repliedLows j₁ b z) → (l₃ ≡ sentLoads l₂ b k) × (j₃ ≡ sentLows j₂ b k) → (l₃ ≡ notedLoads l a b z k) × (j₃ ≡ notedLows j a b z k)
-noted-is l j a b z k t r s = (
+pub noted-is : (l j : List ℕ) {l₁ j₁ l₂ j₂ l₃ j₃ : List ℕ} (a b : ℕ) (z : Reply) (k v : ℕ) → (l₁ ≡ takenLoads l a) × (j₁ ≡ takenLows j a b) → (l₂ ≡ repliedLoads l₁ b z) × (j₂ ≡ repliedLows j₁ b z) → (l₃ ≡ sentLoads l₂ b k) × (j₃ ≡ sentLows j₂ b k v) → (l₃ ≡ notedLoads l a b z k) × (j₃ ≡ notedLows j a b z k v)
+noted-is l j a b z k v t r s = (
   s .0 ∙ ap (λ (o : List ℕ). sentLoads o b k) (r .0 ∙ ap (λ (o : List ℕ). repliedLoads o b z) (t .0)),
-  s .1 ∙ ap (λ (o : List ℕ). sentLows o b k) (r .1 ∙ ap (λ (o : List ℕ). repliedLows o b z) (t .1)),
+  s .1 ∙ ap (λ (o : List ℕ). sentLows o b k v) (r .1 ∙ ap (λ (o : List ℕ). repliedLows o b z) (t .1)),
 )

@@ -34,7 +34,7 @@ use Rattle.choosing.specs.declared.Chosen.{Chosen}
 use Rattle.choosing.specs.declared.Chosen.the-variants.{Nobody, Link}
 use Rattle.choosing.specs.declared.Lowest.{Lowest}
 use Rattle.choosing.specs.Loads.{Loaded, chosenOf}
-use Rattle.choosing.specs.Lows.{Lows, notedLoads, notedLows}
+use Rattle.choosing.specs.Lows.{Lows, Nears, notedLoads, notedLows}
 use Rattle.choosing.specs.Lowest.{lowestAnswer}
 use Rattle.choosing.specs.SenderLaws.{sent-few}
 use Rattle.choosing.specs.LoadLaws.{loaded-noted, loaded-few, loaded-some}
@@ -52,10 +52,10 @@ abbrev pub Left : List ℤ → List ℕ → ℕ → ℕ → Lowest → List ℤ 
 Left w sq n m x v l j =
     (x ≡ lowestAnswer (lowest (runIn w)) (made w .answer)) × ((v ≡ keeping w (made w .run)) × (Loaded (runIn v) l × (Lows (runIn v) j × Ready v sq n m)))
 
-module _ {w : List ℤ} {sq : List ℕ} {n m : ℕ} (y : Ready w sq n m) {l j : List ℕ} (h : Loaded (runIn w) l × Lows (runIn w) j) {c : Chosen} (g : c ≡ chosenOf (lowest (runIn w))) where
+module _ {w : List ℤ} {sq : List ℕ} {n m : ℕ} (y : Ready w sq n m) {l j d : List ℕ} (h : Loaded (runIn w) l × (Lows (runIn w) j × Nears (runIn w .waits) d)) {c : Chosen} (g : c ≡ chosenOf (lowest (runIn w))) where
   -- the delivery leaves the area as it was
   left-same : {k : ℕ} → made w ≡ refused k (runIn w) → Lowest.Refused k ≡ lowestAnswer (lowest (runIn w)) (made w .answer) → Left w sq n m (Lowest.Refused k) w l j
-  left-same p e = (e, (rw p (holding-first y .is), (h .0, (h .1, y))))
+  left-same p e = (e, (rw p (holding-first y .is), (h .0, (h .1 .0, y))))
 
   pub left-none : c ≡ Nobody → Left w sq n m (Lowest.Refused 24) w l j
   left-none i =
@@ -81,14 +81,14 @@ module _ {w : List ℤ} {sq : List ℕ} {n m : ℕ} (y : Ready w sq n m) {l j : 
     this : made w ≡ deliver (runIn w) a b (runIn w .link a b)
     this = deliverOn-pair (runIn w) a b chosen
 
-    -- d is the prepared delivery
-    module _ {d : Prepared} (f : d ≡ preparedOf (runIn w) a b (runIn w .link a b)) where
-      pub left-refused : {k : ℕ} → d ≡ Prepared.Refused k → Left w sq n m (Lowest.Refused k) w l j
+    -- o is the prepared delivery
+    module _ {o : Prepared} (f : o ≡ preparedOf (runIn w) a b (runIn w .link a b)) where
+      pub left-refused : {k : ℕ} → o ≡ Prepared.Refused k → Left w sq n m (Lowest.Refused k) w l j
       left-refused {k} e =
           let p : made w ≡ refused k (runIn w) = this ∙ refused-of (runIn w) a b k (runIn w .link a b) (sym f ∙ e) in
           left-same p (rw (p, chosen) refl)
 
-      module _ {s : Message} {x : Process} {p : Probes} {z : Reply} {k : ℕ} (e : d ≡ Go s x p z k) where
+      module _ {s : Message} {x : Process} {p : Probes} {z : Reply} {k : ℕ} (e : o ≡ Go s x p z k) where
         going : Going (runIn w) n a b s x p z k
         going = going-of y a b joined (sym f ∙ e)
 
@@ -97,16 +97,16 @@ module _ {w : List ℤ} {sq : List ℕ} {n m : ℕ} (y : Ready w sq n m) {l j : 
             let q = lowest-pair (runIn w) chosen in
             let few : runIn w .waits .n ≤ 128 = sound .few in
             let put : k ≤ 128 = omega (arith, going .sent, sent-few (runIn w .waits) b p) in
-            ((h .0 .long, h .1 .long), ((omega (arith, q .0), loaded-some (h .0) a b (q .0 .0) (q .0 .1) (q .1 .0) (q .1 .1) (q .2)), (omega (arith, q .1), omega (arith, loaded-few w (h .0) b (q .1 .0) (q .1 .1)), put)))
+            ((h .0 .long, h .1 .0 .long), ((omega (arith, q .0), loaded-some (h .0) a b (q .0 .0) (q .0 .1) (q .1 .0) (q .1 .1) (q .2)), (omega (arith, q .1), omega (arith, loaded-few w (h .0) b (q .1 .0) (q .1 .1)), put)))
 
         pub carry-asks : Ready w sq n m × Carried (runIn w) a b x p z
         carry-asks = (y, going .carried)
 
         -- the lists and the area after it
-        pub left-delivered : {l′ j′ : List ℕ} {v : List ℤ} → (l′ ≡ notedLoads l a b z k) × (j′ ≡ notedLows j a b z k) → v ≡ keeping w (carriedOut (runIn w) a b x p z) → Left w sq n m (Lowest.Delivered a b s) v l′ j′
+        pub left-delivered : {l′ j′ : List ℕ} {v : List ℤ} → (l′ ≡ notedLoads l a b z k) × (j′ ≡ notedLows j a b z k (getD d b 0)) → v ≡ keeping w (carriedOut (runIn w) a b x p z) → Left w sq n m (Lowest.Delivered a b s) v l′ j′
         left-delivered {l′} {j′} {v} t u =
             let run : made w .run ≡ carriedOut (runIn w) a b x p z = ap (λ (o : Picked). o .run) this ∙ going .run in
             let kept : v ≡ keeping w (made w .run) = u ∙ ap (keeping w) (sym run) in
             let holds = holding-lowest y (holding-first y) kept in
             let now-run : runIn v ≡ carriedOut (runIn w) a b x p z = holding-run y holds ∙ run in
-            (rw (this, chosen, going .answer) refl, (kept, (rw (now-run, t .0) (loaded-noted (runIn w) sound (h .0) a b x p z (going .carried) k (going .sent)), (rw (now-run, t .1) (lows-noted (runIn w) sound chosen (h .1) x p z (going .carried) k (going .sent)), holding-ready y holds))))
+            (rw (this, chosen, going .answer) refl, (kept, (rw (now-run, t .0) (loaded-noted (runIn w) sound (h .0) a b x p z (going .carried) k (going .sent)), (rw (now-run, t .1) (lows-noted (runIn w) sound chosen (h .1 .0) x p z (going .carried) k (going .sent) (h .1 .1)), holding-ready y holds))))

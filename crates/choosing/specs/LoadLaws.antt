@@ -1,15 +1,14 @@
 -- Laws of loads.
 --   loadTo r a k                        == how many messages wait on the links from a to the processes 1 to k
---   loadTo-none, loadTo-next, loadTo-few   == its first values and its bound; loadOf-is says that a load is one of these
+--   loadTo-few                          == its bound; loadOf-is says that a load is one of these
 --   loaded-one                          == with the load of the one sender put anew whose links have changed, a list holds all loads
---   filled-next                         == values held up to an index, and one more
 --   loaded-noted                        == the list that the code keeps holds the loads after a delivery
 --   loaded-few, loaded-some             == a load is small; and not 0 where a message waits
 -- Assumes nothing.
-use Prim.Native.Nat.{ℕ, suc, _+_, _-_, _*_, _≤_, _<_}
+use Prim.Native.Nat.{ℕ, _+_, _-_, _*_, _≤_}
 use mathlib.Core.Bool.{true}
 use mathlib.Core.List.{List, [], _∷_}
-use mathlib.Core.Path.{_≡_, refl, sym, ap, _∙_}
+use mathlib.Core.Path.{_≡_, refl, sym, _∙_}
 use native.Mathlib.Omega.{arith}
 use lib.ListN.{length, getD, set, length-set}
 use lib.Seq.{getD-set-same, getD-set-other}
@@ -47,17 +46,6 @@ pub loadOf-is : (r : Run) (a : ℕ) → loadOf r a ≡ loadTo r a (r .waits .n)
 unfolding loadOf
 loadOf-is r a = refl
 
-pub loadTo-none : (r : Run) (a : ℕ) → loadTo r a 0 ≡ 0
-unfolding sumTo
-loadTo-none r a = refl
-
-pub loadTo-next : (r : Run) (a b : ℕ) → 1 ≤ b → loadTo r a (b + 1 - 1) ≡ loadTo r a (b - 1) + length (r .link a b)
-unfolding sumTo
-loadTo-next r a b l =
-    let q : b + 1 - 1 ≡ suc (b - 1) = omega arith in
-    let s : suc (b - 1) ≡ b = omega arith in
-    rw q (ap (λ (k : ℕ). loadTo r a (b - 1) + length (r .link a k)) s)
-
 pub loadTo-few : (w : List ℤ) (a k : ℕ) → loadTo (runIn w) a k ≤ 4 * k
 loadTo-few w a k = sumTo-most k 4 (λ b. length (runIn w .link a b)) (λ b _ _. runIn-few w a b)
 
@@ -71,13 +59,6 @@ loaded-one {r} {q} {b} d {l} h u v e =
     at : (x : ℕ) → 1 ≤ x → x ≤ r .waits .n → Same x b → getD (set l b v) x 0 ≡ loadOf q x
     at x lo hi (same f _) = rw f (getD-set-same l b v 0 (omega (arith, h .long)) ∙ e)
     at x lo hi (apart f _) = getD-set-other l b x v 0 f ∙ h .loads x lo hi ∙ sym (load-others d x f)
-
-pub filled-next : (f : ℕ → ℕ) (l : List ℕ) (a u : ℕ) → a < length l → ((x : ℕ) → 1 ≤ x → x < a → getD l x 0 ≡ f x) → u ≡ f a → (x : ℕ) → 1 ≤ x → x < a + 1 → getD (set l a u) x 0 ≡ f x
-filled-next f l a u s h e x lo hi = at (same? x a)
-  where
-    at : Same x a → getD (set l a u) x 0 ≡ f x
-    at (same q _) = rw q (getD-set-same l a u 0 s ∙ e)
-    at (apart q _) = getD-set-other l a x u 0 q ∙ h x lo (omega arith)
 
 -- ---- a delivery
 

@@ -16,7 +16,7 @@ use lib.Dec.{eqb, ltb}
 use lib.ListN.{length, getD, set, length-set, replicate, length-replicate, getD-replicate}
 use lib.Seq.{getD-set-same, getD-set-other, set-getD}
 use Rattle.base.specs.Choice.{choose, Tested, passed, failed, tested, Same, same, apart, same?, Below, below, beyond, below?}
-use Rattle.tables.specs.Waits.{Waits, Sound}
+use Rattle.tables.specs.Waits.{Waits, Sound, neighbours}
 use Rattle.tables.specs.WaitsLaws.{neighbours-ends}
 use Rattle.steps.specs.declared.Message.{Message}
 use Rattle.steps.specs.declared.Process.{Process}
@@ -30,8 +30,8 @@ use Rattle.ending.specs.ChooserLaws.{lowest-pair, lowest-first}
 use Rattle.moves.specs.Changes.{answered}
 use Rattle.moves.specs.Delivering.{spreadBy, carriedOut, Carried, probesSent}
 use Rattle.moves.specs.DeliveryLaws.{changed}
-use Rattle.choosing.specs.Lows.{Lows, lower, takenLows, repliedLows, sentLows, notedLows}
-use Rattle.choosing.specs.SenderLaws.{LinksFrom, taken-from, taken-empty, replied-from, replied-other, sent, sent-from, sent-none}
+use Rattle.choosing.specs.Lows.{Lows, Nears, lower, takenLows, repliedLows, sentLows, notedLows}
+use Rattle.choosing.specs.SenderLaws.{LinksFrom, taken-from, taken-empty, replied-from, replied-other, sent, sent-from, sent-none, sent-far}
 
 -- ---- the first bounds
 
@@ -237,9 +237,9 @@ module _ (r : Run) (s : Sound (r .waits)) {a b : ℕ} (e : lowest r ≡ pair a b
           let o = getD (takenLows l a b) b 0 in
           more bounds-taken (replied-from (changed r a b x) b (To p c)) (lower p o) (lower-low p o (n .2) (bound bounds-taken)) (lower-right p o) (λ v _ _ u. replied-other (changed r a b x) b p c v (λ f. absurd (omega (arith, lower-left p o))))
 
-  pub lows-noted : (i : ℕ) → i ≡ probesSent (r .waits) b y → Lows (carriedOut r a b x y z) (notedLows l a b z i)
+  pub lows-noted : (i : ℕ) → i ≡ probesSent (r .waits) b y → {d : List ℕ} → Nears (r .waits) d → Lows (carriedOut r a b x y z) (notedLows l a b z i (getD d b 0))
   unfolding sentLows carriedOut
-  lows-noted i f = at (same? i 0)
+  lows-noted i f {d} near = at (same? i 0)
     where
       q : Run
       q = answered (changed r a b x) b z
@@ -253,8 +253,19 @@ module _ (r : Run) (s : Sound (r .waits)) {a b : ℕ} (e : lowest r ≡ pair a b
       by : (v : ℕ) → 1 ≤ v → v ≤ getD j b 0 → ((o : ℕ) → 1 ≤ o → o ≤ q .waits .n → o < v → sent y q b (spreadBy y q b .count + 1) .link b o ≡ q .link b o) → Lows (carriedOut r a b x y z) (set j b v)
       by v lv uv g = more bounds-replied (sent-from y q w b (spreadBy y q b .count + 1)) v lv uv g .0
 
-      at : Same i 0 → Lows (carriedOut r a b x y z) (choose (eqb i 0) j (set j b 1))
+      low : 1 ≤ getD d b 0
+      low = let p = lowest-pair r e .1 in near .low b (p .0) (p .1)
+
+      -- who is below b's bound is no neighbour
+      far : (o : ℕ) → o < getD d b 0 → Tested (neighbours (q .waits) b o) → sent y q b (spreadBy y q b .count + 1) .link b o ≡ q .link b o
+      far o u (failed t) = sent-far y q w b (spreadBy y q b .count + 1) o t
+      far o u (passed t) = absurd (omega (arith, near .least b o (rw (bounds-replied .1 .0) at t)))
+
+      at : Same i 0 → Lows (carriedOut r a b x y z) (choose (eqb i 0) j (set j b (lower (getD j b 0) (getD d b 0))))
       at (same g t) =
           let u : probesSent (q .waits) b y ≡ 0 = rw (bounds-replied .1 .0) (sym f ∙ g) in
           rw t (rw (set-getD j b 0) at (by (getD j b 0) (bound bounds-replied) (omega arith) (λ v lo hi _. sent-none y q w b (spreadBy y q b .count + 1) u v lo hi)))
-      at (apart g t) = rw t (by 1 (omega arith) (bound bounds-replied) (λ v lo hi u. absurd (omega arith)))
+      at (apart g t) =
+          let old = getD j b 0 in
+          let new = getD d b 0 in
+          rw t (by (lower old new) (lower-low old new (bound bounds-replied) low) (lower-left old new) (λ o lo hi u. far o (omega (arith, lower-right old new)) (tested (neighbours (q .waits) b o))))

@@ -4,8 +4,8 @@
 --   sent y r b c               == b has sent its probes, and the count of deliveries is c
 --   taken-from, replied-from, sent-from   == each part changes the links from one process alone
 --   taken-load, replied-load, sent-load   == the load of that process after it
---   taken-empty, replied-other, sent-none, sent-few   == an empty link stays empty; an acknowledgement goes to one process; where no probe is sent none
---                                 is put on a link; probes go to at most N
+--   taken-empty, replied-other, sent-none, sent-far, sent-few   == an empty link stays empty; an acknowledgement goes to one process; where no probe is
+--                                 sent none is put on a link, and none is put on one to who is no neighbour; probes go to at most N
 -- Assumes nothing.
 use Prim.Native.Nat.{ℕ, _+_, _-_, _≤_}
 use mathlib.Core.Bool.{Bool, true, false, _&&_}
@@ -16,9 +16,9 @@ use borrow.Author.Tests.{eq-eqb, ne-eqb}
 use lib.Dec.{eqb}
 use lib.IntN.{ℤ}
 use lib.ListN.{length, length-append}
-use Rattle.base.specs.Choice.{choose, bit, bit-≤1, Same, same, apart, same?}
+use Rattle.base.specs.Choice.{choose, bit, bit-≤1, or-none, Same, same, apart, same?}
 use Rattle.base.specs.Sums.{sumTo, countTo, spot, spot-at, spot-off, sumTo-cong, sumTo-add, sumTo-spot, sumTo-zero, sumTo-parts, sumTo-most}
-use Rattle.tables.specs.Waits.{Waits, Sound, outDegree, inDegree}
+use Rattle.tables.specs.Waits.{Waits, Sound, neighbours, outDegree, inDegree}
 use Rattle.steps.specs.declared.Message.{Message}
 use Rattle.steps.specs.declared.Process.{Process}
 use Rattle.steps.specs.declared.Probes.{Probes}
@@ -135,6 +135,13 @@ sent-few w b y =
     let f = sumTo-most (w .n) 1 (λ q. length (probesTo w b y q)) (λ q _ _. probes-few w b y q) in
     omega (arith, probes-sum w b y, f)
 
+-- probes go to neighbours
+probes-far : (w : Waits) (b v : ℕ) (y : Probes) → neighbours w b v ≡ false → probesTo w b y v ≡ []
+unfolding probesTo neighbours
+probes-far w b v Probes.Nothing e = refl
+probes-far w b v Sucs e = rw (or-none (w .waits b v) (w .waits v b) e .0)
+probes-far w b v Pres e = rw (or-none (w .waits b v) (w .waits v b) e .1)
+
 abbrev pub sent : Probes → Run → ℕ → ℕ → Run
 sent y r b c = putCount (spreadBy y r b) c
 
@@ -155,6 +162,9 @@ module _ (y : Probes) (r : Run) (s : Sound (r .waits)) (b c : ℕ) where
   sent-load =
       load-more r (sent y r b c) b (λ v. length (probesTo (r .waits) b y v)) (sent-from .waits) (λ v _ _. rw (sent-here v, length-append))
       ∙ rw (probes-sum (r .waits) b y)
+
+  pub sent-far : (v : ℕ) → neighbours (r .waits) b v ≡ false → sent y r b c .link b v ≡ r .link b v
+  sent-far v e = sent-here v ∙ rw (probes-far (r .waits) b v y e) (append-nil (r .link b v))
 
   pub sent-none : probesSent (r .waits) b y ≡ 0 → (v : ℕ) → 1 ≤ v → v ≤ r .waits .n → sent y r b c .link b v ≡ r .link b v
   sent-none e v l u =

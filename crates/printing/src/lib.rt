@@ -21,7 +21,7 @@ ghost use Rattle.areas.specs.Area.{runIn};
 ghost use Rattle.checks.specs.Calls.{deliveryNumber};
 ghost use Rattle.moves.specs.Ready.{Ready};
 ghost use Rattle.choosing.specs.Loads.{Loaded};
-ghost use Rattle.choosing.specs.Lows.{Lows};
+ghost use Rattle.choosing.specs.Lows.{Lows, Nears};
 ghost use Rattle.inputs.specs.Input.{tableEnd, picksIn};
 
 fn print(text: &[u8]) {
@@ -99,15 +99,18 @@ fn print_own(
     m: usize,
     loads: &mut [usize; 129],
     lows: &mut [usize; 129],
+    nears: &[usize; 129],
 ) -> bool
     requires { ⌜ Ready (now area) (now square) n m ⌝ }
     requires { ⌜ Loaded (runIn (now area)) (now loads) ⌝ }
     requires { ⌜ Lows (runIn (now area)) (now lows) ⌝ }
+    requires { ⌜ Nears (runIn (now area) .waits) (now nears) ⌝ }
     ensures { λ _. ⌜ Ready (now (area .exit)) (now (square .entry)) n m ⌝ }
     ensures { λ _. ⌜ Loaded (runIn (now (area .exit))) (now (loads .exit)) ⌝ }
     ensures { λ _. ⌜ Lows (runIn (now (area .exit))) (now (lows .exit)) ⌝ }
+    ensures { λ _. ⌜ Nears (runIn (now (area .exit)) .waits) (now (nears .entry)) ⌝ }
 {
-    match choosing::deliver_lowest(area, square, n, m, loads, lows) {
+    match choosing::deliver_lowest(area, square, n, m, loads, lows, nears) {
         Lowest::Delivered { from, to, message } => {
             print_delivery(true, from as u32, to as u32, message);
             true
@@ -127,10 +130,12 @@ fn run_out(
     m: usize,
     loads: &mut [usize; 129],
     lows: &mut [usize; 129],
+    nears: &[usize; 129],
 )
     requires { ⌜ Ready (now area) (now square) n m ⌝ }
     requires { ⌜ Loaded (runIn (now area)) (now loads) ⌝ }
     requires { ⌜ Lows (runIn (now area)) (now lows) ⌝ }
+    requires { ⌜ Nears (runIn (now area) .waits) (now nears) ⌝ }
     ensures { λ _. ⌜ Ready (now (area .exit)) (now (square .entry)) n m ⌝ }
 {
     let mut turns: usize = 0;
@@ -138,7 +143,7 @@ fn run_out(
         if delivering::is_over(area, square, n, m) {
             return;
         }
-        if !print_own(area, square, n, m, loads, lows) {
+        if !print_own(area, square, n, m, loads, lows, nears) {
             return;
         }
         turns += 1;
@@ -185,8 +190,10 @@ fn finish(area: &mut [i32], square: &[u16; 16641], n: usize, m: usize)
 {
     let mut loads = [0usize; 129];
     choosing::fill_loads(area, square, n, m, &mut loads);
+    let mut nears = [129usize; 129];
+    choosing::fill_nears(area, square, n, m, &mut nears);
     let mut lows = [1usize; 129];
-    run_out(area, square, n, m, &mut loads, &mut lows);
+    run_out(area, square, n, m, &mut loads, &mut lows, &nears);
     print_processes(area, square, n, m);
     print_report(area);
 }

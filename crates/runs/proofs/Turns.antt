@@ -1,7 +1,7 @@
 -- Running on, turn by turn: what holds at the head of a turn, each way out of it, and the next turn.
 --   Turn w k area l j made   == made deliveries are done: the area is w with the run of now in it; l holds its loads, and j bounds of what waits; and what is left to do from here is what was to do from w
 --   Ended w k x area         == what running on from w ends with: the answer x and the area
---   turn-first, turn-ready, turn-length   == the first turn; the area of a turn is ready, and as long as w
+--   turn-first, turn-ready, turn-nears, turn-length   == the first turn; the area of a turn is ready, has the bounds of neighbours of w, and is as long as w
 --   turn-over, turn-spent, turn-refused   == each way out
 --   turn-next              == the next turn
 -- Assumes nothing.
@@ -22,7 +22,8 @@ use Rattle.moves.specs.Ready.{Ready}
 use Rattle.moves.proofs.Holding.{Holding, holding-first, holding-run, holding-ready, holding-length}
 use Rattle.choosing.specs.declared.Lowest.{Lowest}
 use Rattle.choosing.specs.Loads.{Loaded}
-use Rattle.choosing.specs.Lows.{Lows}
+use Rattle.choosing.specs.Lows.{Lows, Nears}
+use Rattle.choosing.specs.NearLaws.{nears-kept}
 use Rattle.choosing.specs.LowestLaws.{lowestAnswer-refused, lowestAnswer-delivered}
 use Rattle.choosing.proofs.OnLink.{Left, holding-lowest}
 use Rattle.runs.specs.RunningLaws.{runFrom-over, runFrom-spent, runFrom-refused, runFrom-next}
@@ -48,6 +49,10 @@ module _ {w : List ℤ} {sq : List ℕ} {n m k : ℕ} (y : Ready w sq n m) where
   module _ {area : List ℤ} {l j : List ℕ} {made : ℕ} (t : Turn w k area l j made) where
     pub turn-ready : Ready area sq n m
     turn-ready = holding-ready y (t .holds)
+
+    -- the bounds of neighbours hold of every run of the table
+    pub turn-nears : {d : List ℕ} → Nears (runIn w .waits) d → Nears (runIn area .waits) d
+    turn-nears h = nears-kept w (runIn area) (t .holds .is) h
 
     pub turn-length : length area ≡ length w
     turn-length = holding-length y (t .holds)

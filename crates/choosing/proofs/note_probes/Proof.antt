@@ -6,10 +6,10 @@ use Rattle.choosing.proofs.note_probes.Statement.{statement}
 use Rattle.choosing.proofs.note_probes.Tie as tie
 
 returns : tie.Need-returns
-returns c = probes-some _ _ _ _ (c .if1 .taken)
+returns c = probes-some _ _ _ _ _ (c .before .before .before .if1 .taken) (c .lower-at .ensures)
 
 returns-2 : tie.Need-returns-2
-returns-2 c = probes-none _ _ _ _ (c .if1 .left)
+returns-2 c = probes-none _ _ _ _ _ (c .if1 .left)
 
 pub note-probes-spec : {M : Type 1} → statement M
 note-probes-spec =
@@ -21,5 +21,6 @@ note-probes-spec =
     (λ c. search needs)
     (λ c. search needs)
     (λ c. search needs)
+    (λ c κs. search needs)
     returns
     returns-2)

@@ -3,7 +3,7 @@
 use Prim.Native.Nat.{_≤_}
 use native.Mathlib.Omega.{arith}
 use borrow.Author.Needs.{needs}
-use Rattle.printing.proofs.Ends.{lowest-small}
+use Rattle.printing.proofs.Ends.{lowest-small, own-left}
 use Rattle.printing.proofs.print_own.Statement.{statement}
 use Rattle.printing.proofs.print_own.Tie as tie
 
@@ -19,6 +19,18 @@ cast-print-delivery c = omega (arith, small c .0)
 cast-print-delivery-2 : tie.Need-cast-print-delivery-2
 cast-print-delivery-2 c = omega (arith, small c .1)
 
+returns : tie.Need-returns
+returns c =
+    let d = c .before .before .before .before .before in
+    let s = d .before .before .before .before in
+    own-left (s .pre .0) (d .deliver-lowest .ensures) (s .pre .1 .1 .1)
+
+returns-2 : tie.Need-returns-2
+returns-2 c =
+    let d = c .before .before .before .before .before in
+    let s = d .before .before .before .before in
+    own-left (s .pre .0) (d .deliver-lowest .ensures) (s .pre .1 .1 .1)
+
 pub print-own-spec : {M : Type 1} → statement M
 print-own-spec =
     tie.close
@@ -31,6 +43,6 @@ print-own-spec =
     (λ c. search needs)
     (λ c κs. search needs)
     (λ c. search needs)
+    returns
     (λ c. search needs)
-    (λ c. search needs)
-    (λ c. search needs))
+    returns-2)

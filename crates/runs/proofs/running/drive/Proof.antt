@@ -4,18 +4,18 @@ use Prim.Native.Nat.{_-_}
 use mathlib.Core.Path.{_∙_}
 use native.Mathlib.Omega.{arith}
 use borrow.Author.Needs.{needs}
-use Rattle.runs.proofs.Turns.{Turn, turn-first, turn-ready, turn-length, turn-over, turn-spent, turn-refused, turn-next}
+use Rattle.runs.proofs.Turns.{Turn, turn-first, turn-ready, turn-nears, turn-length, turn-over, turn-spent, turn-refused, turn-next}
 use Rattle.runs.proofs.running.drive.Statement.{statement}
 use Rattle.runs.proofs.running.drive.Tie as tie
 
 abbrev Inv-loop : tie.InvT-loop
-Inv-loop area₀ square n m k loads₀ lows₀ made₀ area loads lows made = Turn area₀ k area loads lows made
+Inv-loop area₀ square n m k loads₀ lows₀ nears made₀ area loads lows made = Turn area₀ k area loads lows made
 
 abbrev μ-loop : tie.MeasureT-loop
-μ-loop area₀ square n m k loads₀ lows₀ made₀ area loads lows made = k - made
+μ-loop area₀ square n m k loads₀ lows₀ nears made₀ area loads lows made = k - made
 
 loop-holds : tie.Need-loop-holds Inv-loop μ-loop
-loop-holds c = turn-first (c .pre .0) (c .pre .1)
+loop-holds c = turn-first (c .pre .0) (c .pre .1 .0, c .pre .1 .1 .0)
 
 is-over-requires : tie.Need-is-over-requires Inv-loop μ-loop
 is-over-requires c κs = turn-ready (c .before .before .pre .0) (c .before .loop .inv)
@@ -40,7 +40,7 @@ returns-2 c =
 deliver-lowest-requires : tie.Need-deliver-lowest-requires Inv-loop μ-loop
 deliver-lowest-requires c κs =
     let a = c .before .before .before .before .before .before .before in
-    (turn-ready (a .before .pre .0) (a .loop .inv), a .loop .inv .indexed)
+    (turn-ready (a .before .pre .0) (a .loop .inv), (a .loop .inv .indexed .0, (a .loop .inv .indexed .1, turn-nears (a .before .pre .0) (a .loop .inv) (a .before .pre .1 .1 .1))))
 
 same-length-3 : tie.Need-same-length-3 Inv-loop μ-loop
 same-length-3 c =

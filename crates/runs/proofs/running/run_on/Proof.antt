@@ -7,6 +7,7 @@ use Rattle.areas.specs.Area.{runIn}
 use Rattle.moves.specs.Ready.{Ready}
 use Rattle.moves.specs.ReadyLaws.{ready-n, ready-sizes}
 use Rattle.choosing.specs.LowsLaws.{lows-ones}
+use Rattle.choosing.specs.NearLaws.{fresh-nears}
 use Rattle.runs.specs.CallLaws.{runOn-21, runOn-on}
 use Rattle.runs.proofs.Tested.{fresh-long, fresh-empty, wrong-area, right-ready}
 use Rattle.runs.proofs.running.run_on.Statement.{statement}
@@ -31,18 +32,23 @@ ready c =
     right-ready (start c .args .area .now) (t .test .last .1 .0) (t .test .result) (c .n .given .0 .0) (c .n .given .0 .1 .0) (t .test .ensures .0) (c .n .given .1) (t .test .ensures .1)
 
 fill-loads-requires : tie.Need-fill-loads-requires
-fill-loads-requires c κs = (ready (c .before .before .before .before), refl)
+fill-loads-requires c κs = (ready (c .before .before .before .before), (refl, fresh-empty 129 _ refl))
+
+fill-nears-requires : tie.Need-fill-nears-requires
+fill-nears-requires c κs = (ready (c .before .before .before .before .before .before .before .before), fresh-nears _ refl)
 
 drive-requires : tie.Need-drive-requires
 drive-requires c κs =
-    let f = c .before .before .before .before in
+    let g = c .before .before .before .before .before in
+    let f = g .before .before .before .before in
     let y = ready (f .before .before .before .before .before) in
-    (y, (f .fill-loads .ensures, lows-ones (runIn (start (f .before .before .before .before .before) .args .area .now)) (omega (arith, ready-n y, ready-sizes y .0)) _ refl))
+    (y, (f .fill-loads .ensures, (lows-ones (runIn (start (f .before .before .before .before .before) .args .area .now)) (omega (arith, ready-n y, ready-sizes y .0)) _ refl, g .fill-nears .ensures)))
 
 returns-2 : tie.Need-returns-2
 returns-2 c =
     let d = c .before in
-    let n = d .before .before .before .before .before .before .before .before .before .before in
+    let f = d .before .before .before .before .before .before .before .before .before .before in
+    let n = f .before .before .before .before .before in
     let o = runOn-on (start n .args .area .now) (ready n .right) (start n .args .k) in
     (d .drive .ensures .0 ∙ o .0, d .drive .ensures .1 ∙ o .1)
 
@@ -56,6 +62,7 @@ run-on-spec =
     (λ c. search needs)
     returns
     fill-loads-requires
+    fill-nears-requires
     drive-requires
     (λ c. search needs)
     returns-2)
