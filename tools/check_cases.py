@@ -13,7 +13,7 @@ crates/check_cases/src/main.rt. The cases drawn at random have a fixed seed, so 
 """
 import collections, os, sys
 
-from table_vectors import Draws, Table, latest_first, rows_met, shuffled, some_waits, fields_of, words
+from table_vectors import Draws, Table, fields_of, latest_first, rows_met, shuffled, some_waits, store, words
 
 HERE = os.path.join(os.path.dirname(os.path.abspath(__file__)), "..", "crates", "check_cases")
 LONGEST = 20480
@@ -330,15 +330,7 @@ def main():
         return
     if sys.argv[1:] not in ([], ["--check"]):
         sys.exit(__doc__)
-    for name, data in files.items():
-        path = os.path.join(HERE, name)
-        if sys.argv[1:] == ["--check"]:
-            with open(path, "rb") as f:
-                if f.read() != data:
-                    sys.exit("%s is not what this script makes" % name)
-        else:
-            with open(path, "wb") as f:
-                f.write(data)
+    store(HERE, files, sys.argv[1:] == ["--check"])
     print("%d cases, %d bytes in, %d bytes out" % (len(cases), len(files["stdin"]), len(files["stdout"])))
 
 

@@ -534,6 +534,19 @@ def make():
     return {"stdin": stdin + b"R" + word(9) + bytes(5), "stdout": (stdout + "input ends early\n").encode()}
 
 
+def store(folder, files, only_check):
+    """Writes the files, or stops unless they are there as they would be written."""
+    for name, data in files.items():
+        path = os.path.join(folder, name)
+        if only_check:
+            with open(path, "rb") as f:
+                if f.read() != data:
+                    sys.exit("%s is not what this script makes" % name)
+        else:
+            with open(path, "wb") as f:
+                f.write(data)
+
+
 def main():
     files = make()
     if sys.argv[1:] == ["--list"]:
@@ -544,17 +557,8 @@ def main():
         return
     if sys.argv[1:] not in ([], ["--check"]):
         sys.exit(__doc__)
-    told = "%d cases, %d bytes in, %d bytes out" % (len(cases), len(files["stdin"]), len(files["stdout"]))
-    for name, data in files.items():
-        path = os.path.join(HERE, name)
-        if sys.argv[1:] == ["--check"]:
-            with open(path, "rb") as f:
-                if f.read() != data:
-                    sys.exit("%s is not what this script makes" % name)
-        else:
-            with open(path, "wb") as f:
-                f.write(data)
-    print(told)
+    store(HERE, files, sys.argv[1:] == ["--check"])
+    print("%d cases, %d bytes in, %d bytes out" % (len(cases), len(files["stdin"]), len(files["stdout"])))
 
 
 if __name__ == "__main__":
