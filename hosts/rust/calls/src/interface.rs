@@ -1,4 +1,4 @@
-//! The C interface of the proved library: its declarations and the trait over them.
+//! The C interface of the proved library, as the package `pickledune` declares it, and the trait over it.
 //!
 //! Every value that a call gives is written to a `Slot`, which holds neither 0 nor any likely
 //! value before the call and has guard bytes behind the value. So a value that a call forgets
@@ -7,90 +7,8 @@
 
 use crate::{Answer, Calls, LentRecord, Received};
 
-mod declared {
-    extern "C" {
-        pub fn pickledune_read_table(
-            table: *const u8,
-            len: usize,
-            n: *mut usize,
-            m: *mut usize,
-        ) -> u32;
-        pub fn pickledune_write_table(
-            n: usize,
-            list: *const u16,
-            list_len: usize,
-            out: *mut u8,
-            out_len: usize,
-            length: *mut usize,
-        ) -> u32;
-        pub fn pickledune_open(
-            table: *const u8,
-            len: usize,
-            chain: u32,
-            process: usize,
-            arc: *mut usize,
-        ) -> u32;
-        pub fn pickledune_next(table: *const u8, len: usize, chain: u32, arc: usize) -> usize;
-        pub fn pickledune_start(
-            table: *const u8,
-            len: usize,
-            start: usize,
-            area: *mut i32,
-            area_len: usize,
-        ) -> u32;
-        pub fn pickledune_pick(
-            area: *mut i32,
-            area_len: usize,
-            from: usize,
-            to: usize,
-            kind: *mut u32,
-            count: *mut i32,
-        ) -> u32;
-        pub fn pickledune_run_on(
-            area: *mut i32,
-            area_len: usize,
-            k: u32,
-            over: *mut u32,
-            made: *mut u32,
-        ) -> u32;
-        pub fn pickledune_report(
-            area: *const i32,
-            area_len: usize,
-            deliveries: *mut u32,
-            knot: *mut u32,
-            outside: *mut i32,
-            escape: *mut u32,
-            returned: *mut u32,
-        ) -> u32;
-        pub fn pickledune_read_record(
-            area: *const i32,
-            area_len: usize,
-            process: usize,
-            succeeding: *mut u32,
-            preceding: *mut u32,
-            subordinate: *mut u32,
-            cs: *mut i32,
-            num: *mut u32,
-            father: *mut u32,
-        ) -> u32;
-        pub fn pickledune_step(
-            succeeding: *mut u32,
-            preceding: *mut u32,
-            subordinate: *mut u32,
-            cs: *mut i32,
-            num: *mut u32,
-            father: *mut u32,
-            kind: u32,
-            count: i32,
-            out_degree: u32,
-            in_degree: u32,
-            sender: u32,
-            probes: *mut u32,
-            reply_to: *mut u32,
-            reply_count: *mut i32,
-        ) -> u32;
-    }
-}
+#[path = "../../pickledune/src/declared.rs"]
+mod declared;
 use declared::*;
 
 /// The proved library by its C interface.

@@ -1,5 +1,6 @@
 //! The calls of the archive, and all that is unsafe here: each slice goes as a pointer and a number of elements, and each `&mut` as a
 //! pointer. References give what the archive asks: valid, aligned, distinct pointers, used only during the call.
+use crate::declared::*;
 use crate::{Process, Reply};
 
 pub const OUT: u32 = 0;
@@ -7,89 +8,6 @@ pub const IN: u32 = 1;
 pub const SUC: u32 = 1;
 pub const PRE: u32 = 2;
 pub const ACK: u32 = 3;
-
-extern "C" {
-    fn pickledune_read_table(
-        table: *const u8,
-        table_bytes: usize,
-        n: *mut usize,
-        m: *mut usize,
-    ) -> u32;
-    fn pickledune_write_table(
-        n: usize,
-        list: *const u16,
-        entries: usize,
-        out: *mut u8,
-        out_bytes: usize,
-        length: *mut usize,
-    ) -> u32;
-    fn pickledune_open(
-        table: *const u8,
-        table_bytes: usize,
-        chain: u32,
-        process: usize,
-        arc: *mut usize,
-    ) -> u32;
-    fn pickledune_next(table: *const u8, table_bytes: usize, chain: u32, arc: usize) -> usize;
-    fn pickledune_start(
-        table: *const u8,
-        table_bytes: usize,
-        start: usize,
-        area: *mut i32,
-        words: usize,
-    ) -> u32;
-    fn pickledune_pick(
-        area: *mut i32,
-        words: usize,
-        from: usize,
-        to: usize,
-        kind: *mut u32,
-        count: *mut i32,
-    ) -> u32;
-    fn pickledune_run_on(
-        area: *mut i32,
-        words: usize,
-        k: u32,
-        over: *mut u32,
-        made: *mut u32,
-    ) -> u32;
-    fn pickledune_report(
-        area: *const i32,
-        words: usize,
-        deliveries: *mut u32,
-        knot: *mut u32,
-        outside: *mut i32,
-        escape: *mut u32,
-        returned: *mut u32,
-    ) -> u32;
-    fn pickledune_read_record(
-        area: *const i32,
-        words: usize,
-        process: usize,
-        succeeding: *mut u32,
-        preceding: *mut u32,
-        subordinate: *mut u32,
-        cs: *mut i32,
-        num: *mut u32,
-        father: *mut u32,
-    ) -> u32;
-    fn pickledune_step(
-        succeeding: *mut u32,
-        preceding: *mut u32,
-        subordinate: *mut u32,
-        cs: *mut i32,
-        num: *mut u32,
-        father: *mut u32,
-        kind: u32,
-        count: i32,
-        out_degree: u32,
-        in_degree: u32,
-        sender: u32,
-        probes: *mut u32,
-        reply_to: *mut u32,
-        reply_count: *mut i32,
-    ) -> u32;
-}
 
 // SAFETY, for each call below: the pointers come from references and slices that live through the call, and the borrow checker keeps
 // every `&mut` among them apart from the others. The archive asks nothing of the values behind them.

@@ -19,6 +19,7 @@ use std::error::Error;
 use std::fmt;
 
 mod archive;
+mod declared;
 
 /// Processes are numbered 1 to at most this.
 pub const MAX_PROCESSES: usize = 128;
