@@ -1,4 +1,1 @@
 pub mod Signs
-pub mod Ways
-pub mod Loading
-pub mod Whole

@@ -17,7 +17,7 @@ use lib.Signed.{mag, leZ, nonNeg}
 use mir.Syntax.{w32}
 use mir.Val.{toZ, ofZ}
 use borrow.Author.Tests.{eq-eqb, ne-eqb, le-ltb}
-use Rattle.base.specs.Choice.{Same, same, apart, same?}
+use Rattle.base.specs.ChoiceLaws.{Same, same, apart, same?}
 use Rattle.steps.proofs.Counts.{signed-back}
 use Rattle.areas.specs.Area.{sameWord}
 

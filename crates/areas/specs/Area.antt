@@ -1,5 +1,5 @@
 -- The run area in words (01, "Run and links"; docs/LAYOUT.md), as definitions that code and promises share.
---   areaLength n m       == "start needs 8N + 20M + 16"
+--   areaOf t             == the words that start needs for a table; fieldTotalOf t, its fields
 --   wordOf t r k         == word k of the area that holds the table with fields t and the run r
 --   stored t r w         == the area w with that table and run in it: "Surplus words are not touched."
 --   recordPlace, linkPlace, linkOf   == where a record, an arc's links and the link of a pair begin
@@ -9,46 +9,48 @@
 --   areaRight w          == the area is *well formed* (01's term)
 -- Assumes nothing.
 use Prim.Native.Nat.{ℕ, zero, suc, _+_, _-_, _*_, _/_, _%_}
-use mathlib.Core.Bool.{Bool, true, false, not, _&&_, _||_}
+use mathlib.Core.Bool.{Bool, false, _&&_}
 use mathlib.Core.List.{List, [], _∷_, _++_}
 use lib.Dec.{eqb, leb, ltb}
 use lib.ListN.{length, getD, drop}
 use lib.IntN.{ℤ, pos, negsuc, _+ℤ_, _-ℤ_, natAbs}
-use Rattle.base.specs.Choice.{choose, bit}
+use Rattle.base.specs.Choice.{choose}
 use Rattle.base.specs.Sums.{allTo}
-use Rattle.tables.specs.Table.{Fields, nOf, mOf, arcAt}
+use Rattle.tables.specs.Table.{Fields, nOf, mOf, arcAt, saysWait, isProcess}
 use Rattle.tables.specs.Reading.{sizesRight, fieldsNumber}
-use Rattle.tables.specs.Waits.{Waits, waitsOf, neighbours}
+use Rattle.tables.specs.Waits.{waitsOf, neighbours}
 use Rattle.steps.specs.declared.Message.{Message}
 use Rattle.steps.specs.declared.Message.the-variants.{Suc, Pre, Ack}
 use Rattle.steps.specs.declared.Process.{Process}
 use Rattle.steps.specs.Step.{idle}
 use Rattle.checks.specs.Run.{Run, wellFormed}
+use Rattle.areas.specs.Places.{startPlace, countPlace, headSize, fieldTotal, fieldPlace, recordSize, recordStart, linkSlots, linkSize, arcSize}
+use Rattle.areas.specs.Places.{linkStart, areaLength}
 
 -- ---- where things stand
 
--- "start needs 8N + 20M + 16"
-abbrev pub areaLength : ℕ → ℕ → ℕ
-areaLength n m = 16 + 8 * n + 20 * m
+-- how many fields a table has
+abbrev pub fieldTotalOf : Fields → ℕ
+fieldTotalOf t = fieldTotal (nOf t) (mOf t)
 
--- the copied table begins at word 14, a word for each field; it has 2 + 2N + 4M fields
-abbrev pub fieldPlace : ℕ → ℕ
-fieldPlace j = 14 + j
+-- the words that start needs for a table
+abbrev pub areaOf : Fields → ℕ
+areaOf t = areaLength (nOf t) (mOf t)
 
--- the record of process p: six words
+-- the record of process p
 unfoldable pub recordPlace : Fields → ℕ → ℕ
-recordPlace t p = 16 + 2 * nOf t + 4 * mOf t + 6 * (p - 1)
+recordPlace t p = recordStart (nOf t) (mOf t) p
 
--- the two links of arc k, eight words each: from its from to its to, and back
+-- the two links of arc k: from its from to its to, and back
 unfoldable pub linkPlace : Fields → ℕ → ℕ
-linkPlace t k = 16 + 8 * nOf t + 4 * mOf t + 16 * (k - 1)
+linkPlace t k = linkStart (nOf t) (mOf t) k
 
 -- the arc from a to b, 0 if there is none: the lowest number of 1 to m with these ends
 unfoldable pub arcIn : Fields → ℕ → ℕ → ℕ → ℕ
 arcIn t a b zero = 0
 arcIn t a b (suc m) =
     choose (eqb (arcIn t a b m) 0)
-    (choose (eqb (arcAt t (suc m) .from) a && eqb (arcAt t (suc m) .to) b) (suc m) 0)
+    (choose (saysWait t a b (suc m)) (suc m) 0)
     (arcIn t a b m)
 
 unfoldable pub arcOf : Fields → ℕ → ℕ → ℕ
@@ -56,7 +58,7 @@ arcOf t a b = arcIn t a b (mOf t)
 
 -- the first word of the link from a to b: the first link of the arc from a to b if there is one, else the second of the arc from b to a
 unfoldable pub linkOf : Fields → ℕ → ℕ → ℕ
-linkOf t a b = choose (eqb (arcOf t a b) 0) (linkPlace t (arcOf t b a) + 8) (linkPlace t (arcOf t a b))
+linkOf t a b = choose (eqb (arcOf t a b) 0) (linkPlace t (arcOf t b a) + linkSize) (linkPlace t (arcOf t a b))
 
 -- ---- what the words hold
 
@@ -64,7 +66,7 @@ linkOf t a b = choose (eqb (arcOf t a b) 0) (linkPlace t (arcOf t b a) + 8) (lin
 abbrev pub knotCheck : ℤ
 knotCheck = pos 1
 
--- words 0 to 13: which check, the start, the accepted deliveries; eleven words are kept free and hold 0
+-- the words before the table: which check, the start, the accepted deliveries; the others are kept free and hold 0
 abbrev pub headWord : Run → ℕ → ℤ
 headWord r zero = knotCheck
 headWord r (suc zero) = pos (r .start)
@@ -75,7 +77,7 @@ headWord r (suc (suc (suc k))) = pos 0
 unfoldable pub flagsOf : Process → ℕ
 flagsOf x = x .succeeding + 2 * x .preceding + 4 * x .subordinate
 
--- a record: flags, cs, num, father; two words are kept free and hold 0
+-- a record: flags, cs, num, father; the other words are kept free and hold 0
 abbrev pub recordWord : Process → ℕ → ℤ
 recordWord x zero = pos (flagsOf x)
 recordWord x (suc zero) = x .cs
@@ -89,32 +91,32 @@ codeOf Suc = pos 1
 codeOf Pre = pos 2
 codeOf (Ack c) = pos 256 +ℤ c
 
--- a link: four words for messages, oldest first, 0 past them; four words are kept free and hold 0
+-- a link: a word for each message, oldest first, 0 past them; the words behind the slots are kept free and hold 0
 unfoldable pub slotWord : List Message → ℕ → ℤ
 slotWord [] j = pos 0
 slotWord (m ∷ ms) zero = codeOf m
 slotWord (m ∷ ms) (suc j) = slotWord ms j
 
 unfoldable pub linkWord : List Message → ℕ → ℤ
-linkWord ms j = choose (ltb j 4) (slotWord ms j) (pos 0)
+linkWord ms j = choose (ltb j linkSlots) (slotWord ms j) (pos 0)
 
 -- the arc k has the link back from its to to its from, unless that link stands with another arc or is the first link itself (a loop)
 unfoldable pub hasBack : Fields → ℕ → Bool
 hasBack t k = eqb (arcOf t (arcAt t k .to) (arcAt t k .from)) 0
 
--- the sixteen words of arc k's links
+-- the words of arc k's links
 unfoldable pub arcWord : Fields → Run → ℕ → ℕ → ℤ
 arcWord t r k j =
-    choose (ltb j 8) (linkWord (r .link (arcAt t k .from) (arcAt t k .to)) j)
-    (choose (hasBack t k) (linkWord (r .link (arcAt t k .to) (arcAt t k .from)) (j - 8)) (pos 0))
+    choose (ltb j linkSize) (linkWord (r .link (arcAt t k .from) (arcAt t k .to)) j)
+    (choose (hasBack t k) (linkWord (r .link (arcAt t k .to) (arcAt t k .from)) (j - linkSize)) (pos 0))
 
 -- word k of an area
 unfoldable pub wordOf : Fields → Run → ℕ → ℤ
 wordOf t r k =
-    choose (ltb k 14) (headWord r k)
-    (choose (ltb k (recordPlace t 1)) (pos (t (k - 14)))
-    (choose (ltb k (linkPlace t 1)) (recordWord (r .process ((k - recordPlace t 1) / 6 + 1)) ((k - recordPlace t 1) % 6))
-    (arcWord t r ((k - linkPlace t 1) / 16 + 1) ((k - linkPlace t 1) % 16))))
+    choose (ltb k headSize) (headWord r k)
+    (choose (ltb k (recordPlace t 1)) (pos (t (k - headSize)))
+    (choose (ltb k (linkPlace t 1)) (recordWord (r .process ((k - recordPlace t 1) / recordSize + 1)) ((k - recordPlace t 1) % recordSize))
+    (arcWord t r ((k - linkPlace t 1) / arcSize + 1) ((k - linkPlace t 1) % arcSize))))
 
 -- the words f 0 to f (n − 1)
 unfoldable pub wordsTo : ℕ → (ℕ → ℤ) → List ℤ
@@ -123,7 +125,7 @@ wordsTo (suc n) f = f zero ∷ wordsTo n (λ k. f (suc k))
 
 -- "copies into it all that later calls use. Surplus words are not touched."
 unfoldable pub stored : Fields → Run → List ℤ → List ℤ
-stored t r w = wordsTo (areaLength (nOf t) (mOf t)) (wordOf t r) ++ drop (areaLength (nOf t) (mOf t)) w
+stored t r w = wordsTo (areaOf t) (wordOf t r) ++ drop (areaOf t) w
 
 -- ---- what is read from an area
 
@@ -131,19 +133,15 @@ stored t r w = wordsTo (areaLength (nOf t) (mOf t)) (wordOf t r) ++ drop (areaLe
 abbrev pub numberAt : List ℤ → ℕ → ℕ
 numberAt w k = natAbs (getD w k (pos 0))
 
--- how many fields a table has
-abbrev pub fieldCount : Fields → ℕ
-fieldCount t = 2 + 2 * nOf t + 4 * mOf t
-
 -- fields up to the table's last, 0 past it
 unfoldable pub cut : Fields → Fields
-cut t j = choose (ltb j (fieldCount t)) (t j) 0
+cut t j = choose (ltb j (fieldTotalOf t)) (t j) 0
 
 -- the fields of the copied table
 unfoldable pub fieldsIn : List ℤ → Fields
 fieldsIn w = cut (λ j. numberAt w (fieldPlace j))
 
--- a flag of the flags' word: 0 succeeding, 1 preceding, 2 subordinate
+-- the record at word k: the three flags of its first word, then cs, num and father
 abbrev pub recordAt : List ℤ → ℕ → Process
 recordAt w k =
     record {
@@ -169,10 +167,10 @@ unfoldable pub runIn : List ℤ → Run
 runIn w =
     record {
       waits = waitsOf (fieldsIn w);
-      start = numberAt w 1;
-      count = numberAt w 2;
-      process = λ p. choose (leb 1 p && leb p (nOf (fieldsIn w))) (recordAt w (recordPlace (fieldsIn w) p)) idle;
-      link = λ a b. choose (neighbours (waitsOf (fieldsIn w)) a b) (messagesAt w (linkOf (fieldsIn w) a b) 4) [];
+      start = numberAt w startPlace;
+      count = numberAt w countPlace;
+      process = λ p. choose (isProcess (nOf (fieldsIn w)) p) (recordAt w (recordPlace (fieldsIn w) p)) idle;
+      link = λ a b. choose (neighbours (waitsOf (fieldsIn w)) a b) (messagesAt w (linkOf (fieldsIn w) a b) linkSlots) [];
     }
 
 -- the area with another run of the same table in it
@@ -194,13 +192,13 @@ holdsWords w f n = allTo n (λ k. sameWord (getD w (k - 1) (pos 0)) (f (k - 1)))
 
 -- "Each field is 16 bits"
 unfoldable pub fieldsFit : Fields → Bool
-fieldsFit t = allTo (fieldCount t) (λ j. leb (t (j - 1)) 65535)
+fieldsFit t = allTo (fieldTotalOf t) (λ j. leb (t (j - 1)) 65535)
 
 -- "It is *well formed* if it has the words that start needs for its N and M, N and M are in range, the copied table meets the section above,
 -- every value is in the range just given, the start is 1 to N, every father is 0 or a neighbour, and every link holds at most 4 messages
 -- of the three kinds with counts in range": the sizes, the length, the table, the values of the run, and no word but those of the layout
 unfoldable pub areaRight : List ℤ → Bool
 areaRight w =
-    leb 16 (length w) && sizesRight (fieldsIn w) && leb (areaLength (nOf (fieldsIn w)) (mOf (fieldsIn w))) (length w) &&
+    leb (fieldPlace 2) (length w) && sizesRight (fieldsIn w) && leb (areaOf (fieldsIn w)) (length w) &&
     fieldsFit (fieldsIn w) && eqb (fieldsNumber (fieldsIn w)) 0 && wellFormed (runIn w) &&
-    holdsWords w (wordOf (fieldsIn w) (runIn w)) (areaLength (nOf (fieldsIn w)) (mOf (fieldsIn w)))
+    holdsWords w (wordOf (fieldsIn w) (runIn w)) (areaOf (fieldsIn w))

@@ -1,8 +1,6 @@
 -- Well-formed areas.
---   AreaRight w         == what `areaRight w` says, part by part, by areaRight-P
---   Table t             == the fields of a table that meets 01's section "Wait table", and no others
+--   areaRight-P         == what `areaRight w` says, part by part
 --   areaRight-table     == the table of a well-formed area
---   right-fields        == no field of a right table is over 512
 --   areaRight-stored    == an area with a right table and a well-formed run of it is well formed
 --   stored-same         == a well-formed area is the area with its own table and run in it
 -- Assumes nothing.
@@ -13,50 +11,57 @@ use mathlib.Core.Path.{_≡_, refl, sym}
 use mathlib.Core.Logic.{_⊎_, inl, inr}
 use native.Mathlib.Omega.{arith}
 use lib.Dec.{leb}
-use lib.ListN.{length, getD}
+use lib.ListN.{length}
 use lib.IntN.{ℤ, pos}
-use Rattle.base.specs.Choice.{Same, same, apart, same?, Below, below, beyond, below?}
+use Rattle.base.specs.ChoiceLaws.{Same, same, apart, same?, Below, below, beyond, below?}
 use Rattle.tables.specs.declared.Chain.the-variants.{Out, In}
 use Rattle.tables.specs.Table.{Fields, nOf, mOf, first, arcAt, next}
 use Rattle.tables.specs.Reading.{fieldsNumber}
 use Rattle.tables.specs.Layout.{Right}
 use Rattle.tables.specs.LayoutLaws.{sizesRight-P, fieldsNumber-P}
 use Rattle.checks.specs.Run.{Run, wellFormed}
-use Rattle.areas.specs.Area.{fieldCount, wordOf, stored, fieldsIn, runIn, fieldsFit, areaRight}
-use Rattle.areas.specs.Held.{Shut, Held}
-use Rattle.areas.specs.StoredLaws.{areaOf, stored-length, stored-word, stored-of}
-use Rattle.areas.specs.Tells.{Tells, tells-map, tells-le, tells-eq, tells-id, tells-both, tells-below}
-use Rattle.areas.specs.WordTests.{holdsWords-P}
-use Rattle.areas.specs.Reads.{fieldsIn-shut}
+use Rattle.areas.specs.Places.{fieldPlace}
+use Rattle.areas.specs.Area.{fieldTotalOf, areaOf, wordOf, stored, fieldsIn, runIn, fieldsFit, areaRight}
+use Rattle.areas.specs.Contained.{Contained}
+use Rattle.areas.specs.AreaFacts.{AreaRight, RightTable}
+use Rattle.areas.specs.Tells.{Tells}
+use Rattle.areas.specs.TellsLaws.{tells-map, tells-le, tells-eq, tells-id, tells-both, tells-below}
+use Rattle.areas.specs.StoredLaws.{stored-length, stored-word, stored-of}
 use Rattle.areas.specs.ReadLaws.{fieldsIn-stored, runIn-stored}
+use Rattle.areas.specs.WordTestLaws.{holdsWords-P}
+use Rattle.areas.specs.RunInLaws.{fieldsIn-shut}
 
 -- ---- the fields of a right table
 
-fieldsFit-P : (t : Fields) → Tells (fieldsFit t) ((j : ℕ) → j < fieldCount t → t j ≤ 65535)
+fieldsFit-P : (t : Fields) → Tells (fieldsFit t) ((j : ℕ) → j < fieldTotalOf t → t j ≤ 65535)
 unfolding fieldsFit
-fieldsFit-P t = tells-below (fieldCount t) (λ j. leb (t j) 65535) (λ j. t j ≤ 65535) (λ j. tells-le (t j) 65535)
+fieldsFit-P t = tells-below (fieldTotalOf t) (λ j. leb (t j) 65535) (λ j. t j ≤ 65535) (λ j. tells-le (t j) 65535)
 
 -- ---- an area part by part
-
-pub record AreaRight (w : List ℤ) : Type 0 where
-  pub right : Right (fieldsIn w)
-  pub long : areaOf (fieldsIn w) ≤ length w
-  pub fields : (j : ℕ) → j < fieldCount (fieldsIn w) → fieldsIn w j ≤ 65535
-  pub run : wellFormed (runIn w) ≡ true
-  pub words : (k : ℕ) → k < areaOf (fieldsIn w) → getD w k (pos 0) ≡ wordOf (fieldsIn w) (runIn w) k
 
 pub areaRight-P : (w : List ℤ) → Tells (areaRight w) (AreaRight w)
 unfolding areaRight
 areaRight-P w =
     tells-map
-    (λ s. record { right = fieldsNumber-P t (s .0 .0 .0 .0 .0 .1) .0 (s .0 .0 .1); long = s .0 .0 .0 .0 .1; fields = s .0 .0 .0 .1; run = s .0 .1; words = s .1 })
+    (λ s. record {
+      right = fieldsNumber-P t (s .0 .0 .0 .0 .0 .1) .0 (s .0 .0 .1);
+      long = s .0 .0 .0 .0 .1;
+      fields = s .0 .0 .0 .1;
+      run = s .0 .1;
+      words = s .1;
+    })
     (λ s. ((((((enough s, s .right .sizes), s .long), s .fields), fieldsNumber-P t (s .right .sizes) .1 (s .right)), s .run), s .words))
-    (tells-both (tells-both (tells-both (tells-both (tells-both (tells-both (tells-le 16 (length w)) (sizesRight-P t)) (tells-le (areaOf t) (length w))) (fieldsFit-P t)) (tells-eq (fieldsNumber t) 0)) (tells-id (wellFormed (runIn w)))) (holdsWords-P w (wordOf t (runIn w)) (areaOf t)))
+    (tells-both
+    (tells-both
+    (tells-both (tells-both (tells-both (tells-both (tells-le (fieldPlace 2) (length w)) (sizesRight-P t)) (tells-le (areaOf t) (length w))) (fieldsFit-P t))
+    (tells-eq (fieldsNumber t) 0))
+    (tells-id (wellFormed (runIn w))))
+    (holdsWords-P w (wordOf t (runIn w)) (areaOf t)))
   where
     t : Fields
     t = fieldsIn w
 
-    enough : AreaRight w → 16 ≤ length w
+    enough : AreaRight w → fieldPlace 2 ≤ length w
     enough s = omega (arith, s .long)
 
 -- ---- an area and what it holds
@@ -67,13 +72,8 @@ stored-same w e =
     let r = areaRight-P w .0 e in
     sym (stored-of (fieldsIn w) (runIn w) w w (pos 0) (r .long) refl (r .words) (λ k u. refl))
 
--- a table that meets 01's section "Wait table", with no field past its last
-pub record Table (t : Fields) : Type 0 where
-  pub right : Right t
-  pub shut : Shut t
-
 -- the table of a well-formed area
-pub areaRight-table : (w : List ℤ) → areaRight w ≡ true → Table (fieldsIn w)
+pub areaRight-table : (w : List ℤ) → areaRight w ≡ true → RightTable (fieldsIn w)
 areaRight-table w e = record { right = areaRight-P w .0 e .right; shut = fieldsIn-shut w }
 
 -- one of two neighbouring numbers
@@ -91,7 +91,7 @@ data FieldAt (t : Fields) (j : ℕ) : Type 0 where
   an-end : (k : ℕ) → 1 ≤ k → k ≤ mOf t → (j ≡ 2 * nOf t + 4 * k - 2) ⊎ (j ≡ 2 * nOf t + 4 * k - 2 + 1) → FieldAt t j
   a-next : (k : ℕ) → 1 ≤ k → k ≤ mOf t → (j ≡ 2 * nOf t + 4 * k) ⊎ (j ≡ 2 * nOf t + 4 * k + 1) → FieldAt t j
 
-fieldAt? : (t : Fields) (j : ℕ) → j < fieldCount t → FieldAt t j
+fieldAt? : (t : Fields) (j : ℕ) → j < fieldTotalOf t → FieldAt t j
 fieldAt? t j h = at (below? j 2) (below? j (2 + 2 * nOf t)) (below? ((j - (2 + 2 * nOf t)) % 4) 2)
   where
     at : Below j 2 → Below j (2 + 2 * nOf t) → Below ((j - (2 + 2 * nOf t)) % 4) 2 → FieldAt t j
@@ -105,7 +105,7 @@ fieldAt? t j h = at (below? j 2) (below? j (2 + 2 * nOf t)) (below? ((j - (2 + 2
         a-next k (omega arith) (omega arith) (oneOf j (2 * nOf t + 4 * k) (omega arith) (omega arith))
 
 -- no field of a right table is over 512: sizes and ends are at most 128 and 512, first and next fields at most M
-pub right-fields : (t : Fields) → Right t → (j : ℕ) → j < fieldCount t → t j ≤ 512
+right-fields : (t : Fields) → Right t → (j : ℕ) → j < fieldTotalOf t → t j ≤ 512
 unfolding first arcAt next
 right-fields t r j h = at (fieldAt? t j h)
   where
@@ -128,7 +128,8 @@ right-fields t r j h = at (fieldAt? t j h)
     at (a-next k l u (inr e)) = rw e (omega (arith, m, r .nexts In k (l, u)))
 
 -- an area with a right table and a well-formed run of it is well formed
-pub areaRight-stored : (t : Fields) (r : Run) (w : List ℤ) → Table t → Held t r → wellFormed r ≡ true → areaOf t ≤ length w → areaRight (stored t r w) ≡ true
+pub areaRight-stored : (t : Fields) (r : Run) (w : List ℤ) → RightTable t → Contained t r → wellFormed r ≡ true → areaOf t ≤ length w
+    → areaRight (stored t r w) ≡ true
 areaRight-stored t r w g h e l =
     let a : fieldsIn (stored t r w) ≡ t = fieldsIn-stored t r w (g .shut) in
     let b : runIn (stored t r w) ≡ r = runIn-stored t r w (g .right) (g .shut) h e in

@@ -1,22 +1,29 @@
--- What a reader must believe of the run area: Area (its layout, docs/LAYOUT.md, and which areas are well formed). AreaTests is its test
+-- The run area in words. What a reader must believe: Places (the numbers of its layout, docs/LAYOUT.md) and Area (what each word holds, and which
+-- areas are well formed). Contained, Replaced, Arcs, Squares, Writes, AreaFacts, Regions, Overlaid and Tells name what laws and leaves speak of; the
+-- laws stand in the modules named after them.
+pub mod Places
 pub mod Area
-pub mod Held
-pub mod Words
+pub mod Contained
+pub mod Replaced
 pub mod Arcs
-pub mod HeldLaws
-pub mod RunLaws
+pub mod Squares
+pub mod Writes
+pub mod AreaFacts
+pub mod Regions
+pub mod Overlaid
+pub mod Tells
+pub mod PlacesLaws
+pub mod ContainedLaws
+pub mod OverlaidLaws
+pub mod TellsLaws
+pub mod ArcLaws
+pub mod CodeLaws
 pub mod WordLaws
 pub mod StoredLaws
 pub mod WriteLaws
 pub mod ReadLaws
+pub mod WordTestLaws
+pub mod RunInLaws
 pub mod AreaLaws
-pub mod Tells
-pub mod WordTests
-pub mod Reads
-pub mod AreaTests
-pub mod RegionTests
-pub mod AreaTestsLaws
-pub mod Squares
-pub mod SquareLaws
 pub mod LinkLaws
-pub mod Testing
+pub mod SquareLaws

@@ -1,11 +1,12 @@
--- The square of arcs: for each pair of processes the arc from the first to the second, in a local array of 129 by 129 numbers.
+-- The square of arcs: for each pair of processes the arc from the first to the second, in a local array.
+--   side, squareSize   == the square has a row and a column for each process, and one for 0
 --   cell sq a b        == the number at (a, b)
 --   joinsBy sq c b q   == by the square, b waits for q (on the out-chain), or q for b (on the in-chain)
 --   joinedBy sq a b    == by the square, a and b are neighbours
 --   placeBy sq n m a b == by the square, the first word of the link from a to b
 --   Square t sq        == the square holds the arcs of the table t
 -- The laws say that under Square these are joins, neighbours and linkOf. Assumes nothing.
-use Prim.Native.Nat.{ℕ, _+_, _-_, _*_, _≤_}
+use Prim.Native.Nat.{ℕ, _+_, _*_, _≤_}
 use mathlib.Core.Bool.{Bool, not, _||_}
 use mathlib.Core.List.{List}
 use mathlib.Core.Path.{_≡_}
@@ -15,10 +16,17 @@ use Rattle.base.specs.Choice.{choose}
 use Rattle.tables.specs.declared.Chain.{Chain}
 use Rattle.tables.specs.declared.Chain.the-variants.{Out, In}
 use Rattle.tables.specs.Table.{Fields}
+use Rattle.areas.specs.Places.{mostProcesses, linkSize, linkStart}
 use Rattle.areas.specs.Area.{arcOf}
 
+abbrev pub side : ℕ
+side = mostProcesses + 1
+
+abbrev pub squareSize : ℕ
+squareSize = side * side
+
 abbrev pub cell : List ℕ → ℕ → ℕ → ℕ
-cell sq a b = getD sq (a * 129 + b) 0
+cell sq a b = getD sq (a * side + b) 0
 
 abbrev pub joinsBy : List ℕ → Chain → ℕ → ℕ → Bool
 joinsBy sq Out b q = not (eqb (cell sq b q) 0)
@@ -30,8 +38,8 @@ joinedBy sq a b = joinsBy sq Out a b || joinsBy sq In a b
 abbrev pub placeBy : List ℕ → ℕ → ℕ → ℕ → ℕ → ℕ
 placeBy sq n m a b =
     choose (eqb (cell sq a b) 0)
-    (16 + 8 * n + 4 * m + 16 * (cell sq b a - 1) + 8)
-    (16 + 8 * n + 4 * m + 16 * (cell sq a b - 1))
+    (linkStart n m (cell sq b a) + linkSize)
+    (linkStart n m (cell sq a b))
 
 pub record Square (t : Fields) (sq : List ℕ) : Type 0 where
-  pub arc : (a b : ℕ) → a ≤ 128 → b ≤ 128 → cell sq a b ≡ arcOf t a b
+  pub arc : (a b : ℕ) → a ≤ mostProcesses → b ≤ mostProcesses → cell sq a b ≡ arcOf t a b

@@ -1,61 +1,69 @@
 -- A store into an area with a run in it is the area with a changed run in it.
---   stored-record     == four words at a process's record: the run with that record replaced
---   stored-link       == four words at a link: the run with that link replaced
+--   stored-record     == the words of a process's record: the run with that record replaced
+--   stored-taken      == a link's words moved down by one: the run with the oldest message off that link
 --   stored-push       == one word past a link's messages: the run with one message more on it
---   stored-count      == word 2: the run with the count replaced
---   stored-set, stored-sets   == one store, and a run of stores, from the words of the runs before and after
---   wordOf-agree      == two runs whose heading, records and links agree at a word have the same word there
+--   stored-count      == the count's word: the run with the count replaced
+--   movedWord-next, movedWord-last, movedWord-below, movedWord-past, movedDown-length, movedDown-at   == the words and the length of a list from
+--                        which one word is taken out
 -- Assumes nothing.
 use Prim.Native.Nat.{ℕ, zero, suc, _+_, _-_, _≤_, _<_}
-use mathlib.Core.Bool.{true, _&&_}
+use mathlib.Core.Bool.{Bool, true, false, _&&_}
 use mathlib.Core.List.{List, [], _∷_, _++_}
 use mathlib.Core.Path.{_≡_, refl, sym, ap, ap₂, _∙_}
 use mathlib.Core.Logic.{inl, inr}
 use native.Mathlib.Omega.{arith}
-use borrow.Author.Tests.{eqb-true}
-use lib.Dec.{eqb}
-use lib.ListN.{length, getD, set}
+use borrow.Author.Tests.{eqb-true, le-leb, lt-leb, lt-ltb, le-ltb}
+use lib.Dec.{eqb, leb, ltb}
+use lib.ListN.{length, getD, set, List·getD-eq-default}
 use lib.Seq.{sets}
 use lib.IntN.{ℤ, pos}
-use Rattle.base.specs.Choice.{Same, same, apart, same?, Below, below, beyond, below?, Tested, passed, failed, tested, and-left, and-right}
+use Rattle.base.specs.Choice.{choose}
+use Rattle.base.specs.ChoiceLaws.{Same, same, apart, same?, Below, below, beyond, below?, Tested, passed, failed, tested, and-left, and-right}
 use Rattle.tables.specs.Table.{Fields, nOf, mOf, arcAt}
 use Rattle.tables.specs.Waits.{waitsOf, neighbours}
 use Rattle.tables.specs.Layout.{Right}
 use Rattle.steps.specs.declared.Message.{Message}
 use Rattle.steps.specs.declared.Process.{Process}
 use Rattle.checks.specs.Run.{Run}
-use Rattle.areas.specs.Area.{recordPlace, linkPlace, linkOf, headWord, recordWord, codeOf, slotWord, linkWord, hasBack, arcWord, wordOf, stored}
-use Rattle.areas.specs.Held.{putProcess, putLink, putCount}
-use Rattle.areas.specs.HeldLaws.{putProcess-at, putProcess-off, putLink-at, putLink-off}
-use Rattle.areas.specs.Words.{front-set, front-sets, Outside}
-use Rattle.areas.specs.Arcs.{linkOf-arc, linkOf-back}
-use Rattle.areas.specs.WordLaws.{wordOf-head, wordOf-field, wordOf-record, wordOf-arc, wordOf-link, arcWord-forth, arcWord-back, arcWord-free, Place, in-head, in-table, in-record, in-links, place?}
-use Rattle.areas.specs.RunLaws.{linkWord-slot, linkWord-free}
-use Rattle.areas.specs.StoredLaws.{areaOf, stored-front, recordPlace-fits, linkOf-fits}
+use Rattle.areas.specs.Places.{countPlace, headSize, recordUsed, recordSize, linkSlots, linkSize, arcSize}
+use Rattle.areas.specs.Area.{areaOf, recordPlace, linkPlace, linkOf, headWord, recordWord, codeOf, slotWord, linkWord, hasBack, arcWord, wordOf, stored}
+use Rattle.areas.specs.Replaced.{putProcess, putLink, putCount}
+use Rattle.areas.specs.Writes.{recordWords, movedWord, movedDown}
+use Rattle.areas.specs.Regions.{Place, in-head, in-table, in-record, in-links}
+use Rattle.areas.specs.Overlaid.{Outside}
+use Rattle.areas.specs.ContainedLaws.{putProcess-at, putProcess-off, putLink-at, putLink-off}
+use Rattle.areas.specs.OverlaidLaws.{wordsTo-length, wordsTo-at, overlaid-set, overlaid-sets}
+use Rattle.areas.specs.ArcLaws.{linkOf-arc, linkOf-back}
+use Rattle.areas.specs.CodeLaws.{linkWord-slot, linkWord-free, slotWord-past}
+use Rattle.areas.specs.WordLaws.{wordOf-head, wordOf-field, wordOf-record, wordOf-arc, arcWord-forth, arcWord-back, arcWord-free, wordOf-link, place?}
+use Rattle.areas.specs.StoredLaws.{stored-overlaid, stored-length, stored-word, stored-past, recordPlace-fits, linkOf-fits, stored-link-word, stored-of}
 
 -- a run of stores, from the words before and after
-pub stored-sets : (t : Fields) (r q : Run) (w : List ℤ) (i : ℕ) (vs : List ℤ) → i + length vs ≤ areaOf t → ((j : ℕ) → j < length vs → wordOf t q (i + j) ≡ getD vs j (pos 0)) → ((k : ℕ) → k < areaOf t → Outside i (length vs) k → wordOf t q k ≡ wordOf t r k) → sets (stored t r w) i vs ≡ stored t q w
+stored-sets : (t : Fields) (r q : Run) (w : List ℤ) (i : ℕ) (vs : List ℤ) → i + length vs ≤ areaOf t
+    → ((j : ℕ) → j < length vs → wordOf t q (i + j) ≡ getD vs j (pos 0)) → ((k : ℕ) → k < areaOf t → Outside i (length vs) k → wordOf t q k ≡ wordOf t r k)
+    → sets (stored t r w) i vs ≡ stored t q w
 stored-sets t r q w i vs u at off =
-    ap (λ (l : List ℤ). sets l i vs) (stored-front t r w)
-    ∙ front-sets vs (areaOf t) (wordOf t r) (wordOf t q) w i u at off
-    ∙ sym (stored-front t q w)
+    ap (λ (l : List ℤ). sets l i vs) (stored-overlaid t r w)
+    ∙ overlaid-sets vs (areaOf t) (wordOf t r) (wordOf t q) w i u at off
+    ∙ sym (stored-overlaid t q w)
 
 -- one store
-pub stored-set : (t : Fields) (r q : Run) (w : List ℤ) (i : ℕ) (v : ℤ) → i < areaOf t → wordOf t q i ≡ v → ((k : ℕ) → k < areaOf t → (k ≡ i → ⊥) → wordOf t q k ≡ wordOf t r k) → set (stored t r w) i v ≡ stored t q w
+stored-set : (t : Fields) (r q : Run) (w : List ℤ) (i : ℕ) (v : ℤ) → i < areaOf t → wordOf t q i ≡ v
+    → ((k : ℕ) → k < areaOf t → (k ≡ i → ⊥) → wordOf t q k ≡ wordOf t r k) → set (stored t r w) i v ≡ stored t q w
 stored-set t r q w i v u at off =
-    ap (λ (l : List ℤ). set l i v) (stored-front t r w)
-    ∙ front-set (areaOf t) (wordOf t r) (wordOf t q) w i v u at off
-    ∙ sym (stored-front t q w)
+    ap (λ (l : List ℤ). set l i v) (stored-overlaid t r w)
+    ∙ overlaid-set (areaOf t) (wordOf t r) (wordOf t q) w i v u at off
+    ∙ sym (stored-overlaid t q w)
 
 -- ---- the words of two runs, kind by kind
 
 -- two runs whose heading, records and links agree at a word have the same word there
-pub record Agree (t : Fields) (q r : Run) (k : ℕ) : Type 0 where
-  pub heads : k < 14 → headWord q k ≡ headWord r k
-  pub records : (p j : ℕ) → 1 ≤ p → p ≤ nOf t → j < 6 → k ≡ recordPlace t p + j → recordWord (q .process p) j ≡ recordWord (r .process p) j
-  pub links : (a j : ℕ) → 1 ≤ a → a ≤ mOf t → j < 16 → k ≡ linkPlace t a + j → arcWord t q a j ≡ arcWord t r a j
+record Agree (t : Fields) (q r : Run) (k : ℕ) : Type 0 where
+  heads : k < headSize → headWord q k ≡ headWord r k
+  records : (p j : ℕ) → 1 ≤ p → p ≤ nOf t → j < recordSize → k ≡ recordPlace t p + j → recordWord (q .process p) j ≡ recordWord (r .process p) j
+  links : (a j : ℕ) → 1 ≤ a → a ≤ mOf t → j < arcSize → k ≡ linkPlace t a + j → arcWord t q a j ≡ arcWord t r a j
 
-pub wordOf-agree : (t : Fields) (q r : Run) (k : ℕ) → k < areaOf t → Agree t q r k → wordOf t q k ≡ wordOf t r k
+wordOf-agree : (t : Fields) (q r : Run) (k : ℕ) → k < areaOf t → Agree t q r k → wordOf t q k ≡ wordOf t r k
 wordOf-agree t q r k u g = at (place? t k u)
   where
     at : Place t k → wordOf t q k ≡ wordOf t r k
@@ -73,17 +81,17 @@ headWord-same q r s c (suc (suc (suc k))) = refl
 
 -- ---- the count
 
-headWord-count : (r : Run) (c k : ℕ) → (k ≡ 2 → ⊥) → headWord (putCount r c) k ≡ headWord r k
+headWord-count : (r : Run) (c k : ℕ) → (k ≡ countPlace → ⊥) → headWord (putCount r c) k ≡ headWord r k
 unfolding putCount
 headWord-count r c zero n = refl
 headWord-count r c (suc zero) n = refl
 headWord-count r c (suc (suc zero)) n = absurd (n refl)
 headWord-count r c (suc (suc (suc k))) n = refl
 
-pub stored-count : (t : Fields) (r : Run) (w : List ℤ) (c : ℕ) → set (stored t r w) 2 (pos c) ≡ stored t (putCount r c) w
+pub stored-count : (t : Fields) (r : Run) (w : List ℤ) (c : ℕ) → set (stored t r w) countPlace (pos c) ≡ stored t (putCount r c) w
 unfolding putCount arcWord
 stored-count t r w c =
-    stored-set t r (putCount r c) w 2 (pos c) (omega arith) (wordOf-head t (putCount r c) 2 (omega arith))
+    stored-set t r (putCount r c) w countPlace (pos c) (omega arith) (wordOf-head t (putCount r c) countPlace (omega arith))
     (λ k u n. wordOf-agree t (putCount r c) r k u
     (record { heads = λ h. headWord-count r c k n; records = λ p j l m h e. refl; links = λ a j l m h e. refl }))
 
@@ -93,49 +101,45 @@ headWord-process : (r : Run) (p : ℕ) (x : Process) (k : ℕ) → headWord (put
 unfolding putProcess
 headWord-process r p x k = headWord-same (putProcess r p x) r refl refl k
 
--- "two words are kept free and hold 0"
-recordWord-free : (x : Process) (j : ℕ) → 4 ≤ j → recordWord x j ≡ pos 0
+-- the other words of a record are kept free and hold 0
+recordWord-free : (x : Process) (j : ℕ) → recordUsed ≤ j → recordWord x j ≡ pos 0
 recordWord-free x zero h = absurd (omega arith)
 recordWord-free x (suc zero) h = absurd (omega arith)
 recordWord-free x (suc (suc zero)) h = absurd (omega arith)
 recordWord-free x (suc (suc (suc zero))) h = absurd (omega arith)
 recordWord-free x (suc (suc (suc (suc j)))) h = refl
 
--- the words of a record that a store puts there
-abbrev pub recordWords : Process → List ℤ
-recordWords x = recordWord x 0 ∷ recordWord x 1 ∷ recordWord x 2 ∷ recordWord x 3 ∷ []
-
-recordWords-at : (x : Process) (j : ℕ) → j < 4 → recordWord x j ≡ getD (recordWords x) j (pos 0)
-recordWords-at x zero h = refl
-recordWords-at x (suc zero) h = refl
-recordWords-at x (suc (suc zero)) h = refl
-recordWords-at x (suc (suc (suc zero))) h = refl
-recordWords-at x (suc (suc (suc (suc j)))) h = absurd (omega arith)
-
 arcWord-process : (t : Fields) (r : Run) (p : ℕ) (x : Process) (a j : ℕ) → arcWord t (putProcess r p x) a j ≡ arcWord t r a j
 unfolding putProcess arcWord
 arcWord-process t r p x a j = refl
 
-pub stored-record : (t : Fields) (r : Run) (w : List ℤ) (p : ℕ) (x : Process) → 1 ≤ p → p ≤ nOf t → sets (stored t r w) (recordPlace t p) (recordWord x 0 ∷ recordWord x 1 ∷ recordWord x 2 ∷ recordWord x 3 ∷ []) ≡ stored t (putProcess r p x) w
+pub stored-record : (t : Fields) (r : Run) (w : List ℤ) (p : ℕ) (x : Process) → 1 ≤ p → p ≤ nOf t
+    → sets (stored t r w) (recordPlace t p) (recordWords x) ≡ stored t (putProcess r p x) w
+unfolding recordWords
 stored-record t r w p x l u =
-    stored-sets t r (putProcess r p x) w (recordPlace t p) (recordWords x) (omega (arith, recordPlace-fits t p l u))
-    here
+    stored-sets t r (putProcess r p x) w (recordPlace t p) (recordWords x) (omega (arith, used, recordPlace-fits t p l u))
+    (λ j h. here j (omega (arith, used)))
     (λ k v o. wordOf-agree t (putProcess r p x) r k v
-    (record { heads = λ h. headWord-process r p x k; records = λ q j a b h e. other k o q j e (same? q p); links = λ a j b c h e. arcWord-process t r p x a j }))
+    (record
+    { heads = λ h. headWord-process r p x k; records = λ q j a b h e. other k o q j e (same? q p); links = λ a j b c h e. arcWord-process t r p x a j }))
   where
-    here : (j : ℕ) → j < 4 → wordOf t (putProcess r p x) (recordPlace t p + j) ≡ getD (recordWords x) j (pos 0)
+    used : length (recordWords x) ≡ recordUsed
+    used = wordsTo-length recordUsed (recordWord x)
+
+    here : (j : ℕ) → j < recordUsed → wordOf t (putProcess r p x) (recordPlace t p + j) ≡ getD (recordWords x) j (pos 0)
     here j h =
         wordOf-record t (putProcess r p x) p j l u (omega arith)
         ∙ ap (λ (y : Process). recordWord y j) (putProcess-at r p x)
-        ∙ recordWords-at x j h
+        ∙ sym (wordsTo-at recordUsed (recordWord x) j (pos 0) h)
 
-    other : (k : ℕ) → Outside (recordPlace t p) 4 k → (q j : ℕ) → k ≡ recordPlace t q + j → Same q p → recordWord (putProcess r p x .process q) j ≡ recordWord (r .process q) j
+    other : (k : ℕ) → Outside (recordPlace t p) (length (recordWords x)) k → (q j : ℕ) → k ≡ recordPlace t q + j → Same q p
+        → recordWord (putProcess r p x .process q) j ≡ recordWord (r .process q) j
     other k (inl o) q j e (same s _) =
         let f : k ≡ recordPlace t p + j = rw s at e in
         absurd (omega arith)
     other k (inr o) q j e (same s _) =
         let f : k ≡ recordPlace t p + j = rw s at e in
-        recordWord-free (putProcess r p x .process q) j (omega arith) ∙ sym (recordWord-free (r .process q) j (omega arith))
+        recordWord-free (putProcess r p x .process q) j (omega (arith, used)) ∙ sym (recordWord-free (r .process q) j (omega (arith, used)))
     other k o q j e (apart n _) = ap (λ (y : Process). recordWord y j) (putProcess-off r p x q n)
 
 -- ---- a link
@@ -149,7 +153,8 @@ unfolding putLink
 recordWord-link r a b ms p j = refl
 
 -- a word of the link from x to y stays, where the words of the link from a to b that differ are not meant
-linkWord-same : (r : Run) (a b : ℕ) (ms : List Message) (x y i : ℕ) → ((x ≡ a) → (y ≡ b) → linkWord ms i ≡ linkWord (r .link a b) i) → linkWord (putLink r a b ms .link x y) i ≡ linkWord (r .link x y) i
+linkWord-same : (r : Run) (a b : ℕ) (ms : List Message) (x y i : ℕ) → ((x ≡ a) → (y ≡ b) → linkWord ms i ≡ linkWord (r .link a b) i)
+    → linkWord (putLink r a b ms .link x y) i ≡ linkWord (r .link x y) i
 linkWord-same r a b ms x y i h = at (tested (eqb x a && eqb y b))
   where
     at : Tested (eqb x a && eqb y b) → linkWord (putLink r a b ms .link x y) i ≡ linkWord (r .link x y) i
@@ -164,15 +169,16 @@ linkWord-same r a b ms x y i h = at (tested (eqb x a && eqb y b))
 
 module _ (t : Fields) (s : Right t) (r : Run) (a b : ℕ) (ms : List Message) where
   -- the words of an arc's links, but for those of the link from a to b that differ
-  arcWord-link : (k c j : ℕ) → 1 ≤ c → c ≤ mOf t → j < 16 → k ≡ linkPlace t c + j → ((i : ℕ) → i < 8 → k ≡ linkOf t a b + i → linkWord ms i ≡ linkWord (r .link a b) i) → arcWord t (putLink r a b ms) c j ≡ arcWord t r c j
-  arcWord-link k c j l u h e f = at (below? j 8) (tested (hasBack t c))
+  arcWord-link : (k c j : ℕ) → 1 ≤ c → c ≤ mOf t → j < arcSize → k ≡ linkPlace t c + j
+      → ((i : ℕ) → i < linkSize → k ≡ linkOf t a b + i → linkWord ms i ≡ linkWord (r .link a b) i) → arcWord t (putLink r a b ms) c j ≡ arcWord t r c j
+  arcWord-link k c j l u h e f = at (below? j linkSize) (tested (hasBack t c))
     where
-      back : hasBack t c ≡ true → 8 ≤ j → arcAt t c .to ≡ a → arcAt t c .from ≡ b → linkWord ms (j - 8) ≡ linkWord (r .link a b) (j - 8)
+      back : hasBack t c ≡ true → linkSize ≤ j → arcAt t c .to ≡ a → arcAt t c .from ≡ b → linkWord ms (j - linkSize) ≡ linkWord (r .link a b) (j - linkSize)
       back y v p q =
-          let o : linkOf t a b ≡ linkPlace t c + 8 = rw (p, q) at (linkOf-back t s c (l, u) y) in
-          f (j - 8) (omega arith) (omega arith)
+          let o : linkOf t a b ≡ linkPlace t c + linkSize = rw (p, q) at (linkOf-back t s c (l, u) y) in
+          f (j - linkSize) (omega arith) (omega arith)
 
-      at : Below j 8 → Tested (hasBack t c) → arcWord t (putLink r a b ms) c j ≡ arcWord t r c j
+      at : Below j linkSize → Tested (hasBack t c) → arcWord t (putLink r a b ms) c j ≡ arcWord t r c j
       at (below v _) _ =
           arcWord-forth t (putLink r a b ms) c j v
           ∙ linkWord-same r a b ms (arcAt t c .from) (arcAt t c .to) j
@@ -180,14 +186,15 @@ module _ (t : Fields) (s : Right t) (r : Run) (a b : ℕ) (ms : List Message) wh
           ∙ sym (arcWord-forth t r c j v)
       at (beyond v _) (failed n) = arcWord-free t (putLink r a b ms) c j v n ∙ sym (arcWord-free t r c j v n)
       at (beyond v _) (passed y) =
-          let g : j ≡ 8 + (j - 8) = omega arith in
+          let g : j ≡ linkSize + (j - linkSize) = omega arith in
           rw g
-          (arcWord-back t (putLink r a b ms) c (j - 8) y
-          ∙ linkWord-same r a b ms (arcAt t c .to) (arcAt t c .from) (j - 8) (back y v)
-          ∙ sym (arcWord-back t r c (j - 8) y))
+          (arcWord-back t (putLink r a b ms) c (j - linkSize) y
+          ∙ linkWord-same r a b ms (arcAt t c .to) (arcAt t c .from) (j - linkSize) (back y v)
+          ∙ sym (arcWord-back t r c (j - linkSize) y))
 
   -- the words of the link from a to b that differ are all that changes
-  wordOf-putLink : (k : ℕ) → k < areaOf t → ((i : ℕ) → i < 8 → k ≡ linkOf t a b + i → linkWord ms i ≡ linkWord (r .link a b) i) → wordOf t (putLink r a b ms) k ≡ wordOf t r k
+  wordOf-putLink : (k : ℕ) → k < areaOf t → ((i : ℕ) → i < linkSize → k ≡ linkOf t a b + i → linkWord ms i ≡ linkWord (r .link a b) i)
+      → wordOf t (putLink r a b ms) k ≡ wordOf t r k
   wordOf-putLink k u f =
       wordOf-agree t (putLink r a b ms) r k u
       (record {
@@ -196,34 +203,97 @@ module _ (t : Fields) (s : Right t) (r : Run) (a b : ℕ) (ms : List Message) wh
         links = λ c j l m h e. arcWord-link k c j l m h e f;
       })
 
--- ---- the words of a link
+-- ---- one message less
 
--- the words of a link that a store puts there
-abbrev pub slotWords : List Message → List ℤ
-slotWords ms = slotWord ms 0 ∷ slotWord ms 1 ∷ slotWord ms 2 ∷ slotWord ms 3 ∷ []
+-- the words of a list from which one word is taken out
+module _ (w : List ℤ) (i e : ℕ) where
+  pub movedWord-next : (k : ℕ) → i ≤ k → k + 1 < e → movedWord w i e k ≡ getD w (k + 1) (pos 0)
+  unfolding movedWord
+  movedWord-next k l u = rw (le-leb i k l, lt-ltb k e (omega arith), lt-ltb (k + 1) e u)
 
-slotWords-at : (ms : List Message) (j : ℕ) → j < 4 → slotWord ms j ≡ getD (slotWords ms) j (pos 0)
-slotWords-at ms zero h = refl
-slotWords-at ms (suc zero) h = refl
-slotWords-at ms (suc (suc zero)) h = refl
-slotWords-at ms (suc (suc (suc zero))) h = refl
-slotWords-at ms (suc (suc (suc (suc j)))) h = absurd (omega arith)
+  pub movedWord-last : (k : ℕ) → i ≤ k → k < e → e ≤ k + 1 → movedWord w i e k ≡ pos 0
+  unfolding movedWord
+  movedWord-last k l u v = rw (le-leb i k l, lt-ltb k e u, le-ltb (k + 1) e v)
 
-pub stored-link : (t : Fields) → Right t → (r : Run) (w : List ℤ) (a b : ℕ) (ms : List Message) → neighbours (waitsOf t) a b ≡ true → sets (stored t r w) (linkOf t a b) (slotWord ms 0 ∷ slotWord ms 1 ∷ slotWord ms 2 ∷ slotWord ms 3 ∷ []) ≡ stored t (putLink r a b ms) w
-stored-link t s r w a b ms n =
-    stored-sets t r (putLink r a b ms) w (linkOf t a b) (slotWords ms) (omega (arith, linkOf-fits t a b n)) here
-    (λ k u o. wordOf-putLink t s r a b ms k u (other k o))
+  pub movedWord-below : (k : ℕ) → k < i → movedWord w i e k ≡ getD w k (pos 0)
+  unfolding movedWord
+  movedWord-below k u = rw (lt-leb i k u)
+
+  pub movedWord-past : (k : ℕ) → e ≤ k → movedWord w i e k ≡ getD w k (pos 0)
+  unfolding movedWord
+  movedWord-past k u = rw (le-ltb k e u) (at (leb i k))
+    where
+      at : (b : Bool) → choose (b && false) (choose (ltb (k + 1) e) (getD w (k + 1) (pos 0)) (pos 0)) (getD w k (pos 0)) ≡ getD w k (pos 0)
+      at true = refl
+      at false = refl
+
+  pub movedDown-length : length (movedDown w i e) ≡ length w
+  unfolding movedDown
+  movedDown-length = wordsTo-length (length w) (movedWord w i e)
+
+  pub movedDown-at : e ≤ length w → (k : ℕ) → getD (movedDown w i e) k (pos 0) ≡ movedWord w i e k
+  unfolding movedDown
+  movedDown-at l k = at (below? k (length w))
+    where
+      at : Below k (length w) → getD (movedDown w i e) k (pos 0) ≡ movedWord w i e k
+      at (below u _) = wordsTo-at (length w) (movedWord w i e) k (pos 0) u
+      at (beyond u _) =
+          List·getD-eq-default (movedDown w i e) (pos 0) (omega (arith, movedDown-length))
+          ∙ sym (movedWord-past k (omega arith) ∙ List·getD-eq-default w (pos 0) u)
+
+-- the message of the first slot taken out: the messages that stay stand one slot further on before
+pub stored-taken : (t : Fields) → Right t → (r : Run) (w : List ℤ) (a b : ℕ) (rest : List Message) → neighbours (waitsOf t) a b ≡ true → areaOf t ≤ length w
+    → length (r .link a b) ≤ linkSlots → ((j : ℕ) → slotWord rest j ≡ slotWord (r .link a b) (suc j))
+    → movedDown (stored t r w) (linkOf t a b) (linkOf t a b + linkSlots) ≡ stored t (putLink r a b rest) w
+stored-taken t s r w a b rest n long few shift =
+    stored-of t q w (movedDown old i e) (pos 0) long (movedDown-length old i e ∙ stored-length t r w long)
+    (λ k u. movedDown-at old i e within k ∙ low k u (below? k i) (below? k e))
+    (λ k u. movedDown-at old i e within k ∙ movedWord-past old i e k (omega (arith, linkOf-fits t a b n)) ∙ stored-past t r w k (pos 0) u)
   where
-    here : (j : ℕ) → j < 4 → wordOf t (putLink r a b ms) (linkOf t a b + j) ≡ getD (slotWords ms) j (pos 0)
-    here j h =
-        wordOf-link t (putLink r a b ms) a b j n (omega arith)
-        ∙ ap (λ (l : List Message). linkWord l j) (putLink-at r a b ms)
-        ∙ linkWord-slot ms j h
-        ∙ slotWords-at ms j h
+    q : Run
+    q = putLink r a b rest
 
-    other : (k : ℕ) → Outside (linkOf t a b) 4 k → (i : ℕ) → i < 8 → k ≡ linkOf t a b + i → linkWord ms i ≡ linkWord (r .link a b) i
-    other k (inl o) i h e = absurd (omega arith)
-    other k (inr o) i h e = linkWord-free ms i (omega arith) ∙ sym (linkWord-free (r .link a b) i (omega arith))
+    old : List ℤ
+    old = stored t r w
+
+    i : ℕ
+    i = linkOf t a b
+
+    e : ℕ
+    e = linkOf t a b + linkSlots
+
+    within : e ≤ length old
+    within = omega (arith, linkOf-fits t a b n, stored-length t r w long)
+
+    -- a word that is none of the link's slots
+    other : (k : ℕ) → k < areaOf t → Outside i linkSlots k → getD old k (pos 0) ≡ wordOf t q k
+    other k u o = stored-word t r w k (pos 0) u ∙ sym (wordOf-putLink t s r a b rest k u (λ j v f. free j f o))
+      where
+        free : (j : ℕ) → k ≡ linkOf t a b + j → Outside i linkSlots k → linkWord rest j ≡ linkWord (r .link a b) j
+        free j f (inl v) = absurd (omega arith)
+        free j f (inr v) = linkWord-free rest j (omega arith) ∙ sym (linkWord-free (r .link a b) j (omega arith))
+
+    -- the slot j
+    slot : (j : ℕ) → j < linkSlots → wordOf t q (i + j) ≡ slotWord (r .link a b) (suc j)
+    slot j h =
+        wordOf-link t q a b j n (omega arith)
+        ∙ ap (λ (l : List Message). linkWord l j) (putLink-at r a b rest)
+        ∙ linkWord-slot rest j h
+        ∙ shift j
+
+    next : (j : ℕ) → j < linkSlots → Below (i + j + 1) e → movedWord old i e (i + j) ≡ slotWord (r .link a b) (suc j)
+    next j h (below u _) =
+        let f : i + j + 1 ≡ i + suc j = omega arith in
+        movedWord-next old i e (i + j) (omega arith) u
+        ∙ rw f (stored-link-word t r w a b (suc j) (pos 0) n (omega arith) ∙ linkWord-slot (r .link a b) (suc j) (omega arith))
+    next j h (beyond u _) = movedWord-last old i e (i + j) (omega arith) (omega arith) u ∙ sym (slotWord-past (r .link a b) (suc j) (omega arith))
+
+    low : (k : ℕ) → k < areaOf t → Below k i → Below k e → movedWord old i e k ≡ wordOf t q k
+    low k u (below v _) _ = movedWord-below old i e k v ∙ other k u (inl v)
+    low k u (beyond v _) (beyond x _) = movedWord-past old i e k x ∙ other k u (inr x)
+    low k u (beyond v _) (below x _) =
+        let f : k ≡ i + (k - i) = omega arith in
+        rw f (next (k - i) (omega arith) (below? (i + (k - i) + 1) e) ∙ sym (slot (k - i) (omega arith)))
 
 -- ---- one message more
 
@@ -243,7 +313,9 @@ linkWord-other : (ms : List Message) (m : Message) (j : ℕ) → (j ≡ length m
 unfolding linkWord
 linkWord-other ms m j n = rw (slotWord-other ms m j n)
 
-pub stored-push : (t : Fields) → Right t → (r : Run) (w : List ℤ) (a b : ℕ) (m : Message) → neighbours (waitsOf t) a b ≡ true → length (r .link a b) ≤ 3 → set (stored t r w) (linkOf t a b + length (r .link a b)) (codeOf m) ≡ stored t (putLink r a b (r .link a b ++ (m ∷ []))) w
+pub stored-push : (t : Fields) → Right t → (r : Run) (w : List ℤ) (a b : ℕ) (m : Message) → neighbours (waitsOf t) a b ≡ true
+    → length (r .link a b) ≤ linkSlots - 1
+    → set (stored t r w) (linkOf t a b + length (r .link a b)) (codeOf m) ≡ stored t (putLink r a b (r .link a b ++ (m ∷ []))) w
 stored-push t s r w a b m n h =
     stored-set t r (putLink r a b more) w (linkOf t a b + length (r .link a b)) (codeOf m) (omega (arith, linkOf-fits t a b n)) here
     (λ k u o. wordOf-putLink t s r a b more k u

@@ -1,5 +1,5 @@
-// The run area in lent words: its leaves, the square of its arcs, and the test of any words whatever.
+// The run area in lent words: the addresses of its words, its leaves, and the square of its arcs.
 
+pub mod places;
 pub mod squares;
-pub mod testing;
 pub mod words;

@@ -1,6 +1,11 @@
--- What a reader must believe of a check: Run (its state and which states are well formed), Calls (what each call does and answers),
--- Reach (who reaches whom, and the number D), Lists (any list of calls).
+-- What a reader must believe of a knot check: Run (its rules), Calls (what each call does and answers), Reach (who reaches whom, and the
+-- number D), Lists (what is said of any list of calls). Laws stand apart: SentLaws (what a step puts on links), RunLaws (the receiver's step
+-- and a well-formed run), AnswerLaws (a delivery's answer), ReachLaws (the test of who reaches whom).
 pub mod Run
 pub mod Calls
 pub mod Reach
 pub mod Lists
+pub mod SentLaws
+pub mod RunLaws
+pub mod ReachLaws
+pub mod AnswerLaws

@@ -4,12 +4,11 @@
 --   inKnot w s         == "knot exactly if all processes reachable from the start reach it"
 --   outsiders w s      == "the number of those that do not"
 --   dOf w s            == "D is twice the number of arcs whose from is reachable from the start plus twice the number whose to reaches it"
--- The law that ties the test to the relation is reaches-P, in the crate `ending`. Assumes nothing.
+-- The law that ties the test to the relation is reaches-P, in ReachLaws. Assumes nothing.
 use Prim.Native.Nat.{ℕ, zero, suc, _+_, _*_}
-use mathlib.Core.Bool.{Bool, true, false, not, _&&_, _||_}
+use mathlib.Core.Bool.{Bool, true, not, _&&_, _||_}
 use mathlib.Core.Path.{_≡_}
 use lib.Dec.{eqb}
-use Rattle.base.specs.Choice.{bit}
 use Rattle.base.specs.Sums.{sumTo, countTo, allTo, anyTo}
 use Rattle.tables.specs.Waits.{Waits}
 

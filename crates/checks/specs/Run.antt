@@ -1,22 +1,21 @@
--- The state of a check (01, "Run and links"), and the delivery of one message (01, "Steps").
---   Run                 == the waits, the start, the accepted deliveries, a record for each process, a link for each ordered pair
---   over r              == "It is over exactly while num of its start is 0."
---   wellFormed r        == every value in its range, the start 1 to N, every father 0 or a neighbour, every link at most 4 messages with counts in range
---   startRun w s        == "Start at s"
---   turnAt r a b m      == the receiver's step: b receives m from a
---   sentTo w b t q      == what that step puts on the link from b to q, in order
---   after r a b m rest  == the run after the delivery of m from a to b, where rest stays on the link
---   accepts r a b m rest   == the delivery meets no 22
+-- The knot check as a machine (crate machine): its records and messages are those of the crate steps (01, "Run and links" and "Steps").
+--   Run                 == the state of a check
+--   knot                == the knot check's rules: what it hands to the machine
+--   fatherRight w p x   == "every father is 0 or a neighbour"
+--   started w s         == the start's first record
+--   turnOf, turnAt r a b m   == the receiver's step: b receives m from a
+--   replyTo, probesTo, sentTo w b t q, leaving w b t   == what that step puts on the link from b to q, in order; and on every link
+--   countsSmall, linkRight, over, wellFormed, startRun, after, accepts   == the machine's own, by these rules
 -- Assumes nothing.
-use Prim.Native.Nat.{ℕ, zero, suc, _+_, _≤_}
-use mathlib.Core.Bool.{Bool, true, false, not, _&&_, _||_}
+use Prim.Native.Nat.{ℕ, _+_}
+use mathlib.Core.Bool.{Bool, true, false, _&&_, _||_}
 use mathlib.Core.List.{List, [], _∷_, _++_}
-use lib.Dec.{eqb, leb, ltb}
-use lib.ListN.{length}
+use lib.Dec.{eqb}
 use lib.IntN.{pos}
 use Rattle.base.specs.Choice.{choose}
-use Rattle.base.specs.Sums.{allTo}
 use Rattle.tables.specs.Waits.{Waits, outDegree, inDegree, neighbours}
+use Rattle.machine.specs.Machine.{Machine, Left, Rules}
+use Rattle.machine.specs.Machine as Machines
 use Rattle.steps.specs.declared.Message.{Message}
 use Rattle.steps.specs.declared.Message.the-variants.{Suc, Pre, Ack}
 use Rattle.steps.specs.declared.Process.{Process}
@@ -24,43 +23,15 @@ use Rattle.steps.specs.declared.Probes.{Probes}
 use Rattle.steps.specs.declared.Probes.the-variants.{Sucs, Pres}
 use Rattle.steps.specs.declared.Reply.{Reply}
 use Rattle.steps.specs.declared.Reply.the-variants.{To}
+use Rattle.steps.specs.Effect.{isProbe}
 use Rattle.steps.specs.Step.{inRange, countSmall, idle, Turn, turn, startTurn, fitting}
 
--- "A run also counts accepted deliveries"; a link holds its messages oldest first
-pub record Run : Type 0 where
-  pub waits : Waits
-  pub start : ℕ
-  pub count : ℕ
-  pub process : ℕ → Process
-  pub link : ℕ → ℕ → List Message
-
--- "It is over exactly while num of its start is 0."
-unfoldable pub over : Run → Bool
-over r = eqb (r .process (r .start) .num) 0
-
--- ---- well formed
-
-unfoldable pub countsSmall : List Message → Bool
-countsSmall [] = true
-countsSmall (m ∷ ms) = countSmall m && countsSmall ms
-
--- "every link holds at most 4 messages of the three kinds with counts in range"
-unfoldable pub linkRight : List Message → Bool
-linkRight ms = leb (length ms) 4 && countsSmall ms
+abbrev pub Run : Type 0
+Run = Machine Process Message
 
 -- "every father is 0 or a neighbour"
 unfoldable pub fatherRight : Waits → ℕ → Process → Bool
 fatherRight w p x = eqb (x .father) 0 || neighbours w p (x .father)
-
-unfoldable pub processRight : Run → ℕ → Bool
-processRight r p = inRange (r .process p) && fatherRight (r .waits) p (r .process p)
-
--- 01's sentence, but for the copied table and the number of words, of which the area above takes care
-unfoldable pub wellFormed : Run → Bool
-wellFormed r =
-    leb 1 (r .start) && leb (r .start) (r .waits .n) && leb (r .count) 2048 &&
-    allTo (r .waits .n) (processRight r) &&
-    allTo (r .waits .n) (λ a. allTo (r .waits .n) (λ b. linkRight (r .link a b)))
 
 -- ---- start
 
@@ -72,25 +43,11 @@ one false m = []
 unfoldable pub started : Waits → ℕ → Process
 started w s = record { succeeding = 1; preceding = 1; subordinate = 0; cs = pos 0; num = outDegree w s + inDegree w s; father = 0 }
 
--- "All values 0; s gets succeeding and preceding. s sends suc to each successor, then pre to each predecessor"
-unfoldable pub startRun : Waits → ℕ → Run
-startRun w s =
-    record {
-      waits = w;
-      start = s;
-      count = 0;
-      process = λ p. choose (eqb p s) (started w s) idle;
-      link = λ a b. choose (eqb a s) (one (w .waits s b) Suc ++ one (w .waits b s) Pre) [];
-    }
+-- ---- the receiver's step
 
--- ---- delivery
-
--- the receiver's step: the start's own, or that of any other process
-unfoldable pub turnAt : Run → ℕ → ℕ → Message → Turn
-turnAt r a b m =
-    choose (eqb b (r .start))
-    (startTurn m a (r .process b))
-    (turn m (outDegree (r .waits) b) (inDegree (r .waits) b) a (r .process b))
+-- the start's own, or that of any other process
+unfoldable pub turnOf : Waits → ℕ → ℕ → ℕ → Message → Process → Turn
+turnOf w s a b m x = choose (eqb b s) (startTurn m a x) (turn m (outDegree w b) (inDegree w b) a x)
 
 -- an acknowledgement stands only on the link to the process it is for
 unfoldable pub replyTo : Reply → ℕ → List Message
@@ -107,24 +64,51 @@ probesTo w b Pres q = one (w .waits q b) Pre
 unfoldable pub sentTo : Waits → ℕ → Turn → ℕ → List Message
 sentTo w b t q = replyTo (t .reply) q ++ probesTo w b (t .probes) q
 
--- "A delivery first takes the oldest message off the picked link"
-unfoldable pub taken : Run → ℕ → ℕ → List Message → ℕ → ℕ → List Message
-taken r a b rest x y = choose (eqb x a && eqb y b) rest (r .link x y)
+-- what a step of b leaves: its record, and what it puts on each link
+abbrev pub leaving : Waits → ℕ → Turn → Left Process Message
+leaving w b t = record { process = t .process; sent = sentTo w b t }
 
--- ".. and adds 1 to the accepted deliveries, then does the receiver's step."
-unfoldable pub after : Run → ℕ → ℕ → Message → List Message → Run
-after r a b m rest =
+-- ---- the rules
+
+-- "s sends suc to each successor, then pre to each predecessor"; "at most 4 messages waiting"; "accepted deliveries, 0 to 2048"
+abbrev pub knot : Rules Process Message
+knot =
     record {
-      waits = r .waits;
-      start = r .start;
-      count = r .count + 1;
-      process = λ p. choose (eqb p b) (turnAt r a b m .process) (r .process p);
-      link = λ x y. choose (eqb x b) (taken r a b rest x y ++ sentTo (r .waits) b (turnAt r a b m) y) (taken r a b rest x y);
+      num = λ x. x .num;
+      father = λ x. x .father;
+      probe = isProbe;
+      first = started;
+      idle = idle;
+      firstTo = λ w s q. one (w .waits s q) Suc ++ one (w .waits q s) Pre;
+      step = λ w s a b m x. leaving w b (turnOf w s a b m x);
+      fits = λ w s a b m x. fitting m x (turnOf w s a b m x);
+      recordRight = λ w p x. inRange x && fatherRight w p x;
+      messageRight = countSmall;
+      room = λ r. true;
+      capacity = 4;
+      most = 2048;
     }
 
--- 22, "the step would take a value out of its range, put a fifth message on a link, or acknowledge to father 0", is met if not;
--- only links from the receiver grow
-unfoldable pub accepts : Run → ℕ → ℕ → Message → List Message → Bool
-accepts r a b m rest =
-    leb (r .count + 1) 2048 && fitting m (r .process b) (turnAt r a b m) &&
-    allTo (r .waits .n) (λ q. leb (length (after r a b m rest .link b q)) 4)
+abbrev pub turnAt : Run → ℕ → ℕ → Message → Turn
+turnAt r a b m = turnOf (r .waits) (r .start) a b m (r .process b)
+
+abbrev pub countsSmall : List Message → Bool
+countsSmall = Machines.allRight countSmall
+
+abbrev pub linkRight : List Message → Bool
+linkRight = Machines.linkRight knot
+
+abbrev pub over : Run → Bool
+over = Machines.over knot
+
+abbrev pub wellFormed : Run → Bool
+wellFormed = Machines.wellFormed knot
+
+abbrev pub startRun : Waits → ℕ → Run
+startRun = Machines.startRun knot
+
+abbrev pub after : Run → ℕ → ℕ → Message → List Message → Run
+after = Machines.after knot
+
+abbrev pub accepts : Run → ℕ → ℕ → Message → List Message → Bool
+accepts = Machines.accepts knot

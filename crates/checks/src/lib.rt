@@ -1,5 +1,5 @@
-// The answers of a check's calls. What the calls do is defined in specs/ and proved to end alike for every order in the crate `ending`;
-// the calls on lent words stand in a crate above.
+// The answers of a knot check's calls. What the calls do is defined in specs/ and proved to end alike for every order in the crate `ending`;
+// the calls on lent words stand in a crate above. Running on answers with `machine::Ran`, as in any check.
 use steps::Message;
 use steps::Process;
 
@@ -7,13 +7,6 @@ use steps::Process;
 pub enum Delivery {
     Delivered(Message),
     Refused(u32),
-}
-
-// The answer of running on: over or spent with the number of deliveries made, or a refusal with its number and the deliveries made before it.
-pub enum Ran {
-    Over(u32),
-    Spent(u32),
-    Refused { number: u32, made: u32 },
 }
 
 pub enum Verdict {

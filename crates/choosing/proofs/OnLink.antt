@@ -1,112 +1,153 @@
 -- One delivery in the fixed order, in a ready area.
---   made w                    == the delivery
---   holding-lowest            == the area after it holds the run after it
---   Left w sq n m x v l j     == what it leaves of the area w: the answer x, the area v, its loads l and its bounds j
+--   holding-next-of           == the area after it holds the run after it
+--   Left w sq n m x v l       == what it leaves of the area w: the answer x, the area v, and what is remembered of that, l
+--   left-small                == the ends of the link of a delivered message are processes, and so at most 128
 --   left-none                 == no link is chosen
---   link-asks, note-asks, carry-asks   == what preparing the delivery on the chosen link asks, then the lists' part, then carrying it out
+--   link-asks, note-asks, carry-asks   == what preparing the delivery on the chosen link asks, then noting it, then carrying it out
 --   left-refused, left-delivered       == the delivery is refused, or a message is delivered
 -- Assumes nothing.
 use Prim.Native.Nat.{ℕ, _≤_}
-use mathlib.Core.Bool.{true}
 use mathlib.Core.List.{List}
+use mathlib.Core.Bool.{true}
 use mathlib.Core.Path.{_≡_, refl, sym, ap, _∙_}
 use native.Mathlib.Omega.{arith}
 use lib.ListN.{length, getD}
 use lib.IntN.{ℤ}
-use Rattle.tables.specs.Waits.{Sound, neighbours}
+use Rattle.tables.specs.Sound.{Sound}
+use Rattle.tables.specs.Waits.{neighbours}
 use Rattle.steps.specs.declared.Message.{Message}
 use Rattle.steps.specs.declared.Process.{Process}
 use Rattle.steps.specs.declared.Probes.{Probes}
 use Rattle.steps.specs.declared.Reply.{Reply}
+use Rattle.checks.specs.declared.Delivery.{Delivery}
+use Rattle.checks.specs.declared.Delivery.the-variants.{Delivered}
 use Rattle.checks.specs.Run.{Run}
-use Rattle.checks.specs.Calls.{Picked, refused, deliver, nobody, pair, lowest, deliverOn}
-use Rattle.ending.specs.ChooserLaws.{lowest-pair}
+use Rattle.checks.specs.Calls.{Picked, refused, deliver}
+use Rattle.machine.specs.Calls.{Selection, nobody, pair, lowest}
+use Rattle.machine.specs.ChooserLaws.{lowest-pair}
 use Rattle.areas.specs.Area.{fieldsIn, runIn, keeping}
-use Rattle.moves.specs.declared.delivering.Prepared.{Prepared}
-use Rattle.moves.specs.declared.delivering.Prepared.the-variants.{Go}
-use Rattle.moves.specs.Delivering.{carriedOut, Carried, preparedOf}
-use Rattle.moves.specs.PreparedLaws.{Going, refused-of, going-of}
-use Rattle.moves.specs.Fit.{fit-on, waiting-joined}
-use Rattle.moves.specs.Ready.{Ready, right-fit}
-use Rattle.moves.specs.ReadyLaws.{ready-n}
-use Rattle.moves.proofs.Holding.{Holding, holding-first, holding-run, holding-ready, holding-next}
+use Rattle.delivery.specs.declared.delivering.Prepared.{Prepared}
+use Rattle.delivery.specs.declared.delivering.Prepared.the-variants.{Go}
+use Rattle.delivery.specs.Delivering.{carriedOut, Carried, preparedOf}
+use Rattle.delivery.specs.DeliveryFacts.{Going}
+use Rattle.delivery.specs.PreparedLaws.{refused-of, going-of}
+use Rattle.delivery.specs.StorableLaws.{storable-on, waiting-joined}
+use Rattle.lenses.specs.Ready.{Ready}
+use Rattle.lenses.specs.ReadyLaws.{right-storable, ready-n, ready-sizes}
+use Rattle.lenses.proofs.Holding.{Holding, holding-first, holding-run, holding-ready, holding-next}
 use Rattle.choosing.specs.declared.Chosen.{Chosen}
 use Rattle.choosing.specs.declared.Chosen.the-variants.{Nobody, Link}
-use Rattle.choosing.specs.declared.Lowest.{Lowest}
-use Rattle.choosing.specs.Loads.{Loaded, chosenOf}
-use Rattle.choosing.specs.Lows.{Lows, Nears, notedLoads, notedLows}
-use Rattle.choosing.specs.Lowest.{lowestAnswer}
-use Rattle.choosing.specs.SenderLaws.{sent-few}
-use Rattle.choosing.specs.LoadLaws.{loaded-noted, loaded-few, loaded-some}
-use Rattle.choosing.specs.LowsLaws.{lows-noted}
-use Rattle.choosing.specs.OrderLaws.{chosenOf-nobody, chosenOf-link}
-use Rattle.choosing.specs.LowestLaws.{deliverOn-nobody, deliverOn-pair}
+use Rattle.choosing.specs.declared.ChosenDelivery.{ChosenDelivery}
+use Rattle.choosing.specs.Memory.{memorySize, backlogAt, Remembers}
+use Rattle.choosing.specs.Noting.{noted}
+use Rattle.choosing.specs.Answers.{chosenOf, chosenAnswer, nextOf}
+use Rattle.choosing.specs.SpreadLaws.{probesSent-few}
+use Rattle.choosing.specs.MemoryLaws.{remembers-few, remembers-some}
+use Rattle.choosing.specs.NotedLaws.{remembers-noted}
+use Rattle.choosing.specs.AnswerLaws.{chosenOf-nobody, chosenOf-link, deliverOn-nobody, deliverOn-pair, chosenAnswer-delivered}
 
-abbrev pub made : List ℤ → Picked
-made w = deliverOn (runIn w) (lowest (runIn w))
+pub holding-next-of
+    : {w : List ℤ} {sq : List ℕ} {n m : ℕ} (y : Ready w sq n m) {v u : List ℤ} {r : Run}
+    → Holding w v r
+    → u ≡ keeping v (nextOf (runIn v) .run)
+    → Holding w u (nextOf r .run)
+holding-next-of {w} y {r = r} h e = holding-next y h (λ q. nextOf q .run) e (storable-on (fieldsIn w) r (h .fit) (lowest r) refl)
 
-pub holding-lowest : {w : List ℤ} {sq : List ℕ} {n m : ℕ} (y : Ready w sq n m) {v u : List ℤ} {r : Run} → Holding w v r → u ≡ keeping v (made v .run) → Holding w u (deliverOn r (lowest r) .run)
-holding-lowest {w} y {r = r} h e = holding-next y h (λ q. deliverOn q (lowest q) .run) e (fit-on (fieldsIn w) r (h .fit) (lowest r) refl)
+abbrev pub Left : List ℤ → List ℕ → ℕ → ℕ → ChosenDelivery → List ℤ → List ℕ → Type 0
+Left w sq n m x v l =
+    (x ≡ chosenAnswer (lowest (runIn w)) (nextOf (runIn w) .answer)) × ((v ≡ keeping w (nextOf (runIn w) .run)) × (Remembers (runIn v) l × Ready v sq n m))
 
-abbrev pub Left : List ℤ → List ℕ → ℕ → ℕ → Lowest → List ℤ → List ℕ → List ℕ → Type 0
-Left w sq n m x v l j =
-    (x ≡ lowestAnswer (lowest (runIn w)) (made w .answer)) × ((v ≡ keeping w (made w .run)) × (Loaded (runIn v) l × (Lows (runIn v) j × Ready v sq n m)))
+module _ {w : List ℤ} {sq : List ℕ} {n m : ℕ} (y : Ready w sq n m) where
+  pub left-small
+      : {x : ChosenDelivery} {v : List ℤ} {l : List ℕ} → Left w sq n m x v l
+      → {a b : ℕ} {k : Message} → x ≡ ChosenDelivery.Delivered a b k
+      → (a ≤ 128) × (b ≤ 128)
+  left-small d {a} {b} {k} e =
+      let p = lowest-pair (runIn w) (chosenAnswer-delivered (runIn w) a b k (lowest (runIn w)) (sym (d .0) ∙ e) .0) in
+      (omega (arith, p .0 .1, ready-n y, ready-sizes y .0), omega (arith, p .1 .1, ready-n y, ready-sizes y .0))
 
-module _ {w : List ℤ} {sq : List ℕ} {n m : ℕ} (y : Ready w sq n m) {l j d : List ℕ} (h : Loaded (runIn w) l × (Lows (runIn w) j × Nears (runIn w .waits) d)) {c : Chosen} (g : c ≡ chosenOf (lowest (runIn w))) where
+module _ {w : List ℤ} {sq : List ℕ} {n m : ℕ} (y : Ready w sq n m) {l : List ℕ} (h : Remembers (runIn w) l) {c : Chosen}
+    (g : c ≡ chosenOf (lowest (runIn w))) where
   -- the delivery leaves the area as it was
-  left-same : {k : ℕ} → made w ≡ refused k (runIn w) → Lowest.Refused k ≡ lowestAnswer (lowest (runIn w)) (made w .answer) → Left w sq n m (Lowest.Refused k) w l j
-  left-same p e = (e, (rw p (holding-first y .is), (h .0, (h .1 .0, y))))
+  left-same
+      : {k : ℕ}
+      → nextOf (runIn w) ≡ refused k (runIn w)
+      → ChosenDelivery.Refused k ≡ chosenAnswer (lowest (runIn w)) (nextOf (runIn w) .answer)
+      → Left w sq n m (ChosenDelivery.Refused k) w l
+  left-same p e = (e, (holding-first y .is ∙ sym (ap (λ (o : Picked). keeping w (o .run)) p), (h, y)))
 
-  pub left-none : c ≡ Nobody → Left w sq n m (Lowest.Refused 24) w l j
+  -- the answer of a refused delivery, whatever was chosen
+  refused-answer
+      : {k : ℕ} (d : Selection)
+      → lowest (runIn w) ≡ d
+      → nextOf (runIn w) ≡ refused k (runIn w)
+      → ChosenDelivery.Refused k ≡ chosenAnswer (lowest (runIn w)) (nextOf (runIn w) .answer)
+  refused-answer {k} d e p =
+      sym (ap (λ (o : Picked). chosenAnswer (lowest (runIn w)) (o .answer)) p ∙ ap (λ (d : Selection). chosenAnswer d (Delivery.Refused k)) e ∙ at d)
+    where
+      at : (d : Selection) → chosenAnswer d (Delivery.Refused k) ≡ ChosenDelivery.Refused k
+      at nobody = refl
+      at (pair a b) = refl
+
+  pub left-none : c ≡ Nobody → Left w sq n m (ChosenDelivery.Refused 24) w l
   left-none i =
       let e : lowest (runIn w) ≡ nobody = chosenOf-nobody (lowest (runIn w)) (sym g ∙ i) in
       let p = deliverOn-nobody (runIn w) e in
-      left-same p (rw (p, e) refl)
+      left-same p (refused-answer nobody e p)
 
   module _ {a b : ℕ} (i : c ≡ Link a b) where
     chosen : lowest (runIn w) ≡ pair a b
     chosen = chosenOf-link (lowest (runIn w)) a b (sym g ∙ i)
 
     joined : neighbours (runIn w .waits) a b ≡ true
-    joined = waiting-joined (fieldsIn w) (runIn w) (right-fit w (y .right) .held) a b (lowest-pair (runIn w) chosen .2)
+    joined = waiting-joined (fieldsIn w) (runIn w) (right-storable w (y .right) .held) a b (lowest-pair (runIn w) chosen .2)
 
     sound : Sound (runIn w .waits)
-    sound = right-fit w (y .right) .sound
+    sound = right-storable w (y .right) .sound
 
     pub link-asks : Ready w sq n m × ((neighbours (runIn w .waits) a b ≡ true) × ((a ≤ n) × (b ≤ n)))
     link-asks =
         let p = lowest-pair (runIn w) chosen in
         (y, (joined, (omega (arith, p .0, ready-n y), omega (arith, p .1, ready-n y))))
 
-    this : made w ≡ deliver (runIn w) a b (runIn w .link a b)
+    this : nextOf (runIn w) ≡ deliver (runIn w) a b (runIn w .link a b)
     this = deliverOn-pair (runIn w) a b chosen
 
     -- o is the prepared delivery
     module _ {o : Prepared} (f : o ≡ preparedOf (runIn w) a b (runIn w .link a b)) where
-      pub left-refused : {k : ℕ} → o ≡ Prepared.Refused k → Left w sq n m (Lowest.Refused k) w l j
+      pub left-refused : {k : ℕ} → o ≡ Prepared.Refused k → Left w sq n m (ChosenDelivery.Refused k) w l
       left-refused {k} e =
-          let p : made w ≡ refused k (runIn w) = this ∙ refused-of (runIn w) a b k (runIn w .link a b) (sym f ∙ e) in
-          left-same p (rw (p, chosen) refl)
+          let p : nextOf (runIn w) ≡ refused k (runIn w) = this ∙ refused-of (runIn w) a b k (runIn w .link a b) (sym f ∙ e) in
+          left-same p (refused-answer (pair a b) chosen p)
 
       module _ {s : Message} {x : Process} {p : Probes} {z : Reply} {k : ℕ} (e : o ≡ Go s x p z k) where
         going : Going (runIn w) n a b s x p z k
         going = going-of y a b joined (sym f ∙ e)
 
-        pub note-asks : ((length l ≡ 129) × (length j ≡ 129)) × (((a ≤ 128) × (1 ≤ getD l a 0)) × ((b ≤ 128) × (getD l b 0 ≤ 512) × (k ≤ 128)))
+        pub note-asks : (length l ≡ memorySize) × (((a ≤ 128) × (1 ≤ getD l (backlogAt a) 0)) × ((b ≤ 128) × (getD l (backlogAt b) 0 ≤ 512) × (k ≤ 128)))
         note-asks =
             let q = lowest-pair (runIn w) chosen in
             let few : runIn w .waits .n ≤ 128 = sound .few in
-            let put : k ≤ 128 = omega (arith, going .sent, sent-few (runIn w .waits) b p) in
-            ((h .0 .long, h .1 .0 .long), ((omega (arith, q .0), loaded-some (h .0) a b (q .0 .0) (q .0 .1) (q .1 .0) (q .1 .1) (q .2)), (omega (arith, q .1), omega (arith, loaded-few w (h .0) b (q .1 .0) (q .1 .1)), put)))
+            let put : k ≤ 128 = omega (arith, going .sent, probesSent-few (runIn w .waits) b p) in
+            let small : getD l (backlogAt b) 0 ≤ 512 = omega (arith, remembers-few w h b (q .1 .0) (q .1 .1)) in
+            (h .long, ((omega (arith, q .0), remembers-some h a b (q .0) (q .1) (q .2)), (omega (arith, q .1), small, put)))
 
         pub carry-asks : Ready w sq n m × Carried (runIn w) a b x p z
         carry-asks = (y, going .carried)
 
-        -- the lists and the area after it
-        pub left-delivered : {l′ j′ : List ℕ} {v : List ℤ} → (l′ ≡ notedLoads l a b z k) × (j′ ≡ notedLows j a b z k (getD d b 0)) → v ≡ keeping w (carriedOut (runIn w) a b x p z) → Left w sq n m (Lowest.Delivered a b s) v l′ j′
-        left-delivered {l′} {j′} {v} t u =
-            let run : made w .run ≡ carriedOut (runIn w) a b x p z = ap (λ (o : Picked). o .run) this ∙ going .run in
-            let kept : v ≡ keeping w (made w .run) = u ∙ ap (keeping w) (sym run) in
-            let holds = holding-lowest y (holding-first y) kept in
+        -- what is remembered, and the area after it
+        pub left-delivered
+            : {j : List ℕ} {v : List ℤ}
+            → j ≡ noted l a b z k
+            → v ≡ keeping w (carriedOut (runIn w) a b x p z)
+            → Left w sq n m (ChosenDelivery.Delivered a b s) v j
+        left-delivered {j} {v} t u =
+            let run : nextOf (runIn w) .run ≡ carriedOut (runIn w) a b x p z = ap (λ (o : Picked). o .run) this ∙ going .run in
+            let kept : v ≡ keeping w (nextOf (runIn w) .run) = u ∙ ap (keeping w) (sym run) in
+            let holds = holding-next-of y (holding-first y) kept in
             let now-run : runIn v ≡ carriedOut (runIn w) a b x p z = holding-run y holds ∙ run in
-            (rw (this, chosen, going .answer) refl, (kept, (rw (now-run, t .0) (loaded-noted (runIn w) sound (h .0) a b x p z (going .carried) k (going .sent)), (rw (now-run, t .1) (lows-noted (runIn w) sound chosen (h .1 .0) x p z (going .carried) k (going .sent) (h .1 .1)), holding-ready y holds))))
+            let after = remembers-noted (runIn w) sound chosen h x p z (going .carried) k (going .sent) in
+            let says : nextOf (runIn w) .answer ≡ Delivered s = ap (λ (o : Picked). o .answer) this ∙ going .answer in
+            let told : chosenAnswer (lowest (runIn w)) (nextOf (runIn w) .answer) ≡ ChosenDelivery.Delivered a b s =
+            ap (chosenAnswer (lowest (runIn w))) says ∙ ap (λ (d : Selection). chosenAnswer d (Delivered s)) chosen in
+            (sym told, (kept, (rw (now-run, t) after, holding-ready y holds)))

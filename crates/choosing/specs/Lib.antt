@@ -1,13 +1,16 @@
--- The fixed order of running on, on a tested area: Loads (what a sender has waiting), Lows (from where on to look), Lowest (one delivery),
--- SenderLaws (which links each part of a delivery changes), ArcLaws (a load, arc by arc), NearLaws (the bounds of neighbours, arc by arc), LoadLaws and LowsLaws (how loads and bounds follow a delivery), OrderLaws (how the
--- first link with a message is found), LowestLaws (what an answer says of the delivery).
-pub mod Loads
-pub mod Lows
-pub mod Lowest
+-- The fixed order of running on, on a tested area. What a reader must believe: Memory (what is remembered of a run between deliveries) and
+-- Answers (what the code answers for a choice and a delivery). How the code comes by it: Filling (arc by arc) and Noting (how it follows a
+-- delivery). Laws: SenderLaws and SpreadLaws (which links each part of a delivery changes), ArcLaws (a backlog, arc by arc), FillLaws,
+-- OrderLaws (how the first link with a message is found), MemoryLaws, NotedLaws and AnswerLaws.
+pub mod Memory
+pub mod Answers
+pub mod Filling
+pub mod Noting
 pub mod SenderLaws
+pub mod SpreadLaws
 pub mod ArcLaws
-pub mod LoadLaws
-pub mod LowsLaws
-pub mod NearLaws
+pub mod FillLaws
 pub mod OrderLaws
-pub mod LowestLaws
+pub mod MemoryLaws
+pub mod NotedLaws
+pub mod AnswerLaws

@@ -2,18 +2,18 @@
 use crate::numbers;
 
 // How the waits of a drawn graph lie: anywhere.
-pub const ANYWHERE: usize = 0;
+const ANYWHERE: usize = 0;
 // Each for the process itself or one of a higher number, so that no two processes reach each other.
-pub const RISING: usize = 1;
+const RISING: usize = 1;
 // Each for one of the next eight in the ring of numbers.
-pub const NEAR: usize = 2;
+const NEAR: usize = 2;
 
 pub const KINDS: usize = 3;
 
 // The shapes: a ring.
-pub const RING: usize = 0;
+const RING: usize = 0;
 // A path.
-pub const PATH: usize = 1;
+const PATH: usize = 1;
 // 1 waits for all.
 pub const FAN: usize = 2;
 // 1 waits for all, and all for 1.
@@ -23,9 +23,9 @@ pub const ROW: usize = 4;
 // All wait for all.
 pub const COMPLETE: usize = 5;
 // Each process waits for itself.
-pub const LOOPS: usize = 6;
+const LOOPS: usize = 6;
 // A ring of the first half, one of the second half, and a wait from the first for the second.
-pub const TWO_RINGS: usize = 7;
+const TWO_RINGS: usize = 7;
 // 1 and 2 wait for each other, 1 for 3, 3 for all after it, and those for 2: counts of 127 and -127 occur from 1 if the pre waits long.
 pub const EXTREME: usize = 8;
 

@@ -1,120 +1,135 @@
--- All invariants together, and what they give for one delivery: a run that holds them is well formed, a delivery from it is accepted
--- and holds them again.
+-- All invariants together: a run that holds them is well formed, a delivery from it is accepted and holds them again.
 --   Holds r          == every invariant of r, for its own waits and start
 --   holds-start      == start gives them
 --   holds-after      == every delivery keeps them
+--   holds-count      == the deliveries made are at most D
 --   holds-formed     == such a run is well formed: 21 is never met
 --   holds-accepts    == such a run meets no 22
+--   holds-upheld     == what the machine asks of a check's invariants
 -- Assumes nothing.
-use Prim.Native.Nat.{ℕ, zero, suc, _+_, _*_, _≤_}
-use mathlib.Core.Bool.{Bool, true, false, not, _&&_, _||_}
-use mathlib.Core.List.{List, [], _∷_, _++_}
-use mathlib.Core.Path.{_≡_, refl, sym, ap, _∙_, subst}
-use mathlib.Core.Logic.{_⊎_, ⊎-elim}
+use Prim.Native.Nat.{ℕ, _≤_}
+use mathlib.Core.Bool.{Bool, true, false, not, _&&_}
+use mathlib.Core.List.{List, _∷_, _++_}
+use mathlib.Core.Path.{_≡_, refl, subst}
+use mathlib.Core.Logic.{⊎-elim}
 use native.Mathlib.Omega.{arith}
-use borrow.Author.Tests.{eqb-true, le-leb, eq-eqb}
+use borrow.Author.Tests.{eqb-true, eqb-false, le-leb, eq-eqb}
 use lib.Dec.{eqb, leb}
-use lib.ListN.{length}
 use lib.IntN.{ℤ}
-use Rattle.base.specs.Choice.{choose, and-both, and-left, and-right, or-left, or-right, Same, same, apart, same?}
-use Rattle.base.specs.Sums.{allTo, allTo-of, allTo-at}
-use Rattle.tables.specs.Waits.{Waits, Sound, neighbours}
+use Rattle.base.specs.Choice.{choose, bit}
+use Rattle.base.specs.ChoiceLaws.{and-both, and-left, or-left, or-right, Same, same, apart, same?, Tested, passed, failed, tested}
+use Rattle.tables.specs.Waits.{Waits, outDegree, inDegree, neighbours}
+use Rattle.tables.specs.Sound.{Sound}
+use Rattle.tables.specs.Table.{IsProcess, isProcess}
+use Rattle.machine.specs.Machine as Machines
+use Rattle.machine.specs.Moved.{Moved}
+use Rattle.machine.specs.MovedLaws.{after-moved}
+use Rattle.machine.specs.Formed.{Formed}
+use Rattle.machine.specs.FormedLaws.{wellFormed-P, accepts-P, allRight-tail}
+use Rattle.machine.specs.Made.{Answered, none-refused, no-link, not-over}
+use Rattle.machine.specs.Diffusing.{Treed}
+use Rattle.machine.specs.DiffusingLaws.{diffusing-start, diffusing-kept}
+use Rattle.machine.specs.RestLaws.{ack-awaited, work-busy}
+use Rattle.machine.specs.TreeLaws.{treed-start, treed-kept}
+use Rattle.machine.specs.Upheld.{Upheld}
 use Rattle.steps.specs.declared.Message.{Message}
 use Rattle.steps.specs.declared.Message.the-variants.{Suc, Pre, Ack}
 use Rattle.steps.specs.declared.Process.{Process}
 use Rattle.steps.specs.declared.Reply.{Reply}
 use Rattle.steps.specs.declared.Reply.the-variants.{To}
-use Rattle.steps.specs.Step.{Turn, inRange, small, countSmall, numSuffices, replyFits, fitting, newSubordinate}
-use Rattle.checks.specs.Run.{Run, over, startRun, turnAt, one, replyTo, probesTo, sentTo, taken, after, accepts, wellFormed, linkRight, countsSmall, processRight, fatherRight}
-use Rattle.checks.specs.Lists.{IsProcess}
+use Rattle.steps.specs.Step.{inRange, small, countSmall, numSuffices, replyFits, fitting, newSubordinate}
+use Rattle.steps.specs.Effect.{isProbe, Effect}
+use Rattle.checks.specs.declared.Report.{Report}
+use Rattle.checks.specs.declared.Reading.{Reading}
+use Rattle.checks.specs.declared.Reading.the-variants.{Found}
+use Rattle.checks.specs.Run.{Run, knot, over, startRun, turnAt, replyTo, probesTo, sentTo, leaving, after, accepts, wellFormed, fatherRight, countsSmall}
+use Rattle.checks.specs.Calls.{report, reported, readRecord, reportNumber, readingNumber}
+use Rattle.checks.specs.Lists.{asked}
 use Rattle.checks.specs.Reach.{dOf}
-use Rattle.ending.specs.Weights.{isAck, sends}
-use Rattle.ending.specs.Moved.{Moved, after-moved}
-use Rattle.ending.specs.Effect.{Known, Effect}
-use Rattle.ending.specs.Invariants.{Tidy, Diffusing, Treed, Spread, Summed}
-use Rattle.ending.specs.Counting.{diffusing-kept}
-use Rattle.ending.specs.CountingStart.{diffusing-start}
-use Rattle.ending.specs.CountingUse.{ack-awaited, link-short, num-small, count-most}
-use Rattle.ending.specs.Tree.{treed-start, treed-kept}
-use Rattle.ending.specs.Summing.{summed-start, summed-kept}
-use Rattle.ending.specs.SumBounds.{cs-small, counts-small}
+use Rattle.checks.specs.RunLaws.{turnAt-effect}
+use Rattle.ending.specs.Weights.{quota, Diffuses}
+use Rattle.ending.specs.Invariants.{Tidy, Worked, Spread, Summed}
+use Rattle.ending.specs.Counting.{quota-near, knot-begins, effect-counted, worked-start, worked-kept, link-short, num-small}
 use Rattle.ending.specs.Tidying.{tidy-start, tidy-kept}
 use Rattle.ending.specs.Spreading.{spread-start, spread-kept}
 use Rattle.ending.specs.SpreadEnd.{sends-most, dOf-most}
-use Rattle.ending.specs.EffectLaws.{turnAt-effect}
+use Rattle.ending.specs.Summing.{summed-start, summed-kept}
+use Rattle.ending.specs.SumBounds.{cs-small, counts-small}
 
 pub record Holds (r : Run) : Type 0 where
   pub sound : Sound (r .waits)
   pub tidy : Tidy (r .waits) (r .start) r
-  pub diffusing : Diffusing (r .waits) (r .start) r
-  pub treed : Treed (r .waits) (r .start) r
+  pub diffusing : Diffuses (r .waits) (r .start) r
+  pub worked : Worked (r .waits) r
+  pub treed : Treed knot (r .waits) (r .start) r
   pub spread : Spread (r .waits) (r .start) r
   pub summed : Summed (r .waits) (r .start) r
 
-pub holds-start : (w : Waits) (s : ℕ) → Sound w → IsProcess w s → Holds (startRun w s)
-unfolding startRun
+pub holds-start : (w : Waits) (s : ℕ) → Sound w → IsProcess (w .n) s → Holds (startRun w s)
+unfolding Machines.startRun
 holds-start w s sd p =
     record {
       sound = sd;
       tidy = tidy-start p;
-      diffusing = diffusing-start w s sd p;
-      treed = treed-start w s;
+      diffusing = diffusing-start (knot-begins w s);
+      worked = worked-start w s p;
+      treed = treed-start (knot-begins w s);
       spread = spread-start sd p;
       summed = summed-start w s p;
     }
 
 -- ---- a delivery
 
-module _ (r : Run) (h : Holds r) (a b : ℕ) (pa : IsProcess (r .waits) a) (pb : IsProcess (r .waits) b) (m : Message) (rest : List Message) (l : r .link a b ≡ m ∷ rest) where
-  moved : Moved (r .waits) r a b m (turnAt r a b m) (after r a b m rest)
-  moved = after-moved r a b m rest l
+module _ (r : Run) (h : Holds r) (a b : ℕ) (pa : IsProcess (r .waits .n) a) (pb : IsProcess (r .waits .n) b) (m : Message) (rest : List Message)
+    (l : r .link a b ≡ m ∷ rest) where
+  moved : Moved (r .waits) r a b m (leaving (r .waits) b (turnAt r a b m)) (after r a b m rest)
+  moved = after-moved knot r a b m rest l
 
-  known : Known (eqb b (r .start)) m (r .process b)
-  unfolding moved
-  known =
-      record {
+  awaited : bit (not (isProbe m)) ≤ r .process b .num
+  awaited = omega (arith, moved .waited (λ n. bit (not (isProbe n))), ack-awaited (h .diffusing) pa pb)
+
+  effect : Effect (eqb b (r .start)) m (outDegree (r .waits) b) (inDegree (r .waits) b) a (r .process b) (turnAt r a b m)
+  effect =
+      turnAt-effect r a b m
+      (record {
         succ-bit = h .tidy .succ-bit b pb;
         prec-bit = h .tidy .prec-bit b pb;
         sub-is = h .tidy .sub-is b pb;
         root-succ = λ e. rw (eqb-true b (r .start) e) (h .tidy .start-succ);
         root-prec = λ e. rw (eqb-true b (r .start) e) (h .tidy .start-prec);
-        num-suffices = ack-awaited (h .sound) (h .tidy) (h .diffusing) pa pb m (moved .waited isAck);
-      }
+        num-suffices = awaited;
+      })
 
-  effect : Effect (eqb b (r .start)) m (Rattle.tables.specs.Waits.outDegree (r .waits) b) (Rattle.tables.specs.Waits.inDegree (r .waits) b) a (r .process b) (turnAt r a b m)
-  effect = turnAt-effect r a b m known
-
-  pub holds-after : Holds (after r a b m rest)
-  unfolding after
+  holds-after : Holds (after r a b m rest)
+  unfolding Machines.after
   holds-after =
-      let d : Diffusing (r .waits) (r .start) (after r a b m rest) = diffusing-kept (h .sound) (h .tidy) (h .diffusing) pa pb moved effect in
+      let d : Diffuses (r .waits) (r .start) (after r a b m rest) =
+      diffusing-kept (quota-near (r .waits)) (h .diffusing) pa pb moved (effect-counted (r .waits) (r .start) effect) in
       record {
         sound = h .sound;
         tidy = tidy-kept (h .tidy) pb moved effect;
         diffusing = d;
-        treed = treed-kept (h .diffusing) d (h .treed) pa pb moved effect;
+        worked = worked-kept (r .start) pa pb moved effect (h .worked);
+        treed = treed-kept (h .diffusing) d (h .treed) pa pb moved (effect-counted (r .waits) (r .start) effect) (effect .father-kept);
         spread = spread-kept (h .sound) (h .tidy) (h .spread) pa pb moved effect;
         summed = summed-kept (h .tidy) (h .diffusing) (h .summed) pa pb moved effect;
       }
 
 -- ---- well formed
 
+sub-bit : (x : Process) → newSubordinate x ≤ 1
+unfolding newSubordinate
+sub-bit x = at (eqb (x .succeeding) 1 && eqb (x .preceding) 0)
+  where
+    at : (b : Bool) → choose b 1 0 ≤ 1
+    at true = omega arith
+    at false = omega arith
+
 module _ (r : Run) (h : Holds r) where
   pub holds-count : r .count ≤ dOf (r .waits) (r .start)
-  holds-count = omega (arith, count-most (h .sound) (h .tidy) (h .diffusing), sends-most (h .sound) (h .tidy) (h .spread))
+  holds-count = omega (arith, work-busy knot (r .waits .n) r (h .tidy .start-in), h .worked, sends-most (h .sound) (h .tidy) (h .spread))
 
-  count-fits : r .count ≤ 2048
-  count-fits = omega (arith, holds-count, dOf-most (r .waits) (r .start) (h .sound))
-
-  sub-bit : (x : Process) → newSubordinate x ≤ 1
-  unfolding newSubordinate
-  sub-bit x = at (eqb (x .succeeding) 1 && eqb (x .preceding) 0)
-    where
-      at : (b : Bool) → choose b 1 0 ≤ 1
-      at true = omega arith
-      at false = omega arith
-
-  pub holds-range : (i : ℕ) → IsProcess (r .waits) i → inRange (r .process i) ≡ true
+  holds-range : (i : ℕ) → IsProcess (r .waits .n) i → inRange (r .process i) ≡ true
   unfolding inRange
   holds-range i p =
       let x : Process = r .process i in
@@ -124,95 +139,120 @@ module _ (r : Run) (h : Holds r) where
       (le-leb (x .preceding) 1 (h .tidy .prec-bit i p)))
       (le-leb (x .subordinate) 1 sub))
       (cs-small (h .sound) (h .tidy) (h .summed) i p))
-      (le-leb (x .num) 256 (num-small (h .sound) (h .tidy) (h .diffusing) p))
+      (le-leb (x .num) 256 (num-small (h .tidy) (h .diffusing) (h .sound) p))
 
-  father-fits : (i : ℕ) → IsProcess (r .waits) i → fatherRight (r .waits) i (r .process i) ≡ true
+  father-fits : (i : ℕ) → IsProcess (r .waits .n) i → fatherRight (r .waits) i (r .process i) ≡ true
   unfolding fatherRight
   father-fits i p =
+      let f : ℕ = r .process i .father in
       ⊎-elim
-      (λ (e : r .process i .father ≡ 0). or-left (eqb (r .process i .father) 0) (neighbours (r .waits) i (r .process i .father)) (eq-eqb (r .process i .father) 0 e))
-      (λ e. or-right (eqb (r .process i .father) 0) (neighbours (r .waits) i (r .process i .father)) e)
+      (λ (e : f ≡ 0). or-left (eqb f 0) (neighbours (r .waits) i f) (eq-eqb f 0 e))
+      (λ e. or-right (eqb f 0) (neighbours (r .waits) i f) e)
       (h .diffusing .fathers i p)
 
-  link-fits : (a b : ℕ) → IsProcess (r .waits) a → IsProcess (r .waits) b → linkRight (r .link a b) ≡ true
-  unfolding linkRight
-  link-fits a b p q =
-      and-both _ _ (le-leb (length (r .link a b)) 4 (link-short (h .sound) (h .tidy) (h .diffusing) p q)) (counts-small (h .sound) (h .tidy) (h .summed) a b p q)
+  parts : Formed knot r
+  parts =
+      record {
+        room = refl;
+        start-in = h .tidy .start-in;
+        count = omega (arith, holds-count, dOf-most (r .waits) (r .start) (h .sound));
+        records = λ i p. and-both _ _ (holds-range i p) (father-fits i p);
+        short = λ a b pa pb. link-short (h .tidy) (h .diffusing) pa pb;
+        messages = λ a b pa pb. counts-small (h .sound) (h .tidy) (h .summed) a b pa pb;
+      }
 
   pub holds-formed : wellFormed r ≡ true
-  unfolding wellFormed processRight
-  holds-formed =
-      let n : ℕ = r .waits .n in
-      and-both _ _ (and-both _ _ (and-both _ _ (and-both _ _
-      (le-leb 1 (r .start) (h .tidy .start-in .0))
-      (le-leb (r .start) n (h .tidy .start-in .1)))
-      (le-leb (r .count) 2048 count-fits))
-      (allTo-of n (processRight r) (λ i l u. and-both _ _ (holds-range i (l, u)) (father-fits i (l, u)))))
-      (allTo-of n (λ a. allTo n (λ b. linkRight (r .link a b))) (λ a la ua. allTo-of n (λ b. linkRight (r .link a b)) (λ b lb ub. link-fits a b (la, ua) (lb, ub))))
+  holds-formed = wellFormed-P knot r .1 parts
 
 -- ---- accepted
 
--- the counts of a list are in range: of its last part too
-counts-tail : (xs ys : List Message) → countsSmall (xs ++ ys) ≡ true → countsSmall ys ≡ true
-unfolding countsSmall
-counts-tail [] ys e = e
-counts-tail (m ∷ ms) ys e = counts-tail ms ys (and-right (countSmall m) (countsSmall (ms ++ ys)) e)
-
 -- an acknowledgement that a step sends stands on a link afterwards, so its count is in range
-reply-small : (r : Run) (a b : ℕ) (m : Message) (rest : List Message) (t : Turn) (p : ℕ) (c : ℤ) → turnAt r a b m ≡ t → t .reply ≡ To p c → countsSmall (after r a b m rest .link b p) ≡ true → small c ≡ true
-unfolding after sentTo replyTo countsSmall countSmall
-reply-small r a b m rest t p c e f k = at (same? b b) (same? p p)
+reply-small : (before after : List Message) (p : ℕ) (c : ℤ) → countsSmall (before ++ (replyTo (To p c) p ++ after)) ≡ true → small c ≡ true
+unfolding replyTo Machines.allRight countSmall
+reply-small before after p c k = at (same? p p)
   where
-    at : Same b b → Same p p → small c ≡ true
-    at (apart d _) _ = absurd (d refl)
-    at (same _ _) (apart d _) = absurd (d refl)
-    at (same _ bb) (same _ pp) =
-        let k1 : countsSmall (choose (eqb b b) (taken r a b rest b p ++ (replyTo (turnAt r a b m .reply) p ++ probesTo (r .waits) b (turnAt r a b m .probes) p)) (taken r a b rest b p)) ≡ true = k in
-        let k2 : countsSmall (taken r a b rest b p ++ (replyTo (turnAt r a b m .reply) p ++ probesTo (r .waits) b (turnAt r a b m .probes) p)) ≡ true = rw bb at k1 in
-        let k3 : countsSmall (replyTo (turnAt r a b m .reply) p ++ probesTo (r .waits) b (turnAt r a b m .probes) p) ≡ true = counts-tail (taken r a b rest b p) (replyTo (turnAt r a b m .reply) p ++ probesTo (r .waits) b (turnAt r a b m .probes) p) k2 in
-        let k4 : countsSmall (replyTo (To p c) p ++ probesTo (r .waits) b (turnAt r a b m .probes) p) ≡ true = subst (λ (y : Reply). countsSmall (replyTo y p ++ probesTo (r .waits) b (turnAt r a b m .probes) p) ≡ true) (ap (λ (z : Turn). z .reply) e ∙ f) k3 in
-        let k5 : countsSmall (one (eqb p p) (Ack c) ++ probesTo (r .waits) b (turnAt r a b m .probes) p) ≡ true = k4 in
-        let k6 : countsSmall (one true (Ack c) ++ probesTo (r .waits) b (turnAt r a b m .probes) p) ≡ true = rw pp at k5 in
-        and-left (small c) (countsSmall (probesTo (r .waits) b (turnAt r a b m .probes) p)) k6
+    at : Same p p → small c ≡ true
+    at (apart d _) = absurd (d refl)
+    at (same _ e) = and-left (small c) (countsSmall after) (rw e at (allRight-tail countSmall before (replyTo (To p c) p ++ after) k))
 
-module _ (r : Run) (h : Holds r) (a b : ℕ) (pa : IsProcess (r .waits) a) (pb : IsProcess (r .waits) b) (m : Message) (rest : List Message) (l : r .link a b ≡ m ∷ rest) where
+module _ (r : Run) (h : Holds r) (a b : ℕ) (pa : IsProcess (r .waits .n) a) (pb : IsProcess (r .waits .n) b) (m : Message) (rest : List Message)
+    (l : r .link a b ≡ m ∷ rest) where
   next : Holds (after r a b m rest)
   next = holds-after r h a b pa pb m rest l
 
-  suffices : (m : Message) → isAck m ≤ r .process b .num → numSuffices m (r .process b) ≡ true
+  suffices : (m : Message) → bit (not (isProbe m)) ≤ r .process b .num → numSuffices m (r .process b) ≡ true
   unfolding numSuffices
   suffices Suc k = refl
   suffices Pre k = refl
   suffices (Ack c) k = le-leb 1 (r .process b .num) k
 
   -- whom a step acknowledges is a process
-  replied-in : (p : ℕ) (c : ℤ) → turnAt r a b m .reply ≡ To p c → IsProcess (r .waits) p
+  replied-in : (p : ℕ) (c : ℤ) → turnAt r a b m .reply ≡ To p c → IsProcess (r .waits .n) p
   replied-in p c e =
       ⊎-elim
       (λ (q : p ≡ a). rw q pa)
       (λ (q : (eqb b (r .start) ≡ false) × (1 ≤ r .process b .num) × (p ≡ r .process b .father)).
-      rw (q .2) (h .diffusing .father-in b pb (λ s. borrow.Author.Tests.eqb-false b (r .start) (q .0) s) (q .1)))
+      rw (q .2) (h .diffusing .father-in b pb (λ s. eqb-false b (r .start) (q .0) s) (q .1)))
       (effect r h a b pa pb m rest l .replies p c e)
 
   reply-fits : (y : Reply) → turnAt r a b m .reply ≡ y → replyFits y ≡ true
-  unfolding replyFits after
+  unfolding replyFits Machines.after sentTo
   reply-fits Reply.Nothing e = refl
   reply-fits (To p c) e =
-      let ip : IsProcess (r .waits) p = replied-in p c e in
-      and-both _ _ (le-leb 1 p (ip .0)) (reply-small r a b m rest (turnAt r a b m) p c refl e (counts-small (next .sound) (next .tidy) (next .summed) b p pb ip))
+      let ip : IsProcess (r .waits .n) p = replied-in p c e in
+      let k : countsSmall (after r a b m rest .link b p) ≡ true = counts-small (next .sound) (next .tidy) (next .summed) b p pb ip in
+      and-both _ _ (le-leb 1 p (ip .0))
+      (reply-small (Machines.taken r a b rest b p) (probesTo (r .waits) b (turnAt r a b m .probes) p) p c (rw (eq-eqb b b refl, e) at k))
 
   range : inRange (turnAt r a b m .process) ≡ true
-  unfolding after
+  unfolding Machines.after
   range = subst (λ (x : Process). inRange x ≡ true) (moved r h a b pa pb m rest l .receiver) (holds-range (after r a b m rest) next b pb)
 
   fits : fitting m (r .process b) (turnAt r a b m) ≡ true
   unfolding fitting
-  fits = and-both _ _ (and-both _ _ (suffices m (known r h a b pa pb m rest l .num-suffices)) range) (reply-fits (turnAt r a b m .reply) refl)
+  fits = and-both _ _ (and-both _ _ (suffices m (awaited r h a b pa pb m rest l)) range) (reply-fits (turnAt r a b m .reply) refl)
 
-  pub holds-accepts : accepts r a b m rest ≡ true
-  unfolding accepts after
+  holds-accepts : accepts r a b m rest ≡ true
+  unfolding Machines.after
   holds-accepts =
-      and-both _ _ (and-both _ _
-      (le-leb (r .count + 1) 2048 (count-fits (after r a b m rest) next))
-      fits)
-      (allTo-of (r .waits .n) (λ q. leb (length (after r a b m rest .link b q)) 4) (λ q lq uq. le-leb (length (after r a b m rest .link b q)) 4 (link-short (next .sound) (next .tidy) (next .diffusing) pb (lq, uq))))
+      accepts-P knot r a b m rest .1
+      (record {
+        room = refl;
+        count = parts (after r a b m rest) next .count;
+        fits = fits;
+        short = λ q i. link-short (next .tidy) (next .diffusing) pb i;
+      })
+
+-- ---- what the machine asks
+
+report-answered : (r : Run) → wellFormed r ≡ true → Answered (reportNumber (report r 0))
+unfolding report reported
+report-answered r h = rw h (at (tested (over r)))
+  where
+    at : Tested (over r) → Answered (reportNumber (choose (not (over r)) (Report.Refused 26) (reported r 0)))
+    at (passed e) = rw e none-refused
+    at (failed e) = rw e not-over
+
+read-answered : (r : Run) → wellFormed r ≡ true → (p : ℕ) → Answered (readingNumber (readRecord r p))
+unfolding readRecord
+read-answered r h p = rw h (at (tested (isProcess (r .waits .n) p)))
+  where
+    at : Tested (isProcess (r .waits .n) p) → Answered (readingNumber (choose (not (isProcess (r .waits .n) p)) (Reading.Refused 25) (Found (r .process p))))
+    at (failed e) = rw e no-link
+    at (passed e) = rw e none-refused
+
+pub holds-upheld : Upheld knot quota asked Holds
+holds-upheld =
+    record {
+      sure = record {
+        sound = λ r h. h .sound;
+        formed = holds-formed;
+        accepted = holds-accepts;
+        kept = λ r h a b pa pb m rest l _. holds-after r h a b pa pb m rest l;
+        reports = λ r h. report-answered r (holds-formed r h);
+        readings = λ r h p. read-answered r (holds-formed r h) p;
+      };
+      near = λ r _. quota-near (r .waits);
+      diffusing = λ r h. h .diffusing;
+      treed = λ r h. h .treed;
+    }

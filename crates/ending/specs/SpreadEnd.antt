@@ -18,21 +18,24 @@ use native.Mathlib.Nat.{eq-zero-or-pos, add-le-add, mul-le-mul-left, mul-le-mul-
 use native.Mathlib.Omega.{arith}
 use lib.Dec.{eqb}
 use Rattle.base.specs.Choice.{choose, bit}
-use Rattle.base.specs.Sums.{sumTo, countTo, sumTo-cong, sumTo-add, sumTo-le, sumTo-zero, sumTo-parts, sumTo-swap, allTo-at, allTo-of}
-use Rattle.tables.specs.Waits.{Waits, Sound, outDegree, inDegree, arcCount}
+use Rattle.base.specs.Sums.{sumTo, countTo}
+use Rattle.base.specs.SumLaws.{sumTo-cong, sumTo-add, sumTo-le, sumTo-zero, sumTo-parts, sumTo-swap, allTo-at, allTo-of}
+use Rattle.tables.specs.Waits.{Waits, outDegree, inDegree}
+use Rattle.tables.specs.Sound.{Sound, arcCount}
+use Rattle.tables.specs.Table.{IsProcess}
+use Rattle.machine.specs.Weights.{weight, sumOf}
 use Rattle.steps.specs.declared.Message.{Message}
 use Rattle.steps.specs.declared.Process.{Process}
 use Rattle.steps.specs.Step.{newSubordinate}
 use Rattle.checks.specs.Run.{Run}
 use Rattle.checks.specs.Reach.{reaches, inKnot, outsider, outsiders, dOf}
-use Rattle.checks.specs.Lists.{IsProcess}
-use Rattle.ending.specs.Weights.{load, sumOf, sends}
+use Rattle.checks.specs.ReachLaws.{from-in, to-in, reaches-forward, reaches-backward, reaches-P}
+use Rattle.ending.specs.Weights.{sends}
 use Rattle.ending.specs.Invariants.{Tidy, Spread}
-use Rattle.ending.specs.Reachable.{from-in, to-in, reaches-forward, reaches-backward, reaches-P}
 use Rattle.ending.specs.Spreading.{Side, suc-side, pre-side}
 
-abbrev pub NoneWaits : Waits → Run → Type 0
-NoneWaits w r = (a b : ℕ) → IsProcess w a → IsProcess w b → r .link a b ≡ []
+abbrev NoneWaits : Waits → Run → Type 0
+NoneWaits w r = (a b : ℕ) → IsProcess (w .n) a → IsProcess (w .n) b → r .link a b ≡ []
 
 -- ---- flags
 
@@ -43,32 +46,34 @@ bit-exact f false l h = omega arith
 
 module _ {w : Waits} {flag : Process → ℕ} {μ : Message → ℕ} {e : ℕ → ℕ → Bool} {R : ℕ → Type 0} {r : Run} (sd : Side w flag μ e R r) where
   -- where nothing waits, whom e leads to has the flag
-  side-next : NoneWaits w r → (i j : ℕ) → IsProcess w i → IsProcess w j → e i j ≡ true → 1 ≤ flag (r .process i) → 1 ≤ flag (r .process j)
-  unfolding load
+  side-next : NoneWaits w r → (i j : ℕ) → IsProcess (w .n) i → IsProcess (w .n) j → e i j ≡ true → 1 ≤ flag (r .process i) → 1 ≤ flag (r .process j)
+  unfolding weight
   side-next none i j iIn jIn f l = omega (arith, rw (none i j iIn jIn, f) at (sd .kept i j iIn jIn))
 
   -- a flag is at most the test that says who may have it
-  side-most : (i : ℕ) (b : Bool) → IsProcess w i → flag (r .process i) ≤ 1 → (R i → b ≡ true) → flag (r .process i) ≤ bit b
+  side-most : (i : ℕ) (b : Bool) → IsProcess (w .n) i → flag (r .process i) ≤ 1 → (R i → b ≡ true) → flag (r .process i) ≤ bit b
   side-most i b iIn l h = ⊎-elim (λ z. omega arith) (λ p. rw (h (sd .may i iIn (omega arith))) l) (eq-zero-or-pos (flag (r .process i)))
 
 module _ {w : Waits} {s : ℕ} {r : Run} (ok : Sound w) (td : Tidy w s r) (sp : Spread w s r) where
-  pub succ-most : (i : ℕ) → IsProcess w i → r .process i .succeeding ≤ bit (reaches w s i)
+  succ-most : (i : ℕ) → IsProcess (w .n) i → r .process i .succeeding ≤ bit (reaches w s i)
   succ-most i iIn = side-most (suc-side sp) i (reaches w s i) iIn (td .succ-bit i iIn) (reaches-P w ok s i (td .start-in) .1)
 
-  pub prec-most : (i : ℕ) → IsProcess w i → r .process i .preceding ≤ bit (reaches w i s)
+  prec-most : (i : ℕ) → IsProcess (w .n) i → r .process i .preceding ≤ bit (reaches w i s)
   prec-most i iIn = side-most (pre-side sp) i (reaches w i s) iIn (td .prec-bit i iIn) (reaches-P w ok i s iIn .1)
 
-  pub succ-end : NoneWaits w r → (i : ℕ) → IsProcess w i → r .process i .succeeding ≡ bit (reaches w s i)
+  pub succ-end : NoneWaits w r → (i : ℕ) → IsProcess (w .n) i → r .process i .succeeding ≡ bit (reaches w s i)
   succ-end none i iIn =
       bit-exact (r .process i .succeeding) (reaches w s i) (succ-most i iIn)
-      (λ y. reaches-forward (λ x. 1 ≤ r .process x .succeeding) (λ a b e. side-next (suc-side sp) none a b (from-in ok a b e) (to-in ok a b e) e) (reaches-P w ok s i (td .start-in) .0 y) (omega arith))
+      (λ y. reaches-forward (λ x. 1 ≤ r .process x .succeeding) (λ a b e. side-next (suc-side sp) none a b (from-in ok a b e) (to-in ok a b e) e)
+      (reaches-P w ok s i (td .start-in) .0 y) (omega arith))
 
-  pub prec-end : NoneWaits w r → (i : ℕ) → IsProcess w i → r .process i .preceding ≡ bit (reaches w i s)
+  pub prec-end : NoneWaits w r → (i : ℕ) → IsProcess (w .n) i → r .process i .preceding ≡ bit (reaches w i s)
   prec-end none i iIn =
       bit-exact (r .process i .preceding) (reaches w i s) (prec-most i iIn)
-      (λ y. reaches-backward (λ x. 1 ≤ r .process x .preceding) (λ a b e. side-next (pre-side sp) none b a (to-in ok a b e) (from-in ok a b e) e) (reaches-P w ok i s iIn .0 y) (omega arith))
+      (λ y. reaches-backward (λ x. 1 ≤ r .process x .preceding) (λ a b e. side-next (pre-side sp) none b a (to-in ok a b e) (from-in ok a b e) e)
+      (reaches-P w ok i s iIn .0 y) (omega arith))
 
-  pub sub-end : NoneWaits w r → (i : ℕ) → IsProcess w i → r .process i .subordinate ≡ bit (outsider w s i)
+  pub sub-end : NoneWaits w r → (i : ℕ) → IsProcess (w .n) i → r .process i .subordinate ≡ bit (outsider w s i)
   unfolding newSubordinate outsider
   sub-end none i iIn = td .sub-is i iIn ∙ rw (succ-end none i iIn, prec-end none i iIn) (at (reaches w s i) (reaches w i s))
     where
@@ -96,14 +101,16 @@ unfolding countTo
 count-swap n p = sumTo-swap n n (λ a b. bit (p a b))
 
 module _ (w : Waits) (s : ℕ) where
-  pub dOf-sum : dOf w s ≡ 2 * sumTo (w .n) (λ i. bit (reaches w s i) * outDegree w i + bit (reaches w i s) * inDegree w i)
+  dOf-sum : dOf w s ≡ 2 * sumTo (w .n) (λ i. bit (reaches w s i) * outDegree w i + bit (reaches w i s) * inDegree w i)
   unfolding dOf outDegree inDegree
   dOf-sum =
       let n : ℕ = w .n in
       let out : ℕ → ℕ = λ i. bit (reaches w s i) * countTo n (λ j. w .waits i j) in
       let back : ℕ → ℕ = λ i. bit (reaches w i s) * countTo n (λ j. w .waits j i) in
-      let left : sumTo n (λ a. countTo n (λ b. w .waits a b && reaches w s a)) ≡ sumTo n out = sumTo-cong n _ out (λ a _ _. count-and n (λ b. w .waits a b) (reaches w s a)) in
-      let right : sumTo n (λ b. countTo n (λ a. w .waits a b && reaches w b s)) ≡ sumTo n back = sumTo-cong n _ back (λ b _ _. count-and n (λ a. w .waits a b) (reaches w b s)) in
+      let left : sumTo n (λ a. countTo n (λ b. w .waits a b && reaches w s a)) ≡ sumTo n out =
+      sumTo-cong n _ out (λ a _ _. count-and n (λ b. w .waits a b) (reaches w s a)) in
+      let right : sumTo n (λ b. countTo n (λ a. w .waits a b && reaches w b s)) ≡ sumTo n back =
+      sumTo-cong n _ back (λ b _ _. count-and n (λ a. w .waits a b) (reaches w b s)) in
       omega (arith, count-swap n (λ a b. w .waits a b && reaches w b s), sumTo-add n out back)
 
   in-sum : sumTo (w .n) (λ i. inDegree w i) ≡ arcCount w
@@ -116,7 +123,8 @@ module _ (w : Waits) (s : ℕ) where
   dOf-most ok =
       let n : ℕ = w .n in
       let both : ℕ → ℕ = λ i. outDegree w i + inDegree w i in
-      let part : sumTo n (λ i. bit (reaches w s i) * outDegree w i + bit (reaches w i s) * inDegree w i) ≤ sumTo n both = sumTo-le n _ both (λ i _ _. add-le-add (factor (reaches w s i) (outDegree w i)) (factor (reaches w i s) (inDegree w i))) in
+      let part : sumTo n (λ i. bit (reaches w s i) * outDegree w i + bit (reaches w i s) * inDegree w i) ≤ sumTo n both =
+      sumTo-le n _ both (λ i _ _. add-le-add (factor (reaches w s i) (outDegree w i)) (factor (reaches w i s) (inDegree w i))) in
       omega (arith, dOf-sum, sumTo-add n (outDegree w) (inDegree w), in-sum, ok .arcs)
     where
       factor : (b : Bool) (v : ℕ) → bit b * v ≤ v
@@ -129,7 +137,8 @@ module _ {w : Waits} {s : ℕ} {r : Run} (ok : Sound w) (td : Tidy w s r) (sp : 
   sends-most =
       rw (dOf-sum w s)
       (mul-le-mul-left 2
-      (sumTo-le (w .n) _ _ (λ i l u. add-le-add (mul-le-mul-right (outDegree w i) (succ-most ok td sp i (l, u))) (mul-le-mul-right (inDegree w i) (prec-most ok td sp i (l, u))))))
+      (sumTo-le (w .n) _ _ (λ i l u. add-le-add (mul-le-mul-right (outDegree w i) (succ-most ok td sp i (l, u)))
+      (mul-le-mul-right (inDegree w i) (prec-most ok td sp i (l, u))))))
 
   pub sends-end : NoneWaits w r → 2 * sends w r ≡ dOf w s
   unfolding sends

@@ -14,36 +14,41 @@ use mathlib.Core.Logic.{⊎-elim}
 use native.Mathlib.Nat.{add-mul, eq-zero-or-pos}
 use native.Mathlib.Omega.{arith}
 use lib.Dec.{eqb}
-use Rattle.base.specs.Choice.{choose, bit, Same, same, apart, same?}
-use Rattle.base.specs.Sums.{spot-at, spot-off}
-use Rattle.tables.specs.Waits.{Waits, Sound, outDegree, inDegree}
+use Rattle.base.specs.Choice.{choose, bit}
+use Rattle.base.specs.ChoiceLaws.{Same, same, apart, same?}
+use Rattle.base.specs.SumLaws.{spot-at, spot-off}
+use Rattle.tables.specs.Waits.{Waits, outDegree, inDegree}
+use Rattle.tables.specs.Sound.{Sound}
+use Rattle.tables.specs.Table.{IsProcess}
+use Rattle.machine.specs.Machine as Machines
+use Rattle.machine.specs.Weights.{weight, spot2}
+use Rattle.machine.specs.WeightLaws.{spot2-off-y, spot2-most}
+use Rattle.machine.specs.Moved.{Moved}
+use Rattle.machine.specs.MovedLaws.{moved-at}
 use Rattle.steps.specs.declared.Message.{Message}
 use Rattle.steps.specs.declared.Message.the-variants.{Suc, Pre}
 use Rattle.steps.specs.declared.Process.{Process}
 use Rattle.steps.specs.Step.{Turn, idle}
-use Rattle.checks.specs.Run.{Run, one, started, startRun, sentTo}
+use Rattle.steps.specs.Effect.{isSuc, isPre, sucsOf, presOf, Effect}
+use Rattle.checks.specs.Run.{Run, one, started, startRun, sentTo, leaving}
 use Rattle.checks.specs.Reach.{Reaches, here, along}
-use Rattle.checks.specs.Lists.{IsProcess}
-use Rattle.ending.specs.Weights.{load, isSuc, isPre, edge, spot2, sucsOf, presOf}
-use Rattle.ending.specs.Moved.{Moved, spot2-at, spot2-off-x, spot2-off-y}
-use Rattle.ending.specs.Sent.{sent-first, sent-suc, sent-pre}
-use Rattle.ending.specs.Effect.{Effect}
+use Rattle.checks.specs.ReachLaws.{reaches-trans}
+use Rattle.checks.specs.SentLaws.{first-weight, sent-suc, sent-pre}
+use Rattle.ending.specs.Weights.{edge}
 use Rattle.ending.specs.Invariants.{Tidy, Spread}
-use Rattle.ending.specs.Reachable.{reaches-trans}
-use Rattle.ending.specs.Tidying.{moved-at}
 
 pub record Side (w : Waits) (flag : Process → ℕ) (μ : Message → ℕ) (e : ℕ → ℕ → Bool) (R : ℕ → Type 0) (r : Run) : Type 0 where
   -- its probes go along e, from processes that have the flag
-  pub goes : (i j : ℕ) → IsProcess w i → IsProcess w j → load μ (r .link i j) ≤ flag (r .process i) * bit (e i j)
+  pub goes : (i j : ℕ) → IsProcess (w .n) i → IsProcess (w .n) j → weight μ (r .link i j) ≤ flag (r .process i) * bit (e i j)
   -- only who may have the flag has it
-  pub may : (i : ℕ) → IsProcess w i → flag (r .process i) ≡ 1 → R i
+  pub may : (i : ℕ) → IsProcess (w .n) i → flag (r .process i) ≡ 1 → R i
   -- whom e leads to has the flag, or a probe is on the way
-  pub kept : (i j : ℕ) → IsProcess w i → IsProcess w j → flag (r .process i) * bit (e i j) ≤ flag (r .process j) + load μ (r .link i j)
+  pub kept : (i j : ℕ) → IsProcess (w .n) i → IsProcess (w .n) j → flag (r .process i) * bit (e i j) ≤ flag (r .process j) + weight μ (r .link i j)
 
-abbrev pub SucSide : Waits → ℕ → Run → Type 0
+abbrev SucSide : Waits → ℕ → Run → Type 0
 SucSide w s r = Side w (λ x. x .succeeding) isSuc (λ i j. w .waits i j) (λ i. Reaches w s i) r
 
-abbrev pub PreSide : Waits → ℕ → Run → Type 0
+abbrev PreSide : Waits → ℕ → Run → Type 0
 PreSide w s r = Side w (λ x. x .preceding) isPre (λ i j. w .waits j i) (λ i. Reaches w i s) r
 
 module _ {w : Waits} {s : ℕ} {r : Run} where
@@ -53,7 +58,7 @@ module _ {w : Waits} {s : ℕ} {r : Run} where
   pub pre-side : Spread w s r → PreSide w s r
   pre-side sp = record { goes = sp .pre-along; may = sp .pre-reaches; kept = sp .pre-kept }
 
-  pub spread-of : SucSide w s r → PreSide w s r → Spread w s r
+  spread-of : SucSide w s r → PreSide w s r → Spread w s r
   spread-of a b =
       record {
         suc-along = a .goes;
@@ -66,8 +71,9 @@ module _ {w : Waits} {s : ℕ} {r : Run} where
 
 -- ---- start
 
-side-start : {flag : Process → ℕ} {μ : Message → ℕ} {e : ℕ → ℕ → Bool} {R : ℕ → Type 0} (w : Waits) (s : ℕ) → R s → flag (started w s) ≡ 1 → flag idle ≡ 0 → ((j : ℕ) → edge w s j * μ Suc + edge w j s * μ Pre ≡ bit (e s j)) → Side w flag μ e R (startRun w s)
-unfolding startRun load
+side-start : {flag : Process → ℕ} {μ : Message → ℕ} {e : ℕ → ℕ → Bool} {R : ℕ → Type 0} (w : Waits) (s : ℕ) → R s → flag (started w s) ≡ 1
+    → flag idle ≡ 0 → ((j : ℕ) → edge w s j * μ Suc + edge w j s * μ Pre ≡ bit (e s j)) → Side w flag μ e R (startRun w s)
+unfolding Machines.startRun weight
 side-start {flag} {μ} {e} {R} w s own first rest sent =
     record {
       goes = λ i j _ _. rw (flags i (same? i s), loads i j (same? i s)) (omega arith);
@@ -79,15 +85,15 @@ side-start {flag} {μ} {e} {R} w s own first rest sent =
     flags i (same _ f) = rw f first
     flags i (apart _ f) = rw f rest
 
-    loads : (i j : ℕ) → Same i s → load μ (choose (eqb i s) (one (w .waits s j) Suc ++ one (w .waits j s) Pre) []) ≡ bit (eqb i s) * bit (e i j)
-    loads i j (same f g) = rw (g, f) (omega (arith, sent-first μ (w .waits s j) (w .waits j s), sent j))
+    loads : (i j : ℕ) → Same i s → weight μ (choose (eqb i s) (one (w .waits s j) Suc ++ one (w .waits j s) Pre) []) ≡ bit (eqb i s) * bit (e i j)
+    loads i j (same f g) = rw (g, f) (omega (arith, first-weight μ (w .waits s j) (w .waits j s), sent j))
     loads i j (apart _ g) = rw g (omega arith)
 
     may : (i : ℕ) → Same i s → flag (choose (eqb i s) (started w s) idle) ≡ 1 → R i
     may i (same f _) l = rw f own
     may i (apart f g) l = absurd (omega (arith, rw g at l))
 
-pub spread-start : {w : Waits} {s : ℕ} → Sound w → IsProcess w s → Spread w s (startRun w s)
+pub spread-start : {w : Waits} {s : ℕ} → Sound w → IsProcess (w .n) s → Spread w s (startRun w s)
 unfolding started
 spread-start {w} {s} ok sIn =
     spread-of
@@ -95,15 +101,6 @@ spread-start {w} {s} ok sIn =
     (side-start w s here refl refl (λ j. omega arith))
 
 -- ---- delivery
-
--- no more is taken at a pair than was to be taken
-spot2-most : (a b v x y : ℕ) → spot2 a b v x y ≤ v
-spot2-most a b v x y = at (same? x a) (same? y b)
-  where
-    at : Same x a → Same y b → spot2 a b v x y ≤ v
-    at (same e _) (same f _) = rw (e, f, spot2-at a b v) (omega arith)
-    at (same _ _) (apart f _) = rw (spot2-off-y a b v x y f) (omega arith)
-    at (apart e _) _ = rw (spot2-off-x a b v x y e) (omega arith)
 
 -- a flag times a test is at most the flag, and where it is not 0 the test passed
 flag-test : (f : ℕ) (b : Bool) → f * bit b ≤ f
@@ -119,7 +116,7 @@ record Grows (w : Waits) (flag : Process → ℕ) (μ : Message → ℕ) (e : �
   adds : flag (t .process) ≡ flag x + more
   sets : μ m ≤ flag (t .process)
   alone : more ≤ μ m
-  sent : (y : ℕ) → load μ (sentTo w b t y) ≡ more * bit (e b y)
+  sent : (y : ℕ) → weight μ (sentTo w b t y) ≡ more * bit (e b y)
 
 module _
     {w : Waits}
@@ -131,17 +128,18 @@ module _
     {m : Message}
     {t : Turn}
     {more : ℕ}
-    (mv : Moved w r a b m t q)
+    (mv : Moved w r a b m (leaving w b t) q)
     (gr : Grows w flag μ e b m (r .process b) t more)
   where
     -- the links of the receiver, and those of the others
-    own-load : (y : ℕ) → load μ (q .link b y) + spot2 a b (μ m) b y ≡ load μ (r .link b y) + more * bit (e b y)
-    own-load y = omega (arith, mv .loads μ b y, spot-at b (load μ (sentTo w b t y)), gr .sent y)
+    own-weight : (y : ℕ) → weight μ (q .link b y) + spot2 a b (μ m) b y ≡ weight μ (r .link b y) + more * bit (e b y)
+    own-weight y = omega (arith, mv .weights μ b y, spot-at b (weight μ (sentTo w b t y)), gr .sent y)
 
-    other-load : (x y : ℕ) → (x ≡ b → ⊥) → load μ (q .link x y) + spot2 a b (μ m) x y ≡ load μ (r .link x y)
-    other-load x y d = omega (arith, mv .loads μ x y, spot-off b (load μ (sentTo w b t y)) x d)
+    other-weight : (x y : ℕ) → (x ≡ b → ⊥) → weight μ (q .link x y) + spot2 a b (μ m) x y ≡ weight μ (r .link x y)
+    other-weight x y d = omega (arith, mv .weights μ x y, spot-off b (weight μ (sentTo w b t y)) x d)
 
-    side-kept : {R : ℕ → Type 0} → ((i : ℕ) → IsProcess w i → flag (r .process i) ≤ 1) → ((i j : ℕ) → e i j ≡ true → R i → R j) → IsProcess w a → IsProcess w b → Side w flag μ e R r → Side w flag μ e R q
+    side-kept : {R : ℕ → Type 0} → ((i : ℕ) → IsProcess (w .n) i → flag (r .process i) ≤ 1) → ((i j : ℕ) → e i j ≡ true → R i → R j)
+        → IsProcess (w .n) a → IsProcess (w .n) b → Side w flag μ e R r → Side w flag μ e R q
     side-kept {R} bits step aIn bIn sd =
         record {
           goes = λ i j iIn jIn. goes i j iIn jIn (same? i b);
@@ -149,9 +147,10 @@ module _
           kept = λ i j iIn jIn. kept i j iIn jIn (same? i b) (same? j b);
         }
       where
-        goes : (i j : ℕ) → IsProcess w i → IsProcess w j → Same i b → load μ (q .link i j) ≤ flag (q .process i) * bit (e i j)
-        goes i j iIn jIn (same f _) = rw (f, mv .receiver, gr .adds, add-mul (flag (r .process b)) more (bit (e b j))) (omega (arith, own-load j, sd .goes b j bIn jIn))
-        goes i j iIn jIn (apart f _) = rw (mv .others i f) (omega (arith, other-load i j f, sd .goes i j iIn jIn))
+        goes : (i j : ℕ) → IsProcess (w .n) i → IsProcess (w .n) j → Same i b → weight μ (q .link i j) ≤ flag (q .process i) * bit (e i j)
+        goes i j iIn jIn (same f _) =
+            rw (f, mv .receiver, gr .adds, add-mul (flag (r .process b)) more (bit (e b j))) (omega (arith, own-weight j, sd .goes b j bIn jIn))
+        goes i j iIn jIn (apart f _) = rw (mv .others i f) (omega (arith, other-weight i j f, sd .goes i j iIn jIn))
 
         -- the receiver had the flag, or the probe that it took says that the sender may have it
         own : flag (t .process) ≡ 1 → R b
@@ -160,21 +159,24 @@ module _
             by : flag (r .process b) ≡ 0 → R b
             by z =
                 let lent : 1 ≤ flag (r .process a) * bit (e a b) = omega (arith, gr .adds, gr .alone, mv .waited μ, sd .goes a b aIn bIn) in
-                step a b (flag-passed (flag (r .process a)) (e a b) lent) (sd .may a aIn (omega (arith, lent, flag-test (flag (r .process a)) (e a b), bits a aIn)))
+                step a b (flag-passed (flag (r .process a)) (e a b) lent)
+                (sd .may a aIn (omega (arith, lent, flag-test (flag (r .process a)) (e a b), bits a aIn)))
 
-        kept : (i j : ℕ) → IsProcess w i → IsProcess w j → Same i b → Same j b → flag (q .process i) * bit (e i j) ≤ flag (q .process j) + load μ (q .link i j)
+        kept : (i j : ℕ) → IsProcess (w .n) i → IsProcess (w .n) j → Same i b → Same j b
+            → flag (q .process i) * bit (e i j) ≤ flag (q .process j) + weight μ (q .link i j)
         kept i j iIn jIn (same f _) (same g _) = rw (f, g) (omega (arith, flag-test (flag (q .process b)) (e b b)))
         kept i j iIn jIn (same f _) (apart g _) =
             rw (f, mv .receiver, mv .others j g, gr .adds, add-mul (flag (r .process b)) more (bit (e b j)))
-            (omega (arith, own-load j, spot2-off-y a b (μ m) b j g, sd .kept b j bIn jIn))
+            (omega (arith, own-weight j, spot2-off-y a b (μ m) b j g, sd .kept b j bIn jIn))
         kept i j iIn jIn (apart f _) (same g _) =
             rw (g, mv .receiver, mv .others i f)
-            (omega (arith, other-load i b f, spot2-most a b (μ m) i b, sd .kept i b iIn bIn, bits i iIn, flag-test (flag (r .process i)) (e i b)))
+            (omega (arith, other-weight i b f, spot2-most a b (μ m) i b, sd .kept i b iIn bIn, bits i iIn, flag-test (flag (r .process i)) (e i b)))
         kept i j iIn jIn (apart f _) (apart g _) =
             rw (mv .others i f, mv .others j g)
-            (omega (arith, other-load i j f, spot2-off-y a b (μ m) i j g, sd .kept i j iIn jIn))
+            (omega (arith, other-weight i j f, spot2-off-y a b (μ m) i j g, sd .kept i j iIn jIn))
 
-pub spread-kept : {w : Waits} {s : ℕ} {r q : Run} {a b : ℕ} {m : Message} {t : Turn} → Sound w → Tidy w s r → Spread w s r → IsProcess w a → IsProcess w b → Moved w r a b m t q → Effect (eqb b s) m (outDegree w b) (inDegree w b) a (r .process b) t → Spread w s q
+pub spread-kept : {w : Waits} {s : ℕ} {r q : Run} {a b : ℕ} {m : Message} {t : Turn} → Sound w → Tidy w s r → Spread w s r → IsProcess (w .n) a
+    → IsProcess (w .n) b → Moved w r a b m (leaving w b t) q → Effect (eqb b s) m (outDegree w b) (inDegree w b) a (r .process b) t → Spread w s q
 spread-kept {w} {s} {r} {q} {a} {b} {m} {t} ok td sp aIn bIn mv ef =
     spread-of
     (side-kept mv sucs (td .succ-bit) (λ i j e p. reaches-trans p (along e here)) aIn bIn (suc-side sp))

@@ -11,16 +11,24 @@ use native.Mathlib.Omega.{arith}
 use borrow.Author.Tests.{le-leb}
 use lib.Dec.{eqb}
 use lib.IntN.{ℤ, pos, negsuc}
-use Rattle.base.specs.Choice.{choose, Same, same, apart, same?, and-both}
-use Rattle.base.specs.Sums.{sumTo, spot, spot-at, spot-off, sumTo-cong, sumTo-add, sumTo-zero, sumTo-part, sumTo-spot, sumTo-most}
-use Rattle.tables.specs.Waits.{Waits, Sound}
+use Rattle.base.specs.Choice.{choose}
+use Rattle.base.specs.ChoiceLaws.{Same, same, apart, same?, and-both}
+use Rattle.base.specs.Sums.{sumTo, spot}
+use Rattle.base.specs.SumLaws.{spot-at, spot-off, sumTo-cong, sumTo-add, sumTo-zero, sumTo-part, sumTo-spot, sumTo-most}
+use Rattle.base.specs.Parts.{above, below}
+use Rattle.base.specs.PartLaws.{parts-pos}
+use Rattle.tables.specs.Waits.{Waits}
+use Rattle.tables.specs.Sound.{Sound}
+use Rattle.tables.specs.Table.{IsProcess}
+use Rattle.machine.specs.Machine.{allRight}
+use Rattle.machine.specs.Weights.{weight, total, sumOf}
 use Rattle.steps.specs.declared.Message.{Message}
 use Rattle.steps.specs.declared.Message.the-variants.{Suc, Pre, Ack}
 use Rattle.steps.specs.declared.Process.{Process}
 use Rattle.steps.specs.Step.{small, countSmall, newSubordinate}
+use Rattle.steps.specs.Effect.{both}
 use Rattle.checks.specs.Run.{Run, countsSmall}
-use Rattle.checks.specs.Lists.{IsProcess}
-use Rattle.ending.specs.Weights.{load, above, below, aboveOf, belowOf, total, sumOf, both, bothOff}
+use Rattle.ending.specs.Weights.{aboveOf, belowOf, bothOff}
 use Rattle.ending.specs.Invariants.{Tidy, Summed}
 
 -- ---- one integer, one link
@@ -37,16 +45,11 @@ countSmall-of Suc u l = refl
 countSmall-of Pre u l = refl
 countSmall-of (Ack c) u l = small-of c u l
 
-countsSmall-of : (ms : List Message) → load aboveOf ms ≤ 128 → load belowOf ms ≤ 128 → countsSmall ms ≡ true
-unfolding countsSmall load
+countsSmall-of : (ms : List Message) → weight aboveOf ms ≤ 128 → weight belowOf ms ≤ 128 → countsSmall ms ≡ true
+unfolding allRight weight
 countsSmall-of [] u l = refl
 countsSmall-of (m ∷ ms) u l =
     and-both (countSmall m) (countsSmall ms) (countSmall-of m (omega arith) (omega arith)) (countsSmall-of ms (omega arith) (omega arith))
-
--- the two parts of an integer that equals a number
-pos-of : (z : ℤ) (n : ℕ) → above z ≡ below z + n → z ≡ pos n
-pos-of (pos k) n e = ap pos (omega arith)
-pos-of (negsuc k) n e = absurd (omega arith)
 
 -- ---- one process
 
@@ -84,8 +87,11 @@ module _ {w : Waits} {s : ℕ} {r : Run} (sound : Sound w) (tidy : Tidy w s r) (
   few-flagged : sumOf (w .n) (λ x. x .subordinate) r + sumTo (w .n) (λ i. bothOff s i (r .process i)) ≤ 128
   unfolding sumOf
   few-flagged =
-      let parts : sumTo (w .n) (λ i. r .process i .subordinate + bothOff s i (r .process i)) ≡ sumTo (w .n) (λ i. r .process i .subordinate) + sumTo (w .n) (λ i. bothOff s i (r .process i)) = sumTo-add (w .n) (λ i. r .process i .subordinate) (λ i. bothOff s i (r .process i)) in
-      let most : sumTo (w .n) (λ i. r .process i .subordinate + bothOff s i (r .process i)) ≤ 1 * w .n = sumTo-most (w .n) 1 (λ i. r .process i .subordinate + bothOff s i (r .process i)) (λ i p q. one-of-two (r .process i) (tidy .succ-bit i (p, q)) (tidy .prec-bit i (p, q)) (tidy .sub-is i (p, q)) s i) in
+      let parts : sumTo (w .n) (λ i. r .process i .subordinate + bothOff s i (r .process i)) ≡ sumTo (w .n) (λ i. r .process i .subordinate) + sumTo
+      (w .n) (λ i. bothOff s i (r .process i)) = sumTo-add (w .n) (λ i. r .process i .subordinate) (λ i. bothOff s i (r .process i)) in
+      let most : sumTo (w .n) (λ i. r .process i .subordinate + bothOff s i (r .process i)) ≤ 1 * w .n =
+      sumTo-most (w .n) 1 (λ i. r .process i .subordinate + bothOff s i (r .process i))
+      (λ i p q. one-of-two (r .process i) (tidy .succ-bit i (p, q)) (tidy .prec-bit i (p, q)) (tidy .sub-is i (p, q)) s i) in
       omega (arith, sound .few)
 
   few-above : sumOf (w .n) (λ x. above (x .cs)) r + total (w .n) aboveOf r ≤ 128
@@ -94,29 +100,42 @@ module _ {w : Waits} {s : ℕ} {r : Run} (sound : Sound w) (tidy : Tidy w s r) (
   few-below : sumOf (w .n) (λ x. below (x .cs)) r + total (w .n) belowOf r ≤ 128
   few-below = omega (arith, few-flagged, summed .falls)
 
-  pub cs-small : (i : ℕ) → IsProcess w i → small (r .process i .cs) ≡ true
+  pub cs-small : (i : ℕ) → IsProcess (w .n) i → small (r .process i .cs) ≡ true
   unfolding sumOf
   cs-small i p = small-of (r .process i .cs) (omega (arith, few-above, part above)) (omega (arith, few-below, part below))
     where
       part : (g : ℤ → ℕ) → g (r .process i .cs) ≤ sumTo (w .n) (λ k. g (r .process k .cs))
       part g = sumTo-part (w .n) (λ k. g (r .process k .cs)) i (p .0) (p .1)
 
-  pub counts-small : (a b : ℕ) → IsProcess w a → IsProcess w b → countsSmall (r .link a b) ≡ true
+  pub counts-small : (a b : ℕ) → IsProcess (w .n) a → IsProcess (w .n) b → countsSmall (r .link a b) ≡ true
   unfolding total
   counts-small a b pa pb = countsSmall-of (r .link a b) (omega (arith, few-above, part aboveOf)) (omega (arith, few-below, part belowOf))
     where
-      part : (μ : Message → ℕ) → load μ (r .link a b) ≤ sumTo (w .n) (λ x. sumTo (w .n) (λ y. load μ (r .link x y)))
-      part μ = omega (arith, sumTo-part (w .n) (λ y. load μ (r .link a y)) b (pb .0) (pb .1), sumTo-part (w .n) (λ x. sumTo (w .n) (λ y. load μ (r .link x y))) a (pa .0) (pa .1))
+      part : (μ : Message → ℕ) → weight μ (r .link a b) ≤ sumTo (w .n) (λ x. sumTo (w .n) (λ y. weight μ (r .link x y)))
+      part μ =
+          omega (
+            arith,
+            sumTo-part (w .n) (λ y. weight μ (r .link a y)) b (pb .0) (pb .1),
+            sumTo-part (w .n)
+                (λ x. sumTo (w .n) (λ y. weight μ (r .link x y))) a (pa .0) (pa .1),
+          )
 
-  pub cs-end : ((i : ℕ) → IsProcess w i → r .process i .num ≡ 0) → ((a b : ℕ) → IsProcess w a → IsProcess w b → r .link a b ≡ []) → (r .process s .cs ≡ pos (sumOf (w .n) (λ x. x .subordinate) r)) × ((i : ℕ) → IsProcess w i → (i ≡ s → ⊥) → r .process i .cs ≡ pos 0)
-  unfolding total sumOf load
-  cs-end idle empty = (pos-of (r .process s .cs) (sumOf (w .n) (λ x. x .subordinate) r) (omega (arith, summed .balance, alone above refl, alone below refl, nothing aboveOf, nothing belowOf)), others)
+  pub cs-end : ((i : ℕ) → IsProcess (w .n) i → r .process i .num ≡ 0) → ((a b : ℕ) → IsProcess (w .n) a → IsProcess (w .n) b → r .link a b ≡ [])
+      → (r .process s .cs ≡ pos (sumOf (w .n) (λ x. x .subordinate) r)) × ((i : ℕ) → IsProcess (w .n) i → (i ≡ s → ⊥) → r .process i .cs ≡ pos 0)
+  unfolding total sumOf weight
+  cs-end idle empty = (
+    parts-pos (r .process s .cs) (sumOf (w .n) (λ x. x .subordinate) r)
+        (omega (arith, summed .balance, alone above refl, alone below refl, nothing aboveOf, nothing belowOf)),
+    others,
+  )
     where
-      others : (i : ℕ) → IsProcess w i → (i ≡ s → ⊥) → r .process i .cs ≡ pos 0
+      others : (i : ℕ) → IsProcess (w .n) i → (i ≡ s → ⊥) → r .process i .cs ≡ pos 0
       others i p d = summed .at-rest i p d (idle i p)
 
       alone : (g : ℤ → ℕ) → g (pos 0) ≡ 0 → sumTo (w .n) (λ k. g (r .process k .cs)) ≡ g (r .process s .cs)
       alone g z = sumTo-alone (w .n) s (λ k. g (r .process k .cs)) (tidy .start-in .0) (tidy .start-in .1) (λ k p q d. ap g (others k (p, q) d) ∙ z)
 
-      nothing : (μ : Message → ℕ) → sumTo (w .n) (λ a. sumTo (w .n) (λ b. load μ (r .link a b))) ≡ 0
-      nothing μ = sumTo-zero (w .n) (λ a. sumTo (w .n) (λ b. load μ (r .link a b))) (λ a p q. sumTo-zero (w .n) (λ b. load μ (r .link a b)) (λ b p′ q′. ap (load μ) (empty a b (p, q) (p′, q′))))
+      nothing : (μ : Message → ℕ) → sumTo (w .n) (λ a. sumTo (w .n) (λ b. weight μ (r .link a b))) ≡ 0
+      nothing μ =
+          sumTo-zero (w .n) (λ a. sumTo (w .n) (λ b. weight μ (r .link a b)))
+          (λ a p q. sumTo-zero (w .n) (λ b. weight μ (r .link a b)) (λ b p′ q′. ap (weight μ) (empty a b (p, q) (p′, q′))))

@@ -2,16 +2,15 @@
 --   Parted bs s e k      == the parts of an input that is not refused
 --   split-parted, split-refused   == the answer Parts s e k tells Parted bs s e k, the answer Refused r the number
 --   BegunAt bs w e k     == an input that is begun: its parts, and that its start is accepted
---   begun-ready, begun-refused    == the answer Ready e k tells BegunAt bs w e k, the answer Refused r the number
---   begun-pick           == each of the k picks may be looked up: what `pick_at` asks
+--   begun-ready          == the answer Ready e k tells BegunAt bs w e k
 -- Assumes nothing.
-use Prim.Native.Nat.{ℕ, zero, suc, _<_}
+use Prim.Native.Nat.{ℕ, zero, suc}
 use mathlib.Core.List.{List}
 use mathlib.Core.Path.{_≡_, refl, sym, _∙_}
 use native.Mathlib.Omega.{arith}
 use lib.IntN.{ℤ}
-use Rattle.base.specs.Choice.{Same, same, apart, same?}
-use Rattle.runs.specs.AreaCalls.{startNumber, startArea}
+use Rattle.base.specs.ChoiceLaws.{Same, same, apart, same?}
+use Rattle.starting.specs.StartCall.{startNumber, startArea}
 use Rattle.inputs.specs.declared.Splitting.{Splitting}
 use Rattle.inputs.specs.declared.Begun.{Begun}
 use Rattle.inputs.specs.Input.{startIn, tableEnd, tableIn, picksIn, inputNumber, splitBy, splitOf, begunNumber, begunBy, begunOf, begunArea}
@@ -55,17 +54,14 @@ unfolding begunBy
 begunBy-ready zero bs e k q = (refl, cc, cc)
 begunBy-ready (suc n) bs e k q = absurd (let z : _≡_ {A = ℕ} 0 1 = cc in omega arith)
 
-begunBy-refused : (n : ℕ) (bs : List ℕ) (r : ℕ) → begunBy n bs ≡ Begun.Refused r → (n ≡ r) × (r ≡ 0 → ⊥)
-unfolding begunBy
-begunBy-refused zero bs r q = absurd (let z : _≡_ {A = ℕ} 0 1 = cc in omega arith)
-begunBy-refused (suc n) bs r q = let here : suc n ≡ r = cc in (here, λ z. omega arith)
-
 -- nothing is met: neither by the input nor by its start
-begun-numbers : (bs : List ℕ) (w : List ℤ) → begunNumber bs w ≡ 0 → (inputNumber bs ≡ 0) × (startNumber (tableIn bs) (startIn bs) w ≡ 0) × (begunArea bs w ≡ startArea (tableIn bs) (startIn bs) w)
+begun-numbers : (bs : List ℕ) (w : List ℤ) → begunNumber bs w ≡ 0 → (inputNumber bs ≡ 0) × (startNumber (tableIn bs) (startIn bs) w ≡ 0) ×
+    (begunArea bs w ≡ startArea (tableIn bs) (startIn bs) w)
 unfolding begunNumber begunArea
 begun-numbers bs w z = at (same? (inputNumber bs) 0)
   where
-    at : Same (inputNumber bs) 0 → (inputNumber bs ≡ 0) × (startNumber (tableIn bs) (startIn bs) w ≡ 0) × (begunArea bs w ≡ startArea (tableIn bs) (startIn bs) w)
+    at : Same (inputNumber bs) 0 → (inputNumber bs ≡ 0) × (startNumber (tableIn bs) (startIn bs) w ≡ 0) ×
+        (begunArea bs w ≡ startArea (tableIn bs) (startIn bs) w)
     at (same e q) = (e, rw q at z, rw q)
     at (apart d q) = absurd (d (rw q at z))
 
@@ -76,10 +72,3 @@ module _ (bs : List ℕ) (w : List ℤ) (x : Begun) (ex : x ≡ begunOf bs w) wh
       let told = begunBy-ready (begunNumber bs w) bs e k (sym ex ∙ q) in
       let both = begun-numbers bs w (told .0) in
       record { number = both .0; started = both .1; area = both .2; end-is = told .1; picks-is = told .2 }
-
-  pub begun-refused : (r : ℕ) → x ≡ Begun.Refused r → (begunNumber bs w ≡ r) × (r ≡ 0 → ⊥)
-  unfolding begunOf
-  begun-refused r q = begunBy-refused (begunNumber bs w) bs r (sym ex ∙ q)
-
-  pub begun-pick : (e k : ℕ) → x ≡ Begun.Ready e k → (j : ℕ) → j < k → (e ≡ tableEnd bs) × (j < picksIn bs)
-  begun-pick e k q j h = let told = begun-ready e k q in (told .end-is, omega (arith, told .picks-is))

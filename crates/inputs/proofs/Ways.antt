@@ -16,16 +16,17 @@ use borrow.Author.Tests.{ne-eqb}
 use lib.IntN.{ℤ}
 use lib.ListN.{length, take, drop, getD, length-drop}
 use lib.Seq.{take-all, getD-drop}
-use Rattle.tables.proofs.Fields.{fieldOf-small}
+use Rattle.tables.specs.TableLaws.{fieldOf-small}
 use Rattle.tables.specs.Table.{fieldOf}
 use Rattle.tables.specs.Layout.{Sizes}
-use Rattle.runs.specs.declared.Started.{Started}
-use Rattle.runs.specs.AreaCalls.{startNumber, startedBy, startAnswer, startArea}
+use Rattle.starting.specs.declared.Started.{Started}
+use Rattle.starting.specs.StartCall.{startNumber, startedBy, startAnswer, startArea}
 use Rattle.inputs.specs.declared.Splitting.{Splitting}
 use Rattle.inputs.specs.declared.Pick.{Pick}
 use Rattle.inputs.specs.declared.Begun.{Begun}
-use Rattle.inputs.specs.Input.{startIn, tableFields, tableEnd, tableIn, picksIn, inputNumber, splitBy, splitOf, pickFrom, pickTo, pickIn, begunNumber, begunBy, begunOf, begunArea}
-use Rattle.inputs.specs.InputLaws.{fieldOf-after, FirstMet, row-13, row-1, row-2, row-3, row-12, no-row, none-rest, some-rest, end-least, first-number, parts-fill}
+use Rattle.inputs.specs.Input.{startIn, tableFields, tableEnd, tableIn, picksIn, inputNumber, splitBy, splitOf, pickFrom, pickTo, pickIn}
+use Rattle.inputs.specs.Input.{begunNumber, begunBy, begunOf, begunArea, FirstMet, row-13, row-1, row-2, row-3, row-12, no-row}
+use Rattle.inputs.specs.InputLaws.{fieldOf-after, none-rest, some-rest, end-least, first-number, parts-fill}
 use Rattle.inputs.proofs.Told.{Parted, split-parted, split-refused}
 
 module _ (bs : List ℕ) where
@@ -82,7 +83,8 @@ module _ (bs : List ℕ) where
             let b = some-rest (length bs) (tableEnd bs) inside (λ z. f (rw end-is z)) in
             refused 11 (row-12 l sizes (b .0) (b .1))
 
-        pub split-0 : (s : ℕ) → s ≡ fieldOf bs 0 → (length bs - (6 + 4 * n + 8 * m)) % 4 ≡ 0 → Splitting.Parts s (6 + 4 * n + 8 * m) ((length bs - (6 + 4 * n + 8 * m)) / 4) ≡ splitOf bs
+        pub split-0 : (s : ℕ) → s ≡ fieldOf bs 0 → (length bs - (6 + 4 * n + 8 * m)) % 4 ≡ 0 → Splitting.Parts s (6 + 4 * n + 8 * m)
+            ((length bs - (6 + 4 * n + 8 * m)) / 4) ≡ splitOf bs
         unfolding picksIn startIn
         split-0 s es z =
             rw (es, end-is)
@@ -103,7 +105,8 @@ module _ (bs : List ℕ) (end j : ℕ) (e : end ≡ tableEnd bs) where
   pub pick-room : j < picksIn bs → (i : ℕ) → i ≤ 2 * j + 1 → 2 * i + 2 ≤ length (take (length bs - end) (drop end bs))
   pick-room h i l = let room = pick-inside h in rw (part-rest bs end, length-drop end bs) (omega arith)
 
-  pub pick-made : (a b : ℕ) → a ≡ fieldOf (take (length bs - end) (drop end bs)) (2 * j) → b ≡ fieldOf (take (length bs - end) (drop end bs)) (2 * j + 1) → _≡_ {A = Pick} (record { from = a; to = b }) (pickIn bs j)
+  pub pick-made : (a b : ℕ) → a ≡ fieldOf (take (length bs - end) (drop end bs)) (2 * j) → b ≡ fieldOf (take (length bs - end) (drop end bs)) (2 * j + 1) →
+      _≡_ {A = Pick} (record { from = a; to = b }) (pickIn bs j)
   unfolding pickIn pickFrom pickTo
   pick-made a b ea eb =
       let from : a ≡ fieldOf (drop (tableEnd bs) bs) (2 * j) = rw (part-rest bs end, e) at ea in

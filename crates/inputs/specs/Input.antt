@@ -6,6 +6,7 @@
 --   picksIn bs          == the number of whole picks
 --   longest             == the most bytes that are read
 --   inputNumber bs      == "The program checks 13, 1, 2, 3, 12": the first that is met, 0 if none is
+--   FirstMet bs r       == r is the first row that the input meets, in the same order, each row in 01's words; 0 if it meets none
 --   splitOf bs          == the answer of splitting the input: its parts, or refused with the number
 --   splitNumber         == 01's number for each case of that answer
 --   pickFrom bs j, pickTo bs j   == the two ends that pick j names, counted from 0
@@ -14,17 +15,21 @@
 --   begunOf bs w        == the answer: ready, with where the picks begin and how many there are, or refused with the number
 --   begunAnswerNumber   == 01's number for each case of that answer
 --   begunArea bs w      == the area that this leaves
+--   ZeroOr a h n        == n is 0, or a to h
 -- Assumes nothing.
-use Prim.Native.Nat.{ℕ, zero, suc, _+_, _-_, _*_, _/_, _%_}
+use Prim.Native.Nat.{ℕ, zero, suc, _+_, _-_, _*_, _/_, _%_, _≤_, _<_}
 use mathlib.Core.Bool.{not}
 use mathlib.Core.List.{List}
+use mathlib.Core.Logic.{_⊎_}
+use mathlib.Core.Path.{_≡_}
 use lib.Dec.{eqb, ltb}
 use lib.IntN.{ℤ}
 use lib.ListN.{length, take, drop}
 use Rattle.base.specs.Choice.{choose}
 use Rattle.tables.specs.Table.{Fields, fieldOf, nOf, mOf, tableLength}
+use Rattle.tables.specs.Layout.{Sizes}
 use Rattle.tables.specs.Reading.{sizesRight}
-use Rattle.runs.specs.AreaCalls.{startNumber, startArea}
+use Rattle.starting.specs.StartCall.{startNumber, startArea}
 use Rattle.inputs.specs.declared.Splitting.{Splitting}
 use Rattle.inputs.specs.declared.Pick.{Pick}
 use Rattle.inputs.specs.declared.Begun.{Begun}
@@ -62,6 +67,17 @@ inputNumber bs =
     (choose (ltb (length bs) (tableEnd bs)) 3
     (choose (not (eqb ((length bs - tableEnd bs) % 4) 0)) 12
     0))))
+
+-- 13 "input over 20,480 bytes", 1 "under 4 bytes (the program: also under 2 before the table)", 2 "N or M outside its range", 3 "too few
+-- bytes", 12 "1 to 3 bytes left after the last whole pick"; each row says that none before it is met
+pub data FirstMet (bs : List ℕ) : ℕ → Type 0 where
+  row-13 : 20480 < length bs → FirstMet bs 13
+  row-1 : length bs ≤ 20480 → length bs < 2 + 4 → FirstMet bs 1
+  row-2 : length bs ≤ 20480 → 2 + 4 ≤ length bs → (Sizes (tableFields bs) → ⊥) → FirstMet bs 2
+  row-3 : length bs ≤ 20480 → 2 + 4 ≤ length bs → Sizes (tableFields bs) → length bs < tableEnd bs → FirstMet bs 3
+  row-12 : length bs ≤ 20480 → Sizes (tableFields bs) → tableEnd bs + 4 * picksIn bs + 1 ≤ length bs → length bs ≤ tableEnd bs + 4 * picksIn bs + 3 →
+      FirstMet bs 12
+  no-row : length bs ≤ 20480 → Sizes (tableFields bs) → tableEnd bs + 4 * picksIn bs ≡ length bs → FirstMet bs 0
 
 -- the answer: the start process, where the table ends, and the number of picks
 unfoldable pub splitBy : ℕ → List ℕ → Splitting
@@ -106,3 +122,7 @@ begunAnswerNumber (Begun.Refused n) = n
 -- the area that a begun program leaves; a refusal changes no word
 unfoldable pub begunArea : List ℕ → List ℤ → List ℤ
 begunArea bs w = choose (eqb (inputNumber bs) 0) (startArea (tableIn bs) (startIn bs) w) w
+
+-- n is 0, or a to h
+abbrev pub ZeroOr : ℕ → ℕ → ℕ → Type 0
+ZeroOr a h n = (n ≡ 0) ⊎ ((a ≤ n) × (n ≤ h))

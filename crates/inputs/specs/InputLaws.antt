@@ -1,22 +1,19 @@
 -- Laws of the check program's input.
 --   fieldOf-after     == a field of the table is the field after it of the input, which begins with the start process
---   FirstMet bs r     == r is the first row that the input meets, in the order 13, 1, 2, 3, 12, each in 01's words; 0 if it meets none
 --   first-number, first-met, first-P   == the number of an input is r exactly if r is the first row that it meets
---   over-P, short-P   == so 13 exactly if there are over 20,480 bytes, and 1 exactly if there are under 2 + 4
 --   none-rest, some-rest   == nothing is left after the last whole pick, or 1 to 3 bytes
 --   end-least         == the table ends no sooner than its N and M
 --   parts-sizes       == N and M of an input that is not refused are in range
 --   parts-fill        == it is its start process, its table and its picks, with nothing left
 --   table-length      == its table has exactly the length that its own N and M ask
 --   table-read        == so reading the table checks 4 to 7 only
---   ZeroOr a h n      == n is 0, or a to h
---   then-4-to-8, then-4-to-9, never-1-to-3   == "then 4 to 8": what start says of that table, in words enough for any table, or in any words
+--   then-4-to-8       == "then 4 to 8": what start says of that table, in words enough for any table
 --   example-split, example-pick   == 01's own input
 -- Assumes nothing.
 use Prim.Native.Nat.{ℕ, suc, _+_, _-_, _*_, _/_, _%_, _≤_, _<_}
-use mathlib.Core.Bool.{Bool, true, false, not, _&&_, _||_}
+use mathlib.Core.Bool.{Bool, true, false, not, _&&_}
 use mathlib.Core.List.{List, [], _∷_}
-use mathlib.Core.Logic.{_⊎_, inl, inr, ⊎-elim, _↔_}
+use mathlib.Core.Logic.{inl, inr, ⊎-elim, _↔_}
 use mathlib.Core.Path.{_≡_, refl, ap, _∙_}
 use native.Mathlib.Omega.{arith}
 use borrow.Author.Tests.{lt-ltb, le-ltb, eq-eqb, ne-eqb}
@@ -24,17 +21,20 @@ use lib.Dec.{eqb, leb, ltb}
 use lib.IntN.{ℤ}
 use lib.ListN.{length, getD, take, drop, length-drop}
 use lib.Seq.{getD-drop, getD-take, length-take-le}
-use Rattle.base.specs.Choice.{choose, Same, same, apart, same?}
-use Rattle.base.specs.Checks.{Check, holds, fails, check-map, check-le, check-both}
+use Rattle.base.specs.Choice.{choose}
+use Rattle.base.specs.ChoiceLaws.{Same, same, apart, same?}
+use Rattle.base.specs.Checks.{Check, holds, fails}
+use Rattle.base.specs.CheckLaws.{check-map, check-le, check-both}
 use Rattle.base.specs.Sums.{allTo}
 use Rattle.tables.specs.declared.Chain.the-variants.{Out, In}
-use Rattle.tables.specs.Table.{Fields, fieldOf, nOf, mOf, tableLength}
+use Rattle.tables.specs.Table.{Fields, fieldOf, nOf, mOf, tableLength, isProcess}
 use Rattle.tables.specs.Layout.{Sizes}
 use Rattle.tables.specs.Reading.{chainsRight, sizesRight, endsRight, firstsRight, nextsRight, unlikeBefore, fieldsNumber, readNumber}
-use Rattle.areas.specs.Area.{areaLength}
-use Rattle.runs.specs.AreaCalls.{startNumber}
+use Rattle.areas.specs.Places.{areaLength}
+use Rattle.starting.specs.StartCall.{startNumber}
 use Rattle.inputs.specs.declared.Splitting.{Splitting}
-use Rattle.inputs.specs.Input.{startIn, tableFields, tableEnd, tableIn, picksIn, inputNumber, splitBy, splitOf, pickFrom, pickTo, pickIn}
+use Rattle.inputs.specs.Input.{startIn, tableFields, tableEnd, tableIn, picksIn, inputNumber, FirstMet, row-13, row-1, row-2, row-3, row-12}
+use Rattle.inputs.specs.Input.{no-row, splitBy, splitOf, pickFrom, pickTo, pickIn, ZeroOr}
 
 -- ---- fields
 
@@ -54,20 +54,11 @@ fieldOf-take bs k j h =
 
 -- ---- the first row that an input meets
 
--- 13 "input over 20,480 bytes", 1 "under 4 bytes (the program: also under 2 before the table)", 2 "N or M outside its range", 3 "too few
--- bytes", 12 "1 to 3 bytes left after the last whole pick"; each row says that none before it is met
-pub data FirstMet (bs : List ℕ) : ℕ → Type 0 where
-  row-13 : 20480 < length bs → FirstMet bs 13
-  row-1 : length bs ≤ 20480 → length bs < 2 + 4 → FirstMet bs 1
-  row-2 : length bs ≤ 20480 → 2 + 4 ≤ length bs → (Sizes (tableFields bs) → ⊥) → FirstMet bs 2
-  row-3 : length bs ≤ 20480 → 2 + 4 ≤ length bs → Sizes (tableFields bs) → length bs < tableEnd bs → FirstMet bs 3
-  row-12 : length bs ≤ 20480 → Sizes (tableFields bs) → tableEnd bs + 4 * picksIn bs + 1 ≤ length bs → length bs ≤ tableEnd bs + 4 * picksIn bs + 3 → FirstMet bs 12
-  no-row : length bs ≤ 20480 → Sizes (tableFields bs) → tableEnd bs + 4 * picksIn bs ≡ length bs → FirstMet bs 0
-
 check-sizes : (t : Fields) → Check (sizesRight t) (Sizes t) (Sizes t → ⊥)
 unfolding sizesRight
 check-sizes t =
-    check-map (λ p. (p .0 .0, p .0 .1, p .1)) (λ r s. ⊎-elim (λ q. ⊎-elim (λ h. omega arith) (λ h. omega arith) q) (λ h. omega arith) r) (check-both (check-both (check-le 1 (nOf t)) (check-le (nOf t) 128)) (check-le (mOf t) 512))
+    check-map (λ p. (p .0 .0, p .0 .1, p .1)) (λ r s. ⊎-elim (λ q. ⊎-elim (λ h. omega arith) (λ h. omega arith) q) (λ h. omega arith) r)
+    (check-both (check-both (check-le 1 (nOf t)) (check-le (nOf t) 128)) (check-le (mOf t) 512))
 
 sizes-right : (t : Fields) → Sizes t → sizesRight t ≡ true
 sizes-right t s = at (check-sizes t)
@@ -112,13 +103,25 @@ module _ (bs : List ℕ) where
   first-number r (row-12 l s h k) =
       let u : 2 + 4 ≤ length bs = omega (arith, end-least) in
       let i : tableEnd bs ≤ length bs = omega arith in
-      rw (le-ltb 20480 (length bs) l, le-ltb (length bs) 6 u, sizes-right (tableFields bs) s, le-ltb (length bs) (tableEnd bs) i, ne-eqb ((length bs - tableEnd bs) % 4) 0 (rest-some (length bs) (tableEnd bs) i h))
+      rw (
+        le-ltb 20480 (length bs) l,
+        le-ltb (length bs) 6 u,
+        sizes-right (tableFields bs) s,
+        le-ltb (length bs) (tableEnd bs) i,
+        ne-eqb ((length bs - tableEnd bs) % 4) 0 (rest-some (length bs) (tableEnd bs) i h),
+      )
   first-number r (no-row l s e) =
       let u : 2 + 4 ≤ length bs = omega (arith, end-least) in
       let i : tableEnd bs ≤ length bs = omega arith in
-      rw (le-ltb 20480 (length bs) l, le-ltb (length bs) 6 u, sizes-right (tableFields bs) s, le-ltb (length bs) (tableEnd bs) i, eq-eqb ((length bs - tableEnd bs) % 4) 0 (rest-none (length bs) (tableEnd bs) i e))
+      rw (
+        le-ltb 20480 (length bs) l,
+        le-ltb (length bs) 6 u,
+        sizes-right (tableFields bs) s,
+        le-ltb (length bs) (tableEnd bs) i,
+        eq-eqb ((length bs - tableEnd bs) % 4) 0 (rest-none (length bs) (tableEnd bs) i e),
+      )
 
-  pub first-met : FirstMet bs (inputNumber bs)
+  first-met : FirstMet bs (inputNumber bs)
   unfolding picksIn
   first-met = over (check-le (suc 20480) (length bs))
     where
@@ -129,11 +132,13 @@ module _ (bs : List ℕ) where
       left l s i (same e _) = said 0 (no-row l s (none-rest (length bs) (tableEnd bs) i e))
       left l s i (apart d _) = let b = some-rest (length bs) (tableEnd bs) i d in said 12 (row-12 l s (b .0) (b .1))
 
-      few : length bs ≤ 20480 → 2 + 4 ≤ length bs → Sizes (tableFields bs) → Check (leb (tableEnd bs) (length bs)) (tableEnd bs ≤ length bs) (length bs < tableEnd bs) → FirstMet bs (inputNumber bs)
+      few : length bs ≤ 20480 → 2 + 4 ≤ length bs → Sizes (tableFields bs) → Check (leb (tableEnd bs) (length bs)) (tableEnd bs ≤ length bs)
+          (length bs < tableEnd bs) → FirstMet bs (inputNumber bs)
       few l u s (holds _ i) = left l s i (same? ((length bs - tableEnd bs) % 4) 0)
       few l u s (fails _ h) = said 3 (row-3 l u s h)
 
-      sizes : length bs ≤ 20480 → 2 + 4 ≤ length bs → Check (sizesRight (tableFields bs)) (Sizes (tableFields bs)) (Sizes (tableFields bs) → ⊥) → FirstMet bs (inputNumber bs)
+      sizes : length bs ≤ 20480 → 2 + 4 ≤ length bs → Check (sizesRight (tableFields bs)) (Sizes (tableFields bs)) (Sizes (tableFields bs) → ⊥) → FirstMet bs
+          (inputNumber bs)
       sizes l u (holds _ s) = few l u s (check-le (tableEnd bs) (length bs))
       sizes l u (fails _ d) = said 2 (row-2 l u d)
 
@@ -148,21 +153,9 @@ module _ (bs : List ℕ) where
   pub first-P : (r : ℕ) → (inputNumber bs ≡ r) ↔ FirstMet bs r
   first-P r = (λ e. rw e at first-met, first-number r)
 
-  pub over-P : (inputNumber bs ≡ 13) ↔ (20480 < length bs)
-  over-P = (λ e. given (first-P 13 .0 e), λ h. first-number 13 (row-13 h))
-    where
-      given : FirstMet bs 13 → 20480 < length bs
-      given (row-13 h) = h
-
-  pub short-P : (inputNumber bs ≡ 1) ↔ (length bs < 2 + 4)
-  short-P = (λ e. given (first-P 1 .0 e), λ h. first-number 1 (row-1 (omega arith) h))
-    where
-      given : FirstMet bs 1 → length bs < 2 + 4
-      given (row-1 l h) = h
-
   -- ---- an input that is not refused
 
-  pub parts-sizes : inputNumber bs ≡ 0 → Sizes (tableFields bs)
+  parts-sizes : inputNumber bs ≡ 0 → Sizes (tableFields bs)
   parts-sizes e = given (first-P 0 .0 e)
     where
       given : FirstMet bs 0 → Sizes (tableFields bs)
@@ -190,7 +183,7 @@ module _ (bs : List ℕ) where
   unfolding tableIn
   table-bytes h = length-take-le (tableEnd bs - 2) (drop 2 bs) (simp length-drop (omega arith))
 
-  pub table-length : inputNumber bs ≡ 0 → length (tableIn bs) ≡ tableLength (nOf (fieldOf (tableIn bs))) (mOf (fieldOf (tableIn bs)))
+  table-length : inputNumber bs ≡ 0 → length (tableIn bs) ≡ tableLength (nOf (fieldOf (tableIn bs))) (mOf (fieldOf (tableIn bs)))
   unfolding tableEnd
   table-length e =
       let n : fieldOf (tableIn bs) 0 ≡ tableFields bs 0 = table-field 0 (omega arith) in
@@ -200,7 +193,7 @@ module _ (bs : List ℕ) where
       omega arith
 
   -- "then 4 to 8": the checks 1 to 3 of reading a table find nothing
-  pub table-read : inputNumber bs ≡ 0 → readNumber (tableIn bs) ≡ fieldsNumber (fieldOf (tableIn bs))
+  table-read : inputNumber bs ≡ 0 → readNumber (tableIn bs) ≡ fieldsNumber (fieldOf (tableIn bs))
   unfolding readNumber
   table-read e =
       let t : Fields = fieldOf (tableIn bs) in
@@ -208,10 +201,6 @@ module _ (bs : List ℕ) where
       rw (le-ltb (length (tableIn bs)) 4 (omega arith), sizes-right t (table-sizes e), eq-eqb (length (tableIn bs)) (tableLength (nOf t) (mOf t)) l)
 
 -- ---- what start says of its table
-
--- n is 0, or a to h
-abbrev pub ZeroOr : ℕ → ℕ → ℕ → Type 0
-ZeroOr a h n = (n ≡ 0) ⊎ ((a ≤ n) × (n ≤ h))
 
 choose-range : (a h : ℕ) (b : Bool) (m n : ℕ) → ZeroOr a h m → ZeroOr a h n → ZeroOr a h (choose b m n)
 choose-range a h true m n p q = p
@@ -236,14 +225,6 @@ module _ (bs : List ℕ) (e : inputNumber bs ≡ 0) (s : ℕ) (w : List ℤ) whe
   read-range : (h : ℕ) → 7 ≤ h → ZeroOr 4 h (readNumber (tableIn bs))
   read-range h l = wider 4 7 h (readNumber (tableIn bs)) l (rw (table-read bs e) (fields-range (fieldOf (tableIn bs))))
 
-  pub then-4-to-9 : ZeroOr 4 9 (startNumber (tableIn bs) s w)
-  unfolding startNumber
-  then-4-to-9 =
-      let t : Fields = fieldOf (tableIn bs) in
-      choose-range 4 9 (not (eqb (readNumber (tableIn bs)) 0)) (readNumber (tableIn bs)) _ (read-range 9 (omega arith))
-      (row-range 4 9 (eqb s 0 || ltb (nOf t) s) 8 _ (omega arith) (omega arith)
-      (row-range 4 9 (ltb (length w) (areaLength (nOf t) (mOf t))) 9 0 (omega arith) (omega arith) (inl refl)))
-
   -- 11,280 words are enough for any table
   pub then-4-to-8 : 11280 ≤ length w → ZeroOr 4 8 (startNumber (tableIn bs) s w)
   unfolding startNumber
@@ -253,10 +234,7 @@ module _ (bs : List ℕ) (e : inputNumber bs ≡ 0) (s : ℕ) (w : List ℤ) whe
       let long : areaLength (nOf t) (mOf t) ≤ length w = omega arith in
       rw (le-ltb (length w) (areaLength (nOf t) (mOf t)) long)
       (choose-range 4 8 (not (eqb (readNumber (tableIn bs)) 0)) (readNumber (tableIn bs)) _ (read-range 8 (omega arith))
-      (row-range 4 8 (eqb s 0 || ltb (nOf t) s) 8 0 (omega arith) (omega arith) (inl refl)))
-
-  pub never-1-to-3 : (r : ℕ) → 1 ≤ r → r ≤ 3 → startNumber (tableIn bs) s w ≡ r → ⊥
-  never-1-to-3 r l u q = ⊎-elim (λ z. omega arith) (λ b. omega arith) then-4-to-9
+      (row-range 4 8 (not (isProcess (nOf t) s)) 8 0 (omega arith) (omega arith) (inl refl)))
 
 -- ---- 01's own input: start 1, the table of one wait, 1 for 2, and one pick, 1 to 2
 

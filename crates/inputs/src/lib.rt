@@ -1,8 +1,6 @@
 // The check program's input: the start process, the table, and the picks. It is split by its own N and M, refused by the rows 13, 1, 2, 3
 // and 12 of 01, in order, and then its table is started, "then 4 to 8".
-use runs::Started;
-use runs::starting;
-use tables::reader;
+use starting::Started;
 ghost use mathlib.Core.Path.{_≡_};
 ghost use Prim.Native.Nat.{_<_};
 ghost use Rattle.inputs.specs.Input.{tableEnd, picksIn, splitOf, pickIn, begunOf, begunArea};
@@ -30,7 +28,7 @@ pub enum Begun {
 }
 
 // Splits any bytes by their own N and M: "checks 13, 1, 2, 3, 12".
-pub fn split(input: &[u8]) -> Splitting
+fn split(input: &[u8]) -> Splitting
     ensures { λ r. ⌜ r ≡ splitOf (now (input .entry)) ⌝ }
 {
     let length = input.len();
@@ -40,9 +38,9 @@ pub fn split(input: &[u8]) -> Splitting
     if length < 6 {
         return Splitting::Refused(1);
     }
-    let start = reader::field(input, 0);
-    let n = reader::field(input, 1);
-    let m = reader::field(input, 2);
+    let start = table_reader::field(input, 0);
+    let n = table_reader::field(input, 1);
+    let m = table_reader::field(input, 2);
     if n == 0 {
         return Splitting::Refused(2);
     }
@@ -71,8 +69,8 @@ pub fn pick_at(input: &[u8], end: usize, j: usize) -> Pick
     ensures { λ r. ⌜ r ≡ pickIn (now (input .entry)) j ⌝ }
 {
     let picks = &input[end..];
-    let from = reader::field(picks, 2 * j) as u32;
-    let to = reader::field(picks, 2 * j + 1) as u32;
+    let from = table_reader::field(picks, 2 * j) as u32;
+    let to = table_reader::field(picks, 2 * j + 1) as u32;
     Pick { from, to }
 }
 

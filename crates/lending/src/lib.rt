@@ -16,13 +16,13 @@ pub enum Lent {
 }
 
 // The record to store and the answer.
-pub struct Outcome {
+struct Outcome {
     pub process: Process,
     pub answer: Lent,
 }
 
 // The step by value; a refusal gives back the record that it was given.
-pub fn step_value(
+fn step_value(
     process: Process,
     message: Message,
     out_degree: u32,

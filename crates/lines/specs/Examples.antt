@@ -7,36 +7,38 @@ use lib.IntN.{pos, negsuc}
 use Rattle.steps.specs.declared.Message.the-variants.{Suc, Ack}
 use Rattle.checks.specs.declared.Verdict.the-variants.{Free}
 use Rattle.checks.specs.declared.Mark.the-variants.{Held}
-use Rattle.lines.specs.Text.{bytes, decimalTo, decimal, signed, field, countField, linkText, messageText, deliveryLine, refusedPickLine, numberLine, refusedLine, flagsText, processLine, overLine, verdictLine, outsideLine, escapeLine, markLine, reportText}
+use Rattle.lines.specs.Text.{bytes, decimalTo, decimal, signed, field, countField, linkText, messageText, deliveryLine, refusedPickLine}
+use Rattle.lines.specs.Text.{numberLine, refusedLine, flagsText, processLine, overLine, verdictLine, outsideLine, escapeLine, markLine}
+use Rattle.lines.specs.Text.{reportText}
 
-pub first-delivery : deliveryLine false 1 2 Suc ≡ bytes "pick 1 2 suc\n"
+first-delivery : deliveryLine false 1 2 Suc ≡ bytes "pick 1 2 suc\n"
 unfolding deliveryLine linkText field messageText decimal decimalTo
 first-delivery = refl
 
-pub second-delivery : deliveryLine true 2 1 (Ack (pos 1)) ≡ bytes "own 2 1 ack 1\n"
+second-delivery : deliveryLine true 2 1 (Ack (pos 1)) ≡ bytes "own 2 1 ack 1\n"
 unfolding deliveryLine linkText field messageText countField signed decimal decimalTo
 second-delivery = refl
 
-pub first-process : processLine 1 (record { succeeding = 1; preceding = 1; subordinate = 0; cs = pos 1; num = 0; father = 0 }) ≡ bytes "process 1 1 1 0 1 0\n"
+first-process : processLine 1 (record { succeeding = 1; preceding = 1; subordinate = 0; cs = pos 1; num = 0; father = 0 }) ≡ bytes "process 1 1 1 0 1 0\n"
 unfolding processLine flagsText field countField signed decimal decimalTo
 first-process = refl
 
-pub second-process : processLine 2 (record { succeeding = 1; preceding = 0; subordinate = 1; cs = pos 0; num = 0; father = 1 }) ≡ bytes "process 2 1 0 1 0 0\n"
+second-process : processLine 2 (record { succeeding = 1; preceding = 0; subordinate = 1; cs = pos 0; num = 0; father = 1 }) ≡ bytes "process 2 1 0 1 0 0\n"
 unfolding processLine flagsText field countField signed decimal decimalTo
 second-process = refl
 
-pub report : reportText 2 Free (pos 1) 2 Held ≡ bytes "over 2\nverdict none\noutside 1\nescape 2\nmark held\n"
+report : reportText 2 Free (pos 1) 2 Held ≡ bytes "over 2\nverdict none\noutside 1\nescape 2\nmark held\n"
 unfolding reportText numberLine overLine verdictLine outsideLine escapeLine markLine field countField signed decimal decimalTo
 report = refl
 
-pub refused-pick : refusedPickLine false 1 2 24 ≡ bytes "pick 1 2 refused 24\n"
+refused-pick : refusedPickLine 1 2 24 ≡ bytes "pick 1 2 refused 24\n"
 unfolding refusedPickLine linkText field decimal decimalTo
 refused-pick = refl
 
-pub refused-input : refusedLine 13 ≡ bytes "refused 13\n"
+refused-input : refusedLine 13 ≡ bytes "refused 13\n"
 unfolding refusedLine numberLine field decimal decimalTo
 refused-input = refl
 
-pub negative-count : messageText (Ack (negsuc 0)) ≡ bytes " ack -1"
+negative-count : messageText (Ack (negsuc 0)) ≡ bytes " ack -1"
 unfolding messageText countField signed decimal decimalTo
 negative-count = refl

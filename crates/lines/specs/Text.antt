@@ -9,7 +9,7 @@
 --   linkText own a b    == "pick or own, sender, receiver"
 --   messageText m       == " suc", " pre", or " ack" with its count
 --   deliveryLine own a b m     == "pick or own, sender, receiver, kind, count for ack"
---   refusedPickLine own a b n  == "A refused pick prints its number"
+--   refusedPickLine a b n      == "A refused pick prints its number"
 --   numberLine w n      == a line of a word and a number
 --   refusedLine n       == "An input refusal prints only `refused` and the number"
 --   flagsText x         == "succeeding, preceding, subordinate"
@@ -62,7 +62,7 @@ unfoldable pub countField : ℤ → List ℕ
 countField z = bytes " " ++ signed z
 
 -- "each line ends with byte 10"
-abbrev pub lineEnd : List ℕ
+abbrev lineEnd : List ℕ
 lineEnd = bytes "\n"
 
 -- "pick or own": own if the program chose the link
@@ -85,8 +85,8 @@ unfoldable pub deliveryLine : Bool → ℕ → ℕ → Message → List ℕ
 deliveryLine own a b m = linkText own a b ++ messageText m ++ lineEnd
 
 -- `pick 1 2 refused 24`
-unfoldable pub refusedPickLine : Bool → ℕ → ℕ → ℕ → List ℕ
-refusedPickLine own a b n = linkText own a b ++ bytes " refused" ++ field n ++ lineEnd
+unfoldable pub refusedPickLine : ℕ → ℕ → ℕ → List ℕ
+refusedPickLine a b n = linkText false a b ++ bytes " refused" ++ field n ++ lineEnd
 
 -- a word, a number, and the end of the line
 unfoldable pub numberLine : List ℕ → ℕ → List ℕ

@@ -17,10 +17,11 @@ use lib.IntN.{ℤ, pos, negsuc, natAbs}
 use lib.Signed.{leZ}
 use lib.ListN.{length, length-append}
 use borrow.Author.Tests.{lt-ltb, le-ltb, ltb-true, ltb-false}
-use Rattle.base.specs.Choice.{choose, Tested, passed, failed, tested}
+use Rattle.base.specs.Choice.{choose}
+use Rattle.base.specs.ChoiceLaws.{Tested, passed, failed, tested}
 use Rattle.lines.specs.Text.{bytes, digit, decimalTo, decimal, signed}
 
-pub decimalTo-fuel : (f g n : ℕ) → n < f → n < g → decimalTo f n ≡ decimalTo g n
+decimalTo-fuel : (f g n : ℕ) → n < f → n < g → decimalTo f n ≡ decimalTo g n
 unfolding decimalTo
 decimalTo-fuel zero g n h k = absurd (omega arith)
 decimalTo-fuel (suc f) zero n h k = absurd (omega arith)
@@ -32,7 +33,7 @@ decimalTo-fuel (suc f) (suc g) n h k = at (tested (ltb n 10)) (decimalTo-fuel f 
     at (passed e) rest = rw e
     at (failed e) rest = rw (e, rest (omega (arith, ltb-false n 10 e)) (omega (arith, ltb-false n 10 e)))
 
-pub decimal-step : (n : ℕ) → decimal n ≡ choose (ltb n 10) (digit n ∷ []) (decimal (n / 10) ++ (digit (n % 10) ∷ []))
+decimal-step : (n : ℕ) → decimal n ≡ choose (ltb n 10) (digit n ∷ []) (decimal (n / 10) ++ (digit (n % 10) ∷ []))
 unfolding decimal decimalTo
 decimal-step n = at (tested (ltb n 10))
   where
@@ -54,7 +55,7 @@ decimal-one-length n h = rw (decimal-one n h)
 pub decimal-more-length : (n : ℕ) → 10 ≤ n → length (decimal n) ≡ length (decimal (n / 10)) + 1
 decimal-more-length n h = rw (decimal-more n h, length-append)
 
-pub decimal-length : (k n : ℕ) → n < 10 ^ suc k → length (decimal n) ≤ suc k
+decimal-length : (k n : ℕ) → n < 10 ^ suc k → length (decimal n) ≤ suc k
 decimal-length zero n h = omega (arith, decimal-one-length n h)
 decimal-length (suc k) n h = at (tested (ltb n 10)) (decimal-length k (n / 10))
   where

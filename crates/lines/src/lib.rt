@@ -14,8 +14,7 @@ use steps::Message;
 use steps::Process;
 ghost use Prim.Native.Nat.{_+_, _≤_};
 ghost use lib.ListN.{length};
-ghost use Rattle.lines.specs.Text.{deliveryLine, refusedPickLine, refusedLine, processLine};
-ghost use Rattle.lines.specs.Text.{verdictLine, outsideLine, markLine, reportText};
+ghost use Rattle.lines.specs.Text.{deliveryLine, refusedPickLine, refusedLine, processLine, verdictLine, outsideLine, markLine, reportText};
 ghost use Rattle.lines.specs.Adding.{Added, Line};
 
 mod pieces;
@@ -30,12 +29,12 @@ pub fn delivery_line(out: &mut [u8], own: bool, from: u32, to: u32, message: Mes
     put_word(out, end, b"\n")
 }
 
-// `pick 1 2 refused 24`
-pub fn refused_delivery_line(out: &mut [u8], own: bool, from: u32, to: u32, number: u32) -> usize
+// `pick 1 2 refused 24`: a delivery that the program chooses itself is never refused with a link.
+pub fn refused_delivery_line(out: &mut [u8], from: u32, to: u32, number: u32) -> usize
     requires { ⌜ 128 ≤ length (now out) ⌝ }
-    ensures { λ r. ⌜ Line (refusedPickLine own from to number) (now (out .entry)) (now (out .exit)) r ⌝ }
+    ensures { λ r. ⌜ Line (refusedPickLine from to number) (now (out .entry)) (now (out .exit)) r ⌝ }
 {
-    let mut end = put_link(out, 0, own, from, to);
+    let mut end = put_link(out, 0, false, from, to);
     end = put_word(out, end, b" refused");
     end = put_field(out, end, number);
     put_word(out, end, b"\n")

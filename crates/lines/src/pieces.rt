@@ -23,7 +23,7 @@ pub fn put_word(out: &mut [u8], at: usize, word: &[u8]) -> usize
     end
 }
 
-pub fn put_digit(out: &mut [u8], at: usize, d: u32) -> usize
+fn put_digit(out: &mut [u8], at: usize, d: u32) -> usize
     requires { ⌜ d < 10 ⌝ }
     requires { ⌜ at + 1 ≤ length (now out) ⌝ }
     ensures { λ r. ⌜ Added 1 (now (out .entry)) at (digit d ∷ []) (now (out .exit)) r ⌝ }
@@ -33,7 +33,7 @@ pub fn put_digit(out: &mut [u8], at: usize, d: u32) -> usize
 }
 
 // The digits of n, in exactly the room that they take.
-pub fn put_digits(out: &mut [u8], at: usize, n: u32) -> usize
+fn put_digits(out: &mut [u8], at: usize, n: u32) -> usize
     requires { ⌜ at + length (decimal n) ≤ length (now out) ⌝ }
     ensures { λ r. ⌜ Added (length (decimal n)) (now (out .entry)) at (decimal n) (now (out .exit)) r ⌝ }
 {
@@ -44,7 +44,7 @@ pub fn put_digits(out: &mut [u8], at: usize, n: u32) -> usize
     put_digit(out, end, n % 10)
 }
 
-pub fn put_number(out: &mut [u8], at: usize, n: u32) -> usize
+fn put_number(out: &mut [u8], at: usize, n: u32) -> usize
     requires { ⌜ at + 10 ≤ length (now out) ⌝ }
     ensures { λ r. ⌜ Added 10 (now (out .entry)) at (decimal n) (now (out .exit)) r ⌝ }
 {
@@ -52,7 +52,7 @@ pub fn put_number(out: &mut [u8], at: usize, n: u32) -> usize
 }
 
 // "a negative number with a hyphen before it"
-pub fn put_signed(out: &mut [u8], at: usize, z: i32) -> usize
+fn put_signed(out: &mut [u8], at: usize, z: i32) -> usize
     requires { ⌜ at + 11 ≤ length (now out) ⌝ }
     ensures { λ r. ⌜ Added 11 (now (out .entry)) at (signed z) (now (out .exit)) r ⌝ }
 {
@@ -80,7 +80,7 @@ pub fn put_count_field(out: &mut [u8], at: usize, z: i32) -> usize
     put_signed(out, end, z)
 }
 
-pub fn put_who(out: &mut [u8], at: usize, own: bool) -> usize
+fn put_who(out: &mut [u8], at: usize, own: bool) -> usize
     requires { ⌜ at + 4 ≤ length (now out) ⌝ }
     ensures { λ r. ⌜ Added 4 (now (out .entry)) at (who own) (now (out .exit)) r ⌝ }
 {

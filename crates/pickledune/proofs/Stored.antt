@@ -7,11 +7,14 @@ use Rattle.steps.specs.declared.Message.{Message}
 use Rattle.steps.specs.declared.Process.{Process}
 use Rattle.steps.specs.declared.Stepped.{Stepped}
 use Rattle.lending.specs.Lent.{lentRecord}
-use Rattle.steps.specs.Step.{stepped, steppedNumber, steppedProbes, steppedReply}
+use Rattle.steps.specs.Step.{stepped}
+use Rattle.pickledune.specs.Values.{steppedNumber, steppedProbes, steppedReply}
 use Rattle.pickledune.specs.Interface.{probesNumber, replyTo, replyCount, StepTold}
 
 -- the step was made of the record w and the message n, which are x and m; v and u, of the values of its answer a, are stored as y and z
-pub StepTold-stored : {m n : Message} {o i p : ℕ} {a : Stepped} {x w y v : Process} {r b t : ℕ} {z u : ℤ} → a ≡ stepped n o i p w → n ≡ m → w ≡ x → r ≡ steppedNumber a → v ≡ lentRecord w a → y ≡ v → b ≡ probesNumber (steppedProbes a) → t ≡ replyTo (steppedReply a) → u ≡ replyCount (steppedReply a) → z ≡ u → StepTold m o i p x y r b t z
+pub StepTold-stored : {m n : Message} {o i p : ℕ} {a : Stepped} {x w y v : Process} {r b t : ℕ} {z u : ℤ} → a ≡ stepped n o i p w → n ≡ m → w ≡ x → r
+    ≡ steppedNumber a → v ≡ lentRecord w a → y ≡ v → b ≡ probesNumber (steppedProbes a) → t ≡ replyTo (steppedReply a) → u ≡ replyCount (steppedReply a) → z
+    ≡ u → StepTold m o i p x y r b t z
 StepTold-stored {o} {i} {p} ea em ex er ev ey eb et eu ez =
     let e = ea ∙ ap₂ (λ (k : Message) (q : Process). stepped k o i p q) em ex in
     record {

@@ -21,17 +21,18 @@ use Rattle.steps.specs.declared.Probes.{Probes}
 use Rattle.steps.specs.declared.Probes.the-variants.{Sucs, Pres}
 use Rattle.steps.specs.declared.Reply.{Reply}
 use Rattle.steps.specs.declared.Reply.the-variants.{To}
-use Rattle.steps.specs.Step.{stepped, steppedNumber, steppedProbes, steppedReply}
+use Rattle.steps.specs.Step.{stepped}
+use Rattle.pickledune.specs.Values.{steppedNumber, steppedProbes, steppedReply, reportCount, reportKnot, reportOutside, reportReturned}
 use Rattle.lending.specs.Lent.{lentRecord}
 use Rattle.checks.specs.declared.Report.{Report}
-use Rattle.checks.specs.Calls.{reportNumber, reportCount, reportKnot, reportOutside, reportEscape, reportReturned}
+use Rattle.checks.specs.Calls.{reportNumber, reportEscape}
 use Rattle.runs.specs.AreaCalls.{Reported}
 
 -- "its out- or in-chain"
 unfoldable pub chainOf : ℕ → Chain
 chainOf k = choose (eqb k 0) Out In
 
--- "a suc probe, a pre probe or an acknowledgement with its count": 1, 2 and 3, as kindOf of `checks` numbers them. Any other kind is
+-- "a suc probe, a pre probe or an acknowledgement with its count": 1, 2 and 3, as kindOf (Values) numbers them. Any other kind is
 -- refused as "count out of range" is (messageOf-other)
 unfoldable pub messageOf : ℕ → ℤ → Message
 messageOf k c = choose (eqb k 1) Suc (choose (eqb k 2) Pre (choose (eqb k 3) (Ack c) (Ack (pos 129))))

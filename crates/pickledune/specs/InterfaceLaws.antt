@@ -12,10 +12,11 @@ use Rattle.steps.specs.declared.Message.the-variants.{Suc, Pre, Ack}
 use Rattle.steps.specs.declared.Process.{Process}
 use Rattle.steps.specs.declared.Stepped.the-variants.{Refused}
 use Rattle.steps.specs.Step.{small, countSmall, lentInRange, stepNumber, answer, stepped}
-use Rattle.checks.specs.Calls.{kindOf, carried}
+use Rattle.pickledune.specs.Values.{kindOf}
+use Rattle.steps.specs.Effect.{countOf}
 use Rattle.pickledune.specs.Interface.{messageOf}
 
-pub messageOf-kindOf : (m : Message) → messageOf (kindOf m) (carried m) ≡ m
+pub messageOf-kindOf : (m : Message) → messageOf (kindOf m) (countOf m) ≡ m
 unfolding messageOf
 messageOf-kindOf Suc = refl
 messageOf-kindOf Pre = refl

@@ -1,18 +1,20 @@
 // The answers of a check's calls, as numbers: 01's number and values, zeros elsewhere.
 use checks::Delivery;
 use checks::Mark;
-use checks::Ran;
 use checks::Reading;
 use checks::Report;
 use checks::Verdict;
-use runs::Started;
+use machine::Ran;
+use starting::Started;
 use steps::Message;
 use steps::Process;
 ghost use mathlib.Core.Path.{_≡_};
-ghost use Rattle.checks.specs.Calls.{kindOf, carried, deliveryNumber, deliveryKind, deliveryCount, ranNumber, ranOver, ranMade};
-ghost use Rattle.checks.specs.Calls.{knotBit, returnedBit, reportNumber, reportCount, reportKnot, reportOutside, reportEscape, reportReturned};
-ghost use Rattle.checks.specs.Calls.{readingNumber, readingProcess};
-ghost use Rattle.runs.specs.AreaCalls.{startedNumber};
+ghost use Rattle.pickledune.specs.Values.{kindOf, deliveryKind, deliveryCount, knotBit, returnedBit};
+ghost use Rattle.pickledune.specs.Values.{reportCount, reportKnot, reportOutside, reportReturned, readingProcess, ranOver};
+ghost use Rattle.steps.specs.Effect.{countOf};
+ghost use Rattle.checks.specs.Calls.{deliveryNumber, reportNumber, reportEscape, readingNumber};
+ghost use Rattle.machine.specs.Calls.{ranNumber, ranMade};
+ghost use Rattle.pickledune.specs.TableValues.{startedNumber};
 
 pub struct DeliveryValues {
     pub number: u32,
@@ -50,7 +52,7 @@ pub fn started_number(answer: Started) -> u32
 }
 
 // The kind of a message: 1 a suc probe, 2 a pre probe, 3 an acknowledgement.
-pub fn kind_of(message: Message) -> u32
+fn kind_of(message: Message) -> u32
     ensures { λ r. ⌜ r ≡ kindOf message ⌝ }
 {
     match message {
@@ -62,7 +64,7 @@ pub fn kind_of(message: Message) -> u32
 
 // The count of an acknowledgement, 0 for a probe.
 pub fn carried(message: Message) -> i32
-    ensures { λ r. ⌜ r ≡ carried message ⌝ }
+    ensures { λ r. ⌜ r ≡ countOf message ⌝ }
 {
     match message {
         Message::Suc => 0,
@@ -111,7 +113,7 @@ pub fn ran_values(answer: Ran) -> RanValues
 }
 
 // 1 for the verdict knot.
-pub fn knot_bit(verdict: Verdict) -> u32
+fn knot_bit(verdict: Verdict) -> u32
     ensures { λ r. ⌜ r ≡ knotBit verdict ⌝ }
 {
     match verdict {
@@ -121,7 +123,7 @@ pub fn knot_bit(verdict: Verdict) -> u32
 }
 
 // 1 for the mark returned.
-pub fn returned_bit(mark: Mark) -> u32
+fn returned_bit(mark: Mark) -> u32
     ensures { λ r. ⌜ r ≡ returnedBit mark ⌝ }
 {
     match mark {
@@ -131,7 +133,8 @@ pub fn returned_bit(mark: Mark) -> u32
 }
 
 pub fn report_values(answer: Report) -> ReportValues
-    ensures { λ r. ⌜ (r .number ≡ reportNumber answer) × (r .deliveries ≡ reportCount answer) × (r .knot ≡ reportKnot answer) × (r .outside ≡ reportOutside answer) × (r .escape ≡ reportEscape answer) × (r .returned ≡ reportReturned answer) ⌝ }
+    ensures { λ r. ⌜ (r .number ≡ reportNumber answer) × (r .deliveries ≡ reportCount answer) × (r .knot ≡ reportKnot answer) ×
+        (r .outside ≡ reportOutside answer) × (r .escape ≡ reportEscape answer) × (r .returned ≡ reportReturned answer) ⌝ }
 {
     match answer {
         Report::Over {

@@ -7,16 +7,17 @@ mod table_values;
 use runs::picking;
 use runs::reading;
 use runs::running;
-use runs::starting;
 use steps::Process;
-use tables::reader;
-use tables::writer;
 ghost use mathlib.Core.Path.{_≡_};
-ghost use Rattle.tables.specs.Reading.{readingOf, numberOf, nFound, mFound};
-ghost use Rattle.tables.specs.Writing.{writingOf, written, writingNumber, writtenLength};
+ghost use Rattle.tables.specs.Reading.{readingOf};
+ghost use Rattle.pickledune.specs.TableValues.{numberOf, nFound, mFound, writingNumber, writtenLength, startedNumber};
+ghost use Rattle.table_writer.specs.Writing.{writingOf, written};
 ghost use Rattle.tables.specs.Walking.{openedOf, openedNumber, openedArc, nextOf, nextArc};
-ghost use Rattle.checks.specs.Calls.{deliveryNumber, deliveryKind, deliveryCount, ranNumber, ranOver, ranMade, readingNumber, readingProcess};
-ghost use Rattle.runs.specs.AreaCalls.{startAnswer, startArea, startedNumber, pickAnswer, pickArea, runOnAnswer, runOnArea, readAnswer};
+ghost use Rattle.checks.specs.Calls.{deliveryNumber, readingNumber};
+ghost use Rattle.pickledune.specs.Values.{deliveryKind, deliveryCount, readingProcess, ranOver};
+ghost use Rattle.machine.specs.Calls.{ranNumber, ranMade};
+ghost use Rattle.starting.specs.StartCall.{startAnswer, startArea};
+ghost use Rattle.runs.specs.AreaCalls.{pickAnswer, pickArea, runOnAnswer, runOnArea, readAnswer};
 ghost use Rattle.pickledune.specs.Interface.{chainOf, messageOf, processOf, StepTold, ReportTold};
 
 // Reads a table: its N and M. 1 to 7.
@@ -26,7 +27,7 @@ pub extern "C" fn pickledune_read_table(table: &[u8], n: &mut usize, m: &mut usi
     ensures processes { λ _. ⌜ now (n .exit) ≡ nFound (readingOf (now (table .entry))) ⌝ }
     ensures arcs { λ _. ⌜ now (m .exit) ≡ mFound (readingOf (now (table .entry))) ⌝ }
 {
-    let v = table_values::read_values(reader::read(table));
+    let v = table_values::read_values(table_reader::read(table));
     *n = v.n;
     *m = v.m;
     v.number
@@ -44,7 +45,7 @@ pub extern "C" fn pickledune_write_table(
     ensures length { λ _. ⌜ now (length .exit) ≡ writtenLength (writingOf n (now (list .entry)) (now (out .entry))) ⌝ }
     ensures out { λ _. ⌜ now (out .exit) ≡ written n (now (list .entry)) (now (out .entry)) ⌝ }
 {
-    let v = table_values::write_values(writer::write(n, list, out));
+    let v = table_values::write_values(table_writer::write(n, list, out));
     *length = v.length;
     v.number
 }
@@ -55,7 +56,11 @@ pub extern "C" fn pickledune_open(table: &[u8], chain: u32, process: usize, arc:
     ensures number { λ r. ⌜ r ≡ openedNumber (openedOf (now (table .entry)) (chainOf chain) process) ⌝ }
     ensures arc { λ _. ⌜ now (arc .exit) ≡ openedArc (openedOf (now (table .entry)) (chainOf chain) process) ⌝ }
 {
-    let v = table_values::open_values(reader::open(table, table_values::chain_of(chain), process));
+    let v = table_values::open_values(table_reader::open(
+        table,
+        table_values::chain_of(chain),
+        process,
+    ));
     *arc = v.arc;
     v.number
 }
@@ -65,7 +70,7 @@ pub extern "C" fn pickledune_open(table: &[u8], chain: u32, process: usize, arc:
 pub extern "C" fn pickledune_next(table: &[u8], chain: u32, arc: usize) -> usize
     ensures { λ r. ⌜ r ≡ nextArc (nextOf (now (table .entry)) (chainOf chain) arc) ⌝ }
 {
-    table_values::next_arc(reader::next(table, table_values::chain_of(chain), arc))
+    table_values::next_arc(table_reader::next(table, table_values::chain_of(chain), arc))
 }
 
 // Starts a check in the lent words. 1 to 9.
@@ -122,7 +127,8 @@ pub extern "C" fn pickledune_report(
     escape: &mut u32,
     returned: &mut u32,
 ) -> u32
-    ensures { λ r. ⌜ ReportTold (now (area .entry)) r (now (deliveries .exit)) (now (knot .exit)) (now (outside .exit)) (now (escape .exit)) (now (returned .exit)) ⌝ }
+    ensures { λ r. ⌜ ReportTold (now (area .entry)) r (now (deliveries .exit)) (now (knot .exit)) (now (outside .exit)) (now (escape .exit))
+        (now (returned .exit)) ⌝ }
 {
     let v = check_values::report_values(reading::report(area));
     *deliveries = v.deliveries;

@@ -5,7 +5,7 @@ use steps::Process;
 use steps::Reply;
 use steps::Stepped;
 ghost use mathlib.Core.Path.{_≡_};
-ghost use Rattle.steps.specs.Step.{steppedNumber, steppedProbes, steppedReply};
+ghost use Rattle.pickledune.specs.Values.{steppedNumber, steppedProbes, steppedReply};
 ghost use Rattle.pickledune.specs.Interface.{messageOf, probesNumber, replyTo, replyCount};
 ghost use Rattle.lending.specs.Lent.{lentRecord};
 
@@ -29,7 +29,7 @@ pub fn message_of(kind: u32, count: i32) -> Message
     }
 }
 
-pub fn probes_number(probes: Probes) -> u32
+fn probes_number(probes: Probes) -> u32
     ensures { λ r. ⌜ r ≡ probesNumber probes ⌝ }
 {
     match probes {
@@ -59,7 +59,8 @@ pub fn reply_count(reply: Reply) -> i32
 
 // The values of an answer, with the record that was lent.
 pub fn step_values(answer: Stepped, lent: Process) -> StepValues
-    ensures { λ r. ⌜ (r .number ≡ steppedNumber answer) × (r .process ≡ lentRecord lent answer) × (r .probes ≡ probesNumber (steppedProbes answer)) × (r .«reply_to» ≡ replyTo (steppedReply answer)) × (r .«reply_count» ≡ replyCount (steppedReply answer)) ⌝ }
+    ensures { λ r. ⌜ (r .number ≡ steppedNumber answer) × (r .process ≡ lentRecord lent answer) × (r .probes ≡ probesNumber (steppedProbes answer)) ×
+        (r .«reply_to» ≡ replyTo (steppedReply answer)) × (r .«reply_count» ≡ replyCount (steppedReply answer)) ⌝ }
 {
     match answer {
         Stepped::Taken {

@@ -1,12 +1,11 @@
 // The answers of reading, writing and following a table, as numbers: 01's number and values, zeros elsewhere.
+use table_writer::Writing;
 use tables::Chain;
 use tables::Next;
 use tables::Opened;
 use tables::Reading;
-use tables::Writing;
 ghost use mathlib.Core.Path.{_≡_};
-ghost use Rattle.tables.specs.Reading.{numberOf, nFound, mFound};
-ghost use Rattle.tables.specs.Writing.{writingNumber, writtenLength};
+ghost use Rattle.pickledune.specs.TableValues.{numberOf, nFound, mFound, writingNumber, writtenLength};
 ghost use Rattle.tables.specs.Walking.{openedNumber, openedArc, nextArc};
 ghost use Rattle.pickledune.specs.Interface.{chainOf};
 

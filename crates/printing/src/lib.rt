@@ -4,14 +4,16 @@
 // Each line is formed by `lines` and each part of the input found by `inputs`, both proved against 01's text; what is left here is the
 // order of the lines, of which no contract can speak. It stands on `runs`, `choosing` and below, `inputs`, `lines`, and the kit's `io`
 // and `libc`.
-use areas::testing;
-use areas::testing::Sizes;
+use area_tests::testing;
+use area_tests::testing::Sizes;
+use areas::places;
 use checks::Delivery;
 use checks::Report;
-use choosing::Lowest;
+use choosing::ChosenDelivery;
+use choosing::parts;
 use inputs::Begun;
-use moves::delivering;
-use moves::moving;
+use lenses::heading;
+use lenses::records;
 use runs::picking;
 use runs::reading;
 use steps::Message;
@@ -19,9 +21,8 @@ use steps::Process;
 ghost use mathlib.Core.Path.{_≡_};
 ghost use Rattle.areas.specs.Area.{runIn};
 ghost use Rattle.checks.specs.Calls.{deliveryNumber};
-ghost use Rattle.moves.specs.Ready.{Ready};
-ghost use Rattle.choosing.specs.Loads.{Loaded};
-ghost use Rattle.choosing.specs.Lows.{Lows, Nears};
+ghost use Rattle.lenses.specs.Ready.{Ready};
+ghost use Rattle.choosing.specs.Memory.{Remembers};
 ghost use Rattle.inputs.specs.Input.{tableEnd, picksIn};
 
 fn print(text: &[u8]) {
@@ -43,7 +44,7 @@ fn print_delivery(own: bool, from: u32, to: u32, message: Message) {
 
 fn print_refused_pick(from: u32, to: u32, number: u32) {
     let mut line = [0u8; 128];
-    let end = lines::refused_delivery_line(&mut line, false, from, to, number);
+    let end = lines::refused_delivery_line(&mut line, from, to, number);
     print(&line[0..end]);
 }
 
@@ -58,7 +59,14 @@ fn number_of(answer: Delivery) -> u32
 }
 
 // One pick: "A refused pick prints its number and the program goes on."
-fn print_pick(area: &mut [i32], square: &[u16; 16641], n: usize, m: usize, from: u32, to: u32)
+fn print_pick(
+    area: &mut [i32],
+    square: &[u16; places::SQUARE_SIZE],
+    n: usize,
+    m: usize,
+    from: u32,
+    to: u32,
+)
     requires { ⌜ Ready (now area) (now square) n m ⌝ }
     ensures { λ _. ⌜ Ready (now (area .exit)) (now (square .entry)) n m ⌝ }
 {
@@ -76,7 +84,7 @@ fn print_picks(
     end: usize,
     picks: usize,
     area: &mut [i32],
-    square: &[u16; 16641],
+    square: &[u16; places::SQUARE_SIZE],
     n: usize,
     m: usize,
 )
@@ -94,28 +102,22 @@ fn print_picks(
 // One delivery in the fixed order; gives whether it was made.
 fn print_own(
     area: &mut [i32],
-    square: &[u16; 16641],
+    square: &[u16; places::SQUARE_SIZE],
     n: usize,
     m: usize,
-    loads: &mut [usize; 129],
-    lows: &mut [usize; 129],
-    nears: &[usize; 129],
+    memory: &mut [usize; parts::MEMORY_SIZE],
 ) -> bool
     requires { ⌜ Ready (now area) (now square) n m ⌝ }
-    requires { ⌜ Loaded (runIn (now area)) (now loads) ⌝ }
-    requires { ⌜ Lows (runIn (now area)) (now lows) ⌝ }
-    requires { ⌜ Nears (runIn (now area) .waits) (now nears) ⌝ }
+    requires { ⌜ Remembers (runIn (now area)) (now memory) ⌝ }
     ensures { λ _. ⌜ Ready (now (area .exit)) (now (square .entry)) n m ⌝ }
-    ensures { λ _. ⌜ Loaded (runIn (now (area .exit))) (now (loads .exit)) ⌝ }
-    ensures { λ _. ⌜ Lows (runIn (now (area .exit))) (now (lows .exit)) ⌝ }
-    ensures { λ _. ⌜ Nears (runIn (now (area .exit)) .waits) (now (nears .entry)) ⌝ }
+    ensures { λ _. ⌜ Remembers (runIn (now (area .exit))) (now (memory .exit)) ⌝ }
 {
-    match choosing::deliver_lowest(area, square, n, m, loads, lows, nears) {
-        Lowest::Delivered { from, to, message } => {
+    match choosing::deliver_next(area, square, n, m, memory) {
+        ChosenDelivery::Delivered { from, to, message } => {
             print_delivery(true, from as u32, to as u32, message);
             true
         }
-        Lowest::Refused(number) => {
+        ChosenDelivery::Refused(number) => {
             print_refused(number);
             false
         }
@@ -125,25 +127,21 @@ fn print_own(
 // "After the picks it runs on to the end": a run counts 2,048 deliveries at most.
 fn run_out(
     area: &mut [i32],
-    square: &[u16; 16641],
+    square: &[u16; places::SQUARE_SIZE],
     n: usize,
     m: usize,
-    loads: &mut [usize; 129],
-    lows: &mut [usize; 129],
-    nears: &[usize; 129],
+    memory: &mut [usize; parts::MEMORY_SIZE],
 )
     requires { ⌜ Ready (now area) (now square) n m ⌝ }
-    requires { ⌜ Loaded (runIn (now area)) (now loads) ⌝ }
-    requires { ⌜ Lows (runIn (now area)) (now lows) ⌝ }
-    requires { ⌜ Nears (runIn (now area) .waits) (now nears) ⌝ }
+    requires { ⌜ Remembers (runIn (now area)) (now memory) ⌝ }
     ensures { λ _. ⌜ Ready (now (area .exit)) (now (square .entry)) n m ⌝ }
 {
     let mut turns: usize = 0;
     while turns < 2048 {
-        if delivering::is_over(area, square, n, m) {
+        if heading::is_over(area, square, n, m) {
             return;
         }
-        if !print_own(area, square, n, m, loads, lows, nears) {
+        if !print_own(area, square, n, m, memory) {
             return;
         }
         turns += 1;
@@ -157,12 +155,12 @@ fn print_process(p: u32, process: Process) {
 }
 
 // "process lines rise"
-fn print_processes(area: &[i32], square: &[u16; 16641], n: usize, m: usize)
+fn print_processes(area: &[i32], square: &[u16; places::SQUARE_SIZE], n: usize, m: usize)
     requires { ⌜ Ready (now area) (now square) n m ⌝ }
 {
     let end = n + 1;
     for p in 1..end {
-        let process = moving::process(area, square, n, m, p);
+        let process = records::process(area, square, n, m, p);
         print_process(p as u32, process);
     }
 }
@@ -185,15 +183,12 @@ fn print_report(area: &[i32]) {
 }
 
 // All that follows the picks.
-fn finish(area: &mut [i32], square: &[u16; 16641], n: usize, m: usize)
+fn finish(area: &mut [i32], square: &[u16; places::SQUARE_SIZE], n: usize, m: usize)
     requires { ⌜ Ready (now area) (now square) n m ⌝ }
 {
-    let mut loads = [0usize; 129];
-    choosing::fill_loads(area, square, n, m, &mut loads);
-    let mut nears = [129usize; 129];
-    choosing::fill_nears(area, square, n, m, &mut nears);
-    let mut lows = [1usize; 129];
-    run_out(area, square, n, m, &mut loads, &mut lows, &nears);
+    let mut memory = [0usize; parts::MEMORY_SIZE];
+    choosing::remember(area, square, n, m, &mut memory);
+    run_out(area, square, n, m, &mut memory);
     print_processes(area, square, n, m);
     print_report(area);
 }
@@ -203,7 +198,7 @@ fn print_begun(input: &[u8], end: usize, picks: usize, area: &mut [i32])
     requires { ⌜ end ≡ tableEnd (now input) ⌝ }
     requires { ⌜ picks ≡ picksIn (now input) ⌝ }
 {
-    let mut square = [0u16; 16641];
+    let mut square = [0u16; places::SQUARE_SIZE];
     let Sizes::Right { n, m } = testing::test(area, &mut square) else {
         print_refused(21);
         return;

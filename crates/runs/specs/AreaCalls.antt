@@ -1,57 +1,33 @@
--- The five calls on lent words. Each reads the run that the area holds, does what `checks` defines, and stores the run again; an area that
--- is not well formed gets 21 and keeps every word.
---   startNumber bs s w     == "start 1 to 9" in order
---   startAnswer, startArea == start's answer, and the area that it leaves
+-- The four calls on the words that a start left, and any list of them. Each call reads the run that the area holds, does what `checks`
+-- defines, and stores the run again; an area that is not well formed gets 21 and keeps every word.
 --   pickAnswer w a b, pickArea w a b     == a pick
 --   runOnAnswer k w, runOnArea k w       == running on
 --   reportAnswer w e                     == the report, with e named as escape
 --   Reported w r                         == r is the report for some escape that may be named: the one thing that 01 leaves open
 --   readAnswer w p                       == reading one process's record
+--   areaPassedBy c w, areaPassed cs w    == one call, and a list: "each call gets the area as the last one left it"
+--   asRun p                              == what a list left, with the run in the place of the area that holds it
+--   AreaPromise w s old n p              == what is said of every list: the area is well formed, its run keeps the promise of crate checks,
+--                                           and the words from n on are those of old
 -- Assumes nothing.
-use Prim.Native.Nat.{ℕ, zero, suc}
-use mathlib.Core.Bool.{Bool, true, false, not, _&&_, _||_}
-use mathlib.Core.List.{List}
+use Prim.Native.Nat.{ℕ}
+use mathlib.Core.List.{List, [], _∷_}
 use mathlib.Core.Path.{_≡_}
-use lib.Dec.{eqb, ltb}
-use lib.ListN.{length}
+use mathlib.Core.Bool.{true}
 use lib.IntN.{ℤ}
+use lib.ListN.{drop}
 use Rattle.base.specs.Choice.{choose}
-use Rattle.tables.specs.Table.{Fields, fieldOf, nOf, mOf}
-use Rattle.tables.specs.Reading.{readNumber}
-use Rattle.tables.specs.Waits.{waitsOf}
+use Rattle.tables.specs.Waits.{Waits}
+use Rattle.machine.specs.declared.Ran.{Ran}
+use Rattle.machine.specs.Calls.{ranNumber, ranMade}
+use Rattle.machine.specs.Lists.{Call, picking, runningOn, reporting, reading, Passed, inTurn}
 use Rattle.checks.specs.declared.Delivery.{Delivery}
-use Rattle.checks.specs.declared.Ran.{Ran}
 use Rattle.checks.specs.declared.Report.{Report}
 use Rattle.checks.specs.declared.Reading.{Reading}
-use Rattle.checks.specs.Run.{Run, startRun}
-use Rattle.checks.specs.Calls.{pick, runOn, Escape, report, reportNumber, reportEscape, readRecord}
-use Rattle.runs.specs.declared.Started.{Started}
-use Rattle.runs.specs.declared.Started.the-variants.{Ready, Refused}
-use Rattle.areas.specs.Area.{areaLength, stored, keeping, runIn, areaRight}
-
--- "Reading a table checks 1 to 7 in order, start 1 to 9."
-unfoldable pub startNumber : List ℕ → ℕ → List ℤ → ℕ
-startNumber bs s w =
-    choose (not (eqb (readNumber bs) 0)) (readNumber bs)
-    (choose (eqb s 0 || ltb (nOf (fieldOf bs)) s) 8
-    (choose (ltb (length w) (areaLength (nOf (fieldOf bs)) (mOf (fieldOf bs)))) 9
-    0))
-
--- 01's number for each case of the answer
-abbrev pub startedNumber : Started → ℕ
-startedNumber Ready = 0
-startedNumber (Refused n) = n
-
-abbrev pub startedBy : ℕ → Started
-startedBy zero = Ready
-startedBy (suc n) = Refused (suc n)
-
-unfoldable pub startAnswer : List ℕ → ℕ → List ℤ → Started
-startAnswer bs s w = startedBy (startNumber bs s w)
-
--- the area that an accepted start leaves
-unfoldable pub startArea : List ℕ → ℕ → List ℤ → List ℤ
-startArea bs s w = choose (eqb (startNumber bs s w) 0) (stored (fieldOf bs) (startRun (waitsOf (fieldOf bs)) s) w) w
+use Rattle.checks.specs.Calls.{pick, runOn, Escape, report, readRecord, deliveryNumber, deliveryMade, reportNumber, reportEscape, readingNumber}
+use Rattle.checks.specs.Run.{Run}
+use Rattle.checks.specs.Lists.{Promise}
+use Rattle.areas.specs.Area.{keeping, runIn, areaRight}
 
 unfoldable pub pickAnswer : List ℤ → ℕ → ℕ → Delivery
 pickAnswer w a b = choose (areaRight w) (pick (runIn w) a b .answer) (Delivery.Refused 21)
@@ -75,3 +51,28 @@ pub record Reported (w : List ℤ) (r : Report) : Type 0 where
 
 unfoldable pub readAnswer : List ℤ → ℕ → Reading
 readAnswer w p = choose (areaRight w) (readRecord (runIn w) p) (Reading.Refused 21)
+
+-- ---- lists of calls (01, "The end of a check")
+
+-- one call; a report and a reading change no word
+abbrev pub areaPassedBy : Call → List ℤ → Passed (List ℤ)
+areaPassedBy (picking a b) w = record { left = pickArea w a b; made = deliveryMade (pickAnswer w a b); numbers = deliveryNumber (pickAnswer w a b) ∷ [] }
+areaPassedBy (runningOn k) w = record { left = runOnArea k w; made = ranMade (runOnAnswer k w); numbers = ranNumber (runOnAnswer k w) ∷ [] }
+areaPassedBy reporting w = record { left = w; made = 0; numbers = reportNumber (reportAnswer w 0) ∷ [] }
+areaPassedBy (reading p) w = record { left = w; made = 0; numbers = readingNumber (readAnswer w p) ∷ [] }
+
+-- "each call gets the area as the last one left it, and nobody else writes it meanwhile"
+abbrev pub areaPassed : List Call → List ℤ → Passed (List ℤ)
+areaPassed = inTurn areaPassedBy
+
+abbrev pub asRun : Passed (List ℤ) → Passed Run
+asRun p = record { left = runIn (p .left); made = p .made; numbers = p .numbers }
+
+-- what is said of every list of calls on an area of n words that a start at s left in the words old
+pub record AreaPromise (w : Waits) (s : ℕ) (old : List ℤ) (n : ℕ) (p : Passed (List ℤ)) : Type 0 where
+  -- the area is well formed: no call of a list gets 21
+  pub right : areaRight (p .left) ≡ true
+  -- the promise of crate checks, of the run that the area holds
+  pub promise : Promise w s (asRun p)
+  -- "Surplus words are not touched."
+  pub surplus : drop n (p .left) ≡ drop n old

@@ -6,33 +6,31 @@
 --   report-26, report-over                    == a report before the end, and at the end
 --   read-25, read-found                       == a record
 -- Assumes nothing.
-use Prim.Native.Nat.{ℕ, zero, suc, _≤_}
-use mathlib.Core.Bool.{Bool, true, false, not, _&&_, _||_}
+use Prim.Native.Nat.{ℕ, zero, suc}
+use mathlib.Core.Bool.{true, false}
 use mathlib.Core.List.{List}
-use mathlib.Core.Path.{_≡_, refl, sym, ap, _∙_}
-use lib.Dec.{eqb, ltb}
+use mathlib.Core.Path.{_≡_, refl, sym}
 use borrow.Author.Tests.{eqb-false}
 use lib.IntN.{ℤ, pos, negsuc}
-use Rattle.base.specs.Choice.{choose}
+use Rattle.machine.specs.Calls as MachineCalls
+use Rattle.tables.specs.Table.{isProcess}
 use Rattle.tables.specs.Waits.{neighbours}
 use Rattle.checks.specs.declared.Delivery.{Delivery}
-use Rattle.checks.specs.declared.Ran.{Ran}
+use Rattle.machine.specs.declared.Ran.{Ran}
 use Rattle.checks.specs.declared.Report.{Report}
 use Rattle.checks.specs.declared.Reading.{Reading}
 use Rattle.checks.specs.declared.Verdict.the-variants.{Knot, Free}
 use Rattle.steps.specs.declared.Process.{Process}
 use Rattle.checks.specs.declared.Reading.the-variants.{Found}
-use Rattle.checks.specs.Run.{Run, over, wellFormed}
-use Rattle.checks.specs.Calls.{Picked, refused, deliver, pick, runFrom, runOn, Escape, verdictOf, markOf, reported, report, readRecord}
-use Rattle.areas.specs.Area.{stored, fieldsIn, runIn, areaRight, keeping}
+use Rattle.checks.specs.Run.{over, wellFormed}
+use Rattle.checks.specs.Calls.{deliver, pick, runFrom, runOn, Escape, verdictOf, reported, report, readRecord}
+use Rattle.areas.specs.Area.{fieldsIn, runIn, areaRight, keeping}
 use Rattle.areas.specs.AreaLaws.{stored-same}
-use Rattle.moves.specs.Fit.{fit-pick}
-use Rattle.moves.specs.Ready.{Ready, right-fit, ready-kept}
+use Rattle.delivery.specs.StorableLaws.{storable-pick}
+use Rattle.lenses.specs.Ready.{Ready}
+use Rattle.lenses.specs.ReadyLaws.{right-storable, ready-kept}
 use Rattle.runs.specs.AreaCalls.{pickAnswer, pickArea, runOnAnswer, runOnArea, reportAnswer, Reported, readAnswer}
-
--- the report of a run by its start's record
-abbrev pub toldOf : Process → ℕ → ℕ → Report
-toldOf x d e = Report.Over d (verdictOf (x .cs)) (x .cs) e (markOf (verdictOf (x .cs)))
+use Rattle.runs.specs.Told.{toldOf}
 
 pub verdict-knot : (z : ℤ) → z ≡ pos 0 → verdictOf z ≡ Knot
 verdict-knot z e = rw e
@@ -53,7 +51,7 @@ module _ (w : List ℤ) (e : areaRight w ≡ false) where
   unfolding runOnAnswer runOnArea
   runOn-21 k = (rw e, rw e)
 
-  pub report-21 : (n : ℕ) → Report.Refused 21 ≡ reportAnswer w n
+  report-21 : (n : ℕ) → Report.Refused 21 ≡ reportAnswer w n
   unfolding reportAnswer
   report-21 n = rw e
 
@@ -65,44 +63,45 @@ module _ (w : List ℤ) (e : areaRight w ≡ false) where
 
 module _ (w : List ℤ) (e : areaRight w ≡ true) where
   formed : wellFormed (runIn w) ≡ true
-  formed = right-fit w e .formed
+  formed = right-storable w e .formed
 
   pub same : w ≡ keeping w (runIn w)
   same = sym (stored-same w e)
 
   pub pick-25 : (a b : ℕ) → neighbours (runIn w .waits) a b ≡ false → (Delivery.Refused 25 ≡ pickAnswer w a b) × (w ≡ pickArea w a b)
-  unfolding pickAnswer pickArea pick
+  unfolding pickAnswer pickArea MachineCalls.pick
   pick-25 a b n = (rw (e, formed, n), rw (e, formed, n) same)
 
   pub pick-23 : (a b : ℕ) → neighbours (runIn w .waits) a b ≡ true → over (runIn w) ≡ true → (Delivery.Refused 23 ≡ pickAnswer w a b) × (w ≡ pickArea w a b)
-  unfolding pickAnswer pickArea pick
+  unfolding pickAnswer pickArea MachineCalls.pick
   pick-23 a b n o = (rw (e, formed, n, o), rw (e, formed, n, o) same)
 
-  pub pick-on : (a b : ℕ) → neighbours (runIn w .waits) a b ≡ true → over (runIn w) ≡ false → (deliver (runIn w) a b (runIn w .link a b) .answer ≡ pickAnswer w a b) × (keeping w (deliver (runIn w) a b (runIn w .link a b) .run) ≡ pickArea w a b)
-  unfolding pickAnswer pickArea pick
+  pub pick-on : (a b : ℕ) → neighbours (runIn w .waits) a b ≡ true → over (runIn w) ≡ false →
+      (deliver (runIn w) a b (runIn w .link a b) .answer ≡ pickAnswer w a b) × (keeping w (deliver (runIn w) a b (runIn w .link a b) .run) ≡ pickArea w a b)
+  unfolding pickAnswer pickArea MachineCalls.pick
   pick-on a b n o = (rw (e, formed, n, o), rw (e, formed, n, o))
 
   pub pick-ready : {sq : List ℕ} {n m : ℕ} → Ready w sq n m → (a b : ℕ) → Ready (pickArea w a b) sq n m
   unfolding pickArea
-  pick-ready {sq} {n} {m} y a b = rw e (ready-kept w e (pick (runIn w) a b .run) (fit-pick (fieldsIn w) (runIn w) (right-fit w e) a b) sq n m y)
+  pick-ready {sq} {n} {m} y a b = rw e (ready-kept w e (pick (runIn w) a b .run) (storable-pick (fieldsIn w) (runIn w) (right-storable w e) a b) sq n m y)
 
   pub runOn-on : (k : ℕ) → (runFrom k 0 (runIn w) .answer ≡ runOnAnswer k w) × (keeping w (runFrom k 0 (runIn w) .run) ≡ runOnArea k w)
-  unfolding runOnAnswer runOnArea runOn
+  unfolding runOnAnswer runOnArea MachineCalls.runOn
   runOn-on k = (rw (e, formed), rw (e, formed))
 
-  pub report-26 : (n : ℕ) → over (runIn w) ≡ false → Report.Refused 26 ≡ reportAnswer w n
+  report-26 : (n : ℕ) → over (runIn w) ≡ false → Report.Refused 26 ≡ reportAnswer w n
   unfolding reportAnswer report
   report-26 n o = rw (e, formed, o)
 
-  pub report-over : (n : ℕ) → over (runIn w) ≡ true → reported (runIn w) n ≡ reportAnswer w n
+  report-over : (n : ℕ) → over (runIn w) ≡ true → reported (runIn w) n ≡ reportAnswer w n
   unfolding reportAnswer report
   report-over n o = rw (e, formed, o)
 
-  pub read-25 : (p : ℕ) → (eqb p 0 || ltb (runIn w .waits .n) p) ≡ true → Reading.Refused 25 ≡ readAnswer w p
+  pub read-25 : (p : ℕ) → isProcess (runIn w .waits .n) p ≡ false → Reading.Refused 25 ≡ readAnswer w p
   unfolding readAnswer readRecord
   read-25 p o = rw (e, formed, o)
 
-  pub read-found : (p : ℕ) → (eqb p 0 || ltb (runIn w .waits .n) p) ≡ false → Found (runIn w .process p) ≡ readAnswer w p
+  pub read-found : (p : ℕ) → isProcess (runIn w .waits .n) p ≡ true → Found (runIn w .process p) ≡ readAnswer w p
   unfolding readAnswer readRecord
   read-found p o = rw (e, formed, o)
 
@@ -110,7 +109,8 @@ module _ (w : List ℤ) (e : areaRight w ≡ true) where
   pub reported-26 : over (runIn w) ≡ false → Reported w (Report.Refused 26)
   reported-26 o = record { answer = report-26 0 o; names = λ z. absurd (eqb-false 26 0 refl z) }
 
-  pub reported-over : over (runIn w) ≡ true → (x : Process) (d n : ℕ) → x ≡ runIn w .process (runIn w .start) → d ≡ runIn w .count → Escape (runIn w) n → Reported w (toldOf x d n)
+  pub reported-over : over (runIn w) ≡ true → (x : Process) (d n : ℕ) → x ≡ runIn w .process (runIn w .start) → d ≡ runIn w .count → Escape (runIn w) n →
+      Reported w (toldOf x d n)
   unfolding reported
   reported-over o x d n p q s = record { answer = rw (p, q) (report-over n o); names = λ z. s }
 

@@ -1,17 +1,19 @@
 // A pick: the delivery of the oldest message on one link.
+use area_tests::testing;
+use area_tests::testing::Sizes;
+use areas::places;
 use areas::squares;
-use areas::testing;
-use areas::testing::Sizes;
 use checks::Delivery;
-use moves::delivering;
+use delivery::delivering;
+use lenses::heading;
 ghost use mathlib.Core.Path.{_≡_};
-ghost use Rattle.moves.specs.Ready.{Ready};
+ghost use Rattle.lenses.specs.Ready.{Ready};
 ghost use Rattle.runs.specs.AreaCalls.{pickAnswer, pickArea};
 
 // A pick in a tested area, for whoever makes more than one: 25, 23, 24, 22. The area stays ready (pick-ready in CallLaws).
 pub fn pick_in(
     area: &mut [i32],
-    square: &[u16; 16641],
+    square: &[u16; places::SQUARE_SIZE],
     n: usize,
     m: usize,
     from: usize,
@@ -30,7 +32,7 @@ pub fn pick_in(
     if !squares::joined(square, from, to) {
         return Delivery::Refused(25);
     }
-    if delivering::is_over(area, square, n, m) {
+    if heading::is_over(area, square, n, m) {
         return Delivery::Refused(23);
     }
     delivering::deliver(area, square, n, m, from, to)
@@ -41,7 +43,7 @@ pub fn pick(area: &mut [i32], from: usize, to: usize) -> Delivery
     ensures { λ r. ⌜ r ≡ pickAnswer (now (area .entry)) from to ⌝ }
     ensures { λ _. ⌜ now (area .exit) ≡ pickArea (now (area .entry)) from to ⌝ }
 {
-    let mut square = [0u16; 16641];
+    let mut square = [0u16; places::SQUARE_SIZE];
     let Sizes::Right { n, m } = testing::test(area, &mut square) else {
         return Delivery::Refused(21);
     };

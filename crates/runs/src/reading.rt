@@ -1,30 +1,30 @@
-// The calls on an area that a start left: pick, running on, the report, reading a record. Each tests the area first; one that is not well
-// formed gets 21 and keeps every word.
-use areas::testing;
-use areas::testing::Sizes;
+// The report and reading a record. Each tests the area first; one that is not well formed gets 21. Neither changes a word.
+use area_tests::testing;
+use area_tests::testing::Sizes;
+use areas::places;
 use checks::Mark;
 use checks::Reading;
 use checks::Report;
 use checks::Verdict;
-use moves::delivering;
-use moves::moving;
+use lenses::heading;
+use lenses::records;
 use steps::Process;
 ghost use mathlib.Core.Path.{_≡_};
-ghost use Prim.Native.Nat.{ℕ, _+_, _≤_};
+ghost use Prim.Native.Nat.{_+_};
 ghost use Rattle.areas.specs.Area.{runIn};
 ghost use Rattle.checks.specs.Calls.{Escape};
-ghost use Rattle.moves.specs.Ready.{Ready};
+ghost use Rattle.lenses.specs.Ready.{Ready};
 ghost use Rattle.runs.specs.AreaCalls.{Reported, readAnswer};
-ghost use Rattle.runs.specs.CallLaws.{toldOf};
+ghost use Rattle.runs.specs.Told.{toldOf};
 
 // The lowest process with subordinate 1, or 0 if there is none.
-fn escape_of(area: &[i32], square: &[u16; 16641], n: usize, m: usize) -> u32
+fn escape_of(area: &[i32], square: &[u16; places::SQUARE_SIZE], n: usize, m: usize) -> u32
     requires { ⌜ Ready (now area) (now square) n m ⌝ }
     ensures { λ r. ⌜ Escape (runIn (now (area .entry))) r ⌝ }
 {
     let end = n + 1;
     for p in 1..end {
-        let x = moving::process(area, square, n, m, p);
+        let x = records::process(area, square, n, m, p);
         if x.subordinate == 1 {
             return p as u32;
         }
@@ -59,17 +59,17 @@ fn told(start: Process, deliveries: u32, escape: u32) -> Report
 pub fn report(area: &[i32]) -> Report
     ensures { λ r. ⌜ Reported (now (area .entry)) r ⌝ }
 {
-    let mut square = [0u16; 16641];
+    let mut square = [0u16; places::SQUARE_SIZE];
     let Sizes::Right { n, m } = testing::test(area, &mut square) else {
         return Report::Refused(21);
     };
-    if !delivering::is_over(area, &square, n, m) {
+    if !heading::is_over(area, &square, n, m) {
         return Report::Refused(26);
     }
     let escape = escape_of(area, &square, n, m);
-    let s = delivering::start_of(area, &square, n, m);
-    let x = moving::process(area, &square, n, m, s);
-    let deliveries = delivering::count_of(area, &square, n, m);
+    let s = heading::start_of(area, &square, n, m);
+    let x = records::process(area, &square, n, m, s);
+    let deliveries = heading::count_of(area, &square, n, m);
     told(x, deliveries, escape)
 }
 
@@ -77,7 +77,7 @@ pub fn report(area: &[i32]) -> Report
 pub fn read_record(area: &[i32], p: usize) -> Reading
     ensures { λ r. ⌜ r ≡ readAnswer (now (area .entry)) p ⌝ }
 {
-    let mut square = [0u16; 16641];
+    let mut square = [0u16; places::SQUARE_SIZE];
     let Sizes::Right { n, m } = testing::test(area, &mut square) else {
         return Reading::Refused(21);
     };
@@ -87,5 +87,5 @@ pub fn read_record(area: &[i32], p: usize) -> Reading
     if p > n {
         return Reading::Refused(25);
     }
-    Reading::Found(moving::process(area, &square, n, m, p))
+    Reading::Found(records::process(area, &square, n, m, p))
 }

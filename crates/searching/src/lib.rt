@@ -2,7 +2,13 @@
 // reachability, and the numbers of "The end of a check" (01) counted from them. It stands on no other crate and refuses nothing: past the
 // bytes, or for numbers that are no process, it finds nothing. It promises only that it is safe and ends.
 //
-// A square has 129 rows of 129 cells. Cell 129 * p + q says whether p waits for q.
+// What it finds stands in 131 rows of 129 cells: in row p for whom p waits, in row 129 who is reachable from the start, in row 130 who
+// reaches it.
+
+// The row of those who are reachable from the start.
+pub const AFTER: usize = 129;
+// The row of those who reach it.
+pub const BEFORE: usize = 130;
 
 fn joined(low: u8, high: u8) -> usize {
     low as usize + 256 * (high as usize)
@@ -30,116 +36,110 @@ pub fn waits(table: &[u8]) -> usize {
 }
 
 // Where the record of arc k + 1 begins: after N, M and the N process records.
-fn record_at(n: usize, k: usize) -> usize {
-    4 + 4 * (n % 65536) + 8 * (k % 65536)
+fn record_at(table: &[u8], k: usize) -> usize {
+    4 + 4 * (processes(table) % 65536) + 8 * (k % 65536)
 }
 
 // Who waits by arc k + 1.
 pub fn waiting(table: &[u8], k: usize) -> usize {
-    half_word(table, record_at(processes(table), k))
+    half_word(table, record_at(table, k))
 }
 
 // For whom.
 pub fn awaited(table: &[u8], k: usize) -> usize {
-    let from = record_at(processes(table), k);
-    if from < table.len() {
-        half_word(table, from + 2)
-    } else {
-        0
-    }
+    half_word(table, record_at(table, k) % 4294967296 + 2)
 }
 
-// Marks the wait in the square.
-fn mark_wait(p: usize, q: usize, square: &mut [bool; 16641]) {
+fn cell(found: &[bool; 16899], row: usize, p: usize) -> bool {
+    if row > 130 {
+        return false;
+    }
+    if p > 128 {
+        return false;
+    }
+    found[129 * row + p]
+}
+
+fn mark(found: &mut [bool; 16899], row: usize, p: usize) {
+    if row > 130 {
+        return;
+    }
     if p > 128 {
         return;
     }
-    if q > 128 {
-        return;
-    }
-    square[129 * p + q] = true;
+    found[129 * row + p] = true;
 }
 
-// Marks every wait of the table in the square.
-pub fn mark_waits(table: &[u8], square: &mut [bool; 16641]) {
+// Marks every wait of the table.
+pub fn mark_waits(table: &[u8], found: &mut [bool; 16899]) {
     let m = waits(table);
     for k in 0..m {
-        mark_wait(waiting(table, k), awaited(table, k), square);
+        mark(found, waiting(table, k), awaited(table, k));
     }
 }
 
 // Whether p waits for q.
-pub fn is_wait(square: &[bool; 16641], p: usize, q: usize) -> bool {
-    if p > 128 {
-        return false;
-    }
-    if q > 128 {
-        return false;
-    }
-    square[129 * p + q]
+pub fn is_wait(found: &[bool; 16899], p: usize, q: usize) -> bool {
+    p < 129 && cell(found, p, q)
 }
 
 // "Two processes are neighbours if an arc joins them either way"
-pub fn is_link(square: &[bool; 16641], p: usize, q: usize) -> bool {
-    is_wait(square, p, q) || is_wait(square, q, p)
+pub fn is_link(found: &[bool; 16899], p: usize, q: usize) -> bool {
+    is_wait(found, p, q) || is_wait(found, q, p)
 }
 
-// If p is met and q is not yet, q is met now; gives whether that is so.
-fn pass(p: usize, q: usize, met: &mut [bool; 129]) -> bool {
-    if p > 128 {
-        return false;
+// If p stands in a row and q does not yet, q is put there; gives whether that is so.
+fn pass(found: &mut [bool; 16899], row: usize, p: usize, q: usize) -> bool {
+    if cell(found, row, p) && !cell(found, row, q) {
+        mark(found, row, q);
+        return true;
     }
-    if q > 128 {
-        return false;
-    }
-    if !met[p] {
-        return false;
-    }
-    if met[q] {
-        return false;
-    }
-    met[q] = true;
-    true
+    false
 }
 
-// Passes along the wait of a cell, or against it.
-fn follow(cell: usize, back: bool, met: &mut [bool; 129]) -> bool {
-    if back {
-        pass(cell % 129, cell / 129, met)
-    } else {
-        pass(cell / 129, cell % 129, met)
+// Passes along the wait of a cell, for those who reach the start against it.
+fn follow(found: &mut [bool; 16899], row: usize, cell: usize) -> bool {
+    if row == BEFORE {
+        return pass(found, row, cell % 129, cell / 129);
     }
+    pass(found, row, cell / 129, cell % 129)
 }
 
 // Passes along every wait once; gives whether anyone is newly met.
-fn sweep(square: &[bool; 16641], back: bool, met: &mut [bool; 129]) -> bool {
+fn sweep(found: &mut [bool; 16899], row: usize) -> bool {
     let mut grew = false;
     for cell in 0..16641 {
-        if square[cell] && follow(cell, back, met) {
+        if found[cell] && follow(found, row, cell) {
             grew = true;
         }
     }
     grew
 }
 
-// Meets everyone that s reaches; or, against the waits, everyone that reaches s. Each sweep but the last meets someone.
-pub fn spread(square: &[bool; 16641], s: usize, back: bool, met: &mut [bool; 129]) {
-    if s > 128 {
-        return;
-    }
-    met[s] = true;
+// Meets everyone that s reaches, or everyone that reaches s. Each sweep but the last meets someone.
+pub fn spread(found: &mut [bool; 16899], row: usize, s: usize) {
+    mark(found, row, s);
     for _ in 0..129usize {
-        if !sweep(square, back, met) {
+        if !sweep(found, row) {
             return;
         }
     }
 }
 
-fn is_met(met: &[bool; 129], p: usize) -> bool {
-    if p > 128 {
-        return false;
+// 1 if p stands in a row, else 0.
+pub fn flag(found: &[bool; 16899], row: usize, p: usize) -> u32 {
+    if cell(found, row, p) {
+        return 1;
     }
-    met[p]
+    0
+}
+
+// 1 if p is reachable from the start and does not reach it, else 0.
+pub fn outsider(found: &[bool; 16899], p: usize) -> u32 {
+    if cell(found, BEFORE, p) {
+        return 0;
+    }
+    flag(found, AFTER, p)
 }
 
 // One more if the test holds. No count here comes near the bound.
@@ -153,34 +153,29 @@ fn counted(count: u32, test: bool) -> u32 {
     count
 }
 
-// The number of waits by someone met.
-pub fn waits_by(square: &[bool; 16641], met: &[bool; 129]) -> u32 {
+// The number of waits by those who are reachable.
+pub fn waits_by(found: &[bool; 16899]) -> u32 {
     let mut count = 0;
-    for cell in 0..16641 {
-        count = counted(count, square[cell] && is_met(met, cell / 129));
+    for k in 0..16641 {
+        count = counted(count, found[k] && cell(found, AFTER, k / 129));
     }
     count
 }
 
-// The number of waits for someone met.
-pub fn waits_for(square: &[bool; 16641], met: &[bool; 129]) -> u32 {
+// The number of waits for those who reach the start.
+pub fn waits_for(found: &[bool; 16899]) -> u32 {
     let mut count = 0;
-    for cell in 0..16641 {
-        count = counted(count, square[cell] && is_met(met, cell % 129));
+    for k in 0..16641 {
+        count = counted(count, found[k] && cell(found, BEFORE, k % 129));
     }
     count
 }
 
-// The first holds of p, and not the second.
-pub fn is_outside(after: &[bool; 129], before: &[bool; 129], p: usize) -> bool {
-    is_met(after, p) && !is_met(before, p)
-}
-
-// How many are of the first kind and not of the second.
-pub fn outside(after: &[bool; 129], before: &[bool; 129]) -> u32 {
+// How many are reachable and do not reach the start.
+pub fn outsiders(found: &[bool; 16899]) -> u32 {
     let mut count = 0;
     for p in 0..129 {
-        count = counted(count, is_outside(after, before, p));
+        count = counted(count, outsider(found, p) == 1);
     }
     count
 }

@@ -19,7 +19,8 @@ use mir.Syntax.{w32}
 use mir.Val.{toZ, ofZ}
 use mir.Facts.{toZ-ofZ}
 use borrow.Author.Tests.{leb-true, le-leb, lt-leb, ltb-true, ltb-false}
-use Rattle.base.specs.Choice.{Tested, passed, failed, tested, choose}
+use Rattle.base.specs.ChoiceLaws.{Tested, passed, failed, tested}
+use Rattle.base.specs.Choice.{choose}
 use Rattle.steps.specs.declared.Process.{Process}
 use Rattle.steps.specs.Step.{small, newSubordinate}
 

@@ -15,12 +15,14 @@ use lib.Signed.{mag}
 use mir.Syntax.{w32}
 use mir.Val.{toZ, ofZ}
 use borrow.Author.Tests.{leb-true}
-use Rattle.base.specs.Choice.{choose, Same, same, apart, same?, and-left, and-right}
+use Rattle.base.specs.Choice.{choose}
+use Rattle.base.specs.ChoiceLaws.{Same, same, apart, same?, and-left, and-right}
 use Rattle.steps.specs.declared.Message.{Message}
 use Rattle.steps.specs.declared.Message.the-variants.{Ack}
 use Rattle.steps.specs.declared.Process.{Process}
 use Rattle.steps.specs.declared.Stepped.{Stepped}
-use Rattle.steps.specs.Step.{Turn, withSubordinate, withCs, small, inRange, countSmall, lentInRange, numSuffices, fitting, answer, newSubordinate, gained, rule1, setSucceeding, setPreceding, rule3}
+use Rattle.steps.specs.Step.{Turn, withSubordinate, withCs, small, inRange, countSmall, lentInRange, numSuffices, fitting, answer}
+use Rattle.steps.specs.Step.{newSubordinate, gained, rule1, setSucceeding, setPreceding, rule3}
 use Rattle.steps.specs.Within.{Addable, settled}
 use Rattle.steps.proofs.Counts.{signed-back}
 
@@ -88,17 +90,20 @@ setPreceding-addable i t h = at (same? (t .process .preceding) 0)
     at (apart _ f) = rw f h
 
 -- what an acknowledgement asks of the record and of its count, which is read back
-pub acknowledgeable : (m : Message) (c : ℤ) (x : Process) → m ≡ Ack c → mag c < 2 ^ 31 → inRange x ≡ true → countSmall m ≡ true → numSuffices m x ≡ true → (small (toZ w32 (ofZ w32 c)) ≡ true) × ((small (x .cs) ≡ true) × (1 ≤ x .num))
+pub acknowledgeable : (m : Message) (c : ℤ) (x : Process) → m ≡ Ack c → mag c < 2 ^ 31 → inRange x ≡ true → countSmall m ≡ true → numSuffices m x ≡ true
+    → (small (toZ w32 (ofZ w32 c)) ≡ true) × ((small (x .cs) ≡ true) × (1 ≤ x .num))
 unfolding countSmall numSuffices
 acknowledgeable m c x e h r s n =
     let few : leb 1 (x .num) ≡ true = rw e at n in
     let count : small c ≡ true = rw e at s in
     (rw (signed-back c h) count, (ranged x r .count, leb-true 1 (x .num) few))
 
-pub rule3-made : (t : Turn) (v : ℕ) (z : ℤ) → v ≡ newSubordinate (t .process) → z ≡ gained v (t .process) → (record { process = withSubordinate v (withCs z (t .process)); probes = t .probes; reply = t .reply }) ≡ rule3 t
+pub rule3-made : (t : Turn) (v : ℕ) (z : ℤ) → v ≡ newSubordinate (t .process) → z ≡ gained v (t .process)
+    → (record { process = withSubordinate v (withCs z (t .process)); probes = t .probes; reply = t .reply }) ≡ rule3 t
 unfolding rule3
 rule3-made t v z p q = rw (q, p)
 
-pub settled-answer : (m : Message) (x : Process) (t : Turn) {u : Turn} {r : Stepped} → r ≡ settled u → u ≡ t → numSuffices m x ≡ true → r ≡ answer (choose (not (fitting m x t)) 22 0) t
+pub settled-answer : (m : Message) (x : Process) (t : Turn) {u : Turn} {r : Stepped} → r ≡ settled u → u ≡ t → numSuffices m x ≡ true
+    → r ≡ answer (choose (not (fitting m x t)) 22 0) t
 unfolding settled fitting
 settled-answer m x t p q e = p ∙ rw (q, e)

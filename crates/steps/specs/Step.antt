@@ -9,12 +9,11 @@
 --   fitting m x t       == the step takes no value out of its range and acknowledges to no father 0 (22 is met if not)
 --   stepNumber, stepped == "One process's step checks 21, 25, 22": the number (0 if taken), and the answer
 --   startStepped m p x  == the same for the start's step, which only 22 can refuse
---   steppedNumber, steppedProcess, steppedProbes, steppedReply   == for each case of the answer 01's number and values, zeros elsewhere
 -- Assumes nothing.
-use Prim.Native.Nat.{ℕ, zero, suc, _+_, _-_, _*_}
-use mathlib.Core.Bool.{Bool, true, false, not, _&&_, _||_}
+use Prim.Native.Nat.{ℕ, zero, suc, _+_, _-_}
+use mathlib.Core.Bool.{Bool, true, not, _&&_, _||_}
 use lib.Dec.{eqb, leb, ltb}
-use lib.IntN.{ℤ, pos, negsuc, _+ℤ_, _-ℤ_, natAbs}
+use lib.IntN.{ℤ, pos, _+ℤ_, _-ℤ_, natAbs}
 use Rattle.base.specs.Choice.{choose}
 use Rattle.steps.specs.declared.Message.{Message}
 use Rattle.steps.specs.declared.Message.the-variants.{Suc, Pre, Ack}
@@ -165,20 +164,3 @@ stepped m o i p x = answer (stepNumber m o i p x) (turn m o i p x)
 -- the start's step: it names no degrees, and refuses only by 22
 unfoldable pub startStepped : Message → ℕ → Process → Stepped
 startStepped m p x = answer (choose (not (fitting m x (startTurn m p x))) 22 0) (startTurn m p x)
-
--- 01's number for each case of the answer, and its values, zeros elsewhere
-abbrev pub steppedNumber : Stepped → ℕ
-steppedNumber (Taken x y z) = 0
-steppedNumber (Refused n) = n
-
-abbrev pub steppedProcess : Stepped → Process
-steppedProcess (Taken x y z) = x
-steppedProcess (Refused n) = idle
-
-abbrev pub steppedProbes : Stepped → Probes
-steppedProbes (Taken x y z) = y
-steppedProbes (Refused n) = Probes.Nothing
-
-abbrev pub steppedReply : Stepped → Reply
-steppedReply (Taken x y z) = z
-steppedReply (Refused n) = Reply.Nothing

@@ -1,12 +1,12 @@
 // Messages, process records, and one process's step (01, section "Steps"), by value: a function for each rule.
-// step takes any values whatever and refuses with 21, 25 or 22; start_step refuses with 22. No sum wraps. It stands on base alone.
+// step takes any values whatever and refuses with 21, 25 or 22; start_step refuses with 22. No sum wraps.
+// The code stands on base alone, a law of it on machine.
 ghost use mathlib.Core.Path.{_≡_};
 ghost use mathlib.Core.Bool.{true};
 ghost use Prim.Native.Nat.{_≤_};
 ghost use lib.IntN.{pos, _+ℤ_, _-ℤ_};
-ghost use Rattle.steps.specs.Step.{small, inRange, countSmall, lentInRange, numSuffices, replyFits, newSubordinate};
-ghost use Rattle.steps.specs.Step.{rule1, setSucceeding, setPreceding, rule3, rule4, acknowledged, turn, stepped};
-ghost use Rattle.steps.specs.Step.{startTurn, startStepped};
+ghost use Rattle.steps.specs.Step.{small, inRange, countSmall, lentInRange, numSuffices, replyFits, newSubordinate, rule1};
+ghost use Rattle.steps.specs.Step.{setSucceeding, setPreceding, rule3, rule4, acknowledged, turn, stepped, startTurn, startStepped};
 ghost use Rattle.steps.specs.Within.{Addable, settled};
 
 pub enum Message {

@@ -1,4 +1,5 @@
-// Runs vectors of wait tables (01, "Wait table") through the crate `tables` and prints what it answers, a line for each answer.
+// Runs vectors of wait tables (01, "Wait table") through the crates `table_reader` and `table_writer` and prints what they
+// answer, a line for each answer.
 //
 // Standard input is a sequence of cases. A case is a byte for its kind, then 16 bits for the number of its bytes, then those bytes.
 // Every 16 bits are unsigned, low byte first.
@@ -12,10 +13,10 @@
 // no whole case, `input ends early` is the last line. No case is refused for its length: any 16 bits will do.
 //
 // The program promises only that it is safe and ends: what it prints is held to the file stdout, which tools/table_vectors.py makes
-// with the file stdin. It stands on `tables` and on the kit's `io` and `libc`. A part of an array is written from 0, `[0..end]`, which
+// with the file stdin. It stands on those two and on the kit's `io` and `libc`. A part of an array is written from 0, `[0..end]`, which
 // asks only for the bounds.
+use table_writer::Writing;
 use tables::Reading;
-use tables::Writing;
 ghost use Prim.Native.Nat.{_≤_};
 ghost use lib.ListN.{length};
 
@@ -95,7 +96,7 @@ fn print_kept(is_kept: bool) {
 
 // Prints the answer of reading the bytes, and gives the number of arcs, 0 if they are refused.
 fn print_reading(s: &[u8]) -> usize {
-    match tables::reader::read(s) {
+    match table_reader::read(s) {
         Reading::Accepted { n, m } => {
             print(b"read accepted ");
             print_number(n as u64);
@@ -124,14 +125,14 @@ fn print_arc(s: &[u8], k: usize) {
     if 512 < k {
         return;
     }
-    let n = tables::reader::field(s, 0);
+    let n = table_reader::field(s, 0);
     if 128 < n {
         return;
     }
     if s.len() < 4 + 4 * n + 8 * k {
         return;
     }
-    let arc = tables::reader::arc_at(s, n, k);
+    let arc = table_reader::arc_at(s, n, k);
     print(b"arc ");
     print_number(k as u64);
     print(b": ");
@@ -183,7 +184,7 @@ fn print_writing(answer: Writing, out: &[u8]) {
 
 // Writes the table of n processes and of the list's pairs into the output.
 fn write_into(n: usize, list: &[u16], out: &mut [u8]) {
-    let answer = tables::writer::write(n, list, out);
+    let answer = table_writer::write(n, list, out);
     print_writing(answer, out);
 }
 

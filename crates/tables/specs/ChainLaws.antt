@@ -2,7 +2,6 @@
 --   follows-same, follows-once   == a chain that ends has one list, and no arc stands in it twice
 --   follows-steps, place-steps   == the arcs of the list are those at the places of the chain
 --   follows-end, follows-on      == from 0 on there is nothing; from an arc on, the arc and what follows from its next field
---   follows-drop                 == i steps on, what is left of the chain is what is left of the list
 --   along-steps, along-arcs, follows-along   == at most l arcs of a chain: which they are, that they are arcs, and when they are all
 --   walked-left, walked-wrong    == what a walk with a number of arcs left says of the chain
 -- Assumes nothing.
@@ -11,44 +10,46 @@ use mathlib.Core.List.{List, [], _∷_}
 use mathlib.Core.Logic.{_⊎_, inl, inr, ⊎-elim}
 use mathlib.Core.Path.{_≡_, refl, sym, ap, _∙_, subst}
 use lib.Dec.{eqb}
-use lib.ListN.{length, getD, drop}
+use lib.ListN.{length, getD}
 use native.Mathlib.Omega.{arith}
-use Rattle.base.specs.Choice.{bit, bit-≤1, Same, same, apart, same?}
-use Rattle.base.specs.Counts.{occ, bit-apart}
+use Rattle.base.specs.Choice.{bit}
+use Rattle.base.specs.ChoiceLaws.{bit-≤1, Same, same, apart, same?, bit-apart}
+use Rattle.base.specs.Counts.{occ}
 use Rattle.tables.specs.declared.Chain.{Chain}
-use Rattle.tables.specs.Table.{Fields, mOf, first, arcAt, near, next, after, place}
+use Rattle.tables.specs.Table.{Fields, mOf, first, arcAt, near, next, follow, place}
 use Rattle.tables.specs.Layout.{IsArc}
 use Rattle.tables.specs.Reading.{left, wrong, walked}
-use Rattle.tables.specs.Chains.{Follows, stop, go, steps, along}
+use Rattle.tables.specs.Chains.{Follows, stop, go, steps, along, Own}
 
 -- ---- steps
 
-pub steps-zero : (c : Chain) (t : Fields) (i : ℕ) → steps c t 0 i ≡ 0
-unfolding steps after
+steps-zero : (c : Chain) (t : Fields) (i : ℕ) → steps c t 0 i ≡ 0
+unfolding steps follow
 steps-zero c t zero = refl
 steps-zero c t (suc i) = steps-zero c t i
 
-steps-after : (c : Chain) (t : Fields) (k i : ℕ) → steps c t (after c t k) i ≡ after c t (steps c t k i)
+steps-after : (c : Chain) (t : Fields) (k i : ℕ) → steps c t (follow c t k) i ≡ follow c t (steps c t k i)
 unfolding steps
 steps-after c t k zero = refl
-steps-after c t k (suc i) = steps-after c t (after c t k) i
+steps-after c t k (suc i) = steps-after c t (follow c t k) i
 
 pub place-steps : (c : Chain) (t : Fields) (p i : ℕ) → place c t p i ≡ steps c t (first c t p) i
 unfolding place steps
 place-steps c t p zero = refl
-place-steps c t p (suc i) = ap (after c t) (place-steps c t p i) ∙ sym (steps-after c t (first c t p) i)
+place-steps c t p (suc i) = ap (follow c t) (place-steps c t p i) ∙ sym (steps-after c t (first c t p) i)
 
 -- ---- along
 
 pub along-steps : (c : Chain) (t : Fields) (l k i : ℕ) → i < l → getD (along c t l k) i 0 ≡ steps c t k i
-unfolding along steps after
+unfolding along steps follow
 along-steps c t zero k i h = absurd (omega arith)
 along-steps c t (suc l) zero i h = sym (steps-zero c t i)
 along-steps c t (suc l) (suc k) zero h = refl
 along-steps c t (suc l) (suc k) (suc i) h = along-steps c t l (next c (arcAt t (suc k))) i (omega arith)
 
 -- where no next field is over M, a chain that begins within 1 to M stays there
-pub along-arcs : (c : Chain) (t : Fields) → ((k : ℕ) → IsArc t k → next c (arcAt t k) ≤ mOf t) → (l k : ℕ) → k ≤ mOf t → (j : ℕ) → 1 ≤ occ j (along c t l k) → IsArc t j
+pub along-arcs : (c : Chain) (t : Fields) → ((k : ℕ) → IsArc t k → next c (arcAt t k) ≤ mOf t) → (l k : ℕ) → k ≤ mOf t → (j : ℕ)
+    → 1 ≤ occ j (along c t l k) → IsArc t j
 unfolding along occ
 along-arcs c t nexts zero k u j h = absurd (omega arith)
 along-arcs c t nexts (suc l) zero u j h = absurd (omega arith)
@@ -67,22 +68,15 @@ follows-along (suc l) stop h = refl
 follows-along zero (go f) h = absurd (omega arith)
 follows-along (suc l) (go {k} {ks} f) h = ap {B = List ℕ} (λ r. suc k ∷ r) (follows-along l f (omega arith))
 
-pub follows-same : {c : Chain} {t : Fields} {k : ℕ} {ks ks′ : List ℕ} → Follows c t k ks → Follows c t k ks′ → ks ≡ ks′
+follows-same : {c : Chain} {t : Fields} {k : ℕ} {ks ks′ : List ℕ} → Follows c t k ks → Follows c t k ks′ → ks ≡ ks′
 follows-same {ks = ks} {ks′ = ks′} f f′ =
     sym (follows-along (length ks + length ks′) f (omega arith)) ∙ follows-along (length ks + length ks′) f′ (omega arith)
 
 pub follows-steps : {c : Chain} {t : Fields} {k : ℕ} {ks : List ℕ} (i : ℕ) → Follows c t k ks → steps c t k i ≡ getD ks i 0
-unfolding steps after
+unfolding steps follow
 follows-steps {c} {t} i stop = steps-zero c t i
 follows-steps zero (go f) = refl
 follows-steps (suc i) (go f) = follows-steps i f
-
--- the rest of a chain, i steps on
-pub follows-drop : {c : Chain} {t : Fields} {k : ℕ} {ks : List ℕ} (i : ℕ) → Follows c t k ks → Follows c t (steps c t k i) (drop i ks)
-unfolding steps after
-follows-drop zero f = f
-follows-drop {c} {t} (suc i) stop = rw (steps-zero c t i) stop
-follows-drop (suc i) (go f) = follows-drop i f
 
 -- from 0 on there is nothing, and from an arc on the arc and what follows from its next field
 pub follows-end : {c : Chain} {t : Fields} {ks : List ℕ} → Follows c t 0 ks → ks ≡ []
@@ -102,7 +96,7 @@ pub record Rest (c : Chain) (t : Fields) (j : ℕ) (ks : List ℕ) : Type 0 wher
   pub follows : Follows c t j arcs
   pub short : length arcs ≤ length ks
 
-pub follows-rest : {c : Chain} {t : Fields} {k : ℕ} {ks : List ℕ} (j : ℕ) → Follows c t k ks → 1 ≤ occ j ks → Rest c t j ks
+follows-rest : {c : Chain} {t : Fields} {k : ℕ} {ks : List ℕ} (j : ℕ) → Follows c t k ks → 1 ≤ occ j ks → Rest c t j ks
 unfolding occ
 follows-rest j stop h = absurd (omega arith)
 follows-rest {c} {t} j (go {k} {ks} f) h = at (same? (suc k) j) (follows-rest j f)
@@ -133,10 +127,6 @@ follows-once {c} {t} j (go {k} {ks} f) = at (same? (suc k) j) (same? (occ j ks) 
 
 -- ---- walked
 
--- each arc of a list belongs to p's chain
-abbrev pub Own : Chain → Fields → ℕ → List ℕ → Type 0
-Own c t p ks = (j : ℕ) → 1 ≤ occ j ks → near c (arcAt t j) ≡ p
-
 own-none : (c : Chain) (t : Fields) (p : ℕ) → Own c t p []
 unfolding occ
 own-none c t p j h = absurd (omega arith)
@@ -165,7 +155,8 @@ walked-left c t p (suc l) (suc k) r e = at (same? (near c (arcAt t (suc k))) p) 
     more : near c (arcAt t (suc k)) ≡ p → WalkedLeft c t p l (next c (arcAt t (suc k))) r → WalkedLeft c t p (suc l) (suc k) r
     more q w = record { follows = go (w .follows); count = omega arith; own = own-more c t p (suc k) (along c t l (next c (arcAt t (suc k)))) q (w .own) }
 
-    at : Same (near c (arcAt t (suc k))) p → (walked c t p l (next c (arcAt t (suc k))) ≡ left r → WalkedLeft c t p l (next c (arcAt t (suc k))) r) → WalkedLeft c t p (suc l) (suc k) r
+    at : Same (near c (arcAt t (suc k))) p → (walked c t p l (next c (arcAt t (suc k))) ≡ left r → WalkedLeft c t p l (next c (arcAt t (suc k))) r)
+        → WalkedLeft c t p (suc l) (suc k) r
     at (same q b) rest = more q (rest (rw b at e))
     at (apart q b) rest = let e′ : wrong ≡ left r = rw b at e in let z : _≡_ {A = ℕ} 0 1 = cc in absurd (omega arith)
 
@@ -179,7 +170,7 @@ ManyAt c t p l k = (length (along c t (suc l) k) ≡ suc l) × Own c t p (along 
 
 -- the walk went wrong: at a foreign arc, or at one arc too many
 pub walked-wrong : (c : Chain) (t : Fields) (p l k : ℕ) → walked c t p l k ≡ wrong → ForeignAt c t p k ⊎ ManyAt c t p l k
-unfolding walked along steps after
+unfolding walked along steps follow
 walked-wrong c t p zero zero e = let z : _≡_ {A = ℕ} 0 1 = cc in absurd (omega arith)
 walked-wrong c t p zero (suc k) e = at (same? (near c (arcAt t (suc k))) p)
   where
@@ -198,6 +189,7 @@ walked-wrong c t p (suc l) (suc k) e = at (same? (near c (arcAt t (suc k))) p) (
     many : near c (arcAt t (suc k)) ≡ p → ManyAt c t p l onward → ManyAt c t p (suc l) (suc k)
     many q m = (ap suc (m .0), own-more c t p (suc k) (along c t (suc l) onward) q (m .1))
 
-    at : Same (near c (arcAt t (suc k))) p → (walked c t p l onward ≡ wrong → ForeignAt c t p onward ⊎ ManyAt c t p l onward) → ForeignAt c t p (suc k) ⊎ ManyAt c t p (suc l) (suc k)
+    at : Same (near c (arcAt t (suc k))) p → (walked c t p l onward ≡ wrong → ForeignAt c t p onward ⊎ ManyAt c t p l onward)
+        → ForeignAt c t p (suc k) ⊎ ManyAt c t p (suc l) (suc k)
     at (same q b) rest = ⊎-elim (λ f. inl (foreign f)) (λ m. inr (many q m)) (rest (rw b at e))
     at (apart q b) rest = inl (0, k, refl, q)

@@ -1,23 +1,23 @@
 -- The published layout, as 01's section "Wait table" states it, and the rows 1 to 7 of "Refused because of the input".
---   Process t p, IsArc t k   == p is a process of the table; k is an arc of it
---   Right t, Accepted bs     == fields, and bytes, meet the layout
+--   IsArc t k                == k is an arc of the table: "Processes and arcs count from 1 in file order" (processes: IsProcess, Table)
+--   Right t, MeetsLayout bs  == fields, and bytes, meet the layout
+--   Sizes t                  == N and M are in their ranges
+--   Ends t k, Alike t j k    == both ends of arc k are processes; arcs j and k agree in from and to
+--   Meets c t p i k          == the chain of p meets arc k, i steps after its first
 --   ChainRight c t p         == the chain of p "meets each arc with from = p once and meets nothing else" (to = p on the in-chain)
---   Row r bs                 == row r of the table of refusals is met
+--   Twice, Foreign, Misses, Faulty   == row 6: "a chain meets an arc twice, meets a foreign one or misses one"
+--   RowOf r bs t, Row r bs   == row r of the table of refusals is met, by fields t that the bytes may hold; by the bytes' own fields
 --   NoneBefore r bs          == no row before r is met
 -- Assumes nothing.
-use Prim.Native.Nat.{ℕ, zero, suc, _+_, _*_, _≤_, _<_}
+use Prim.Native.Nat.{ℕ, zero, suc, _≤_, _<_}
 use mathlib.Core.List.{List}
 use mathlib.Core.Path.{_≡_}
 use mathlib.Core.Logic.{_⊎_}
 use lib.ListN.{length}
 use Rattle.tables.specs.declared.Chain.{Chain}
-use Rattle.tables.specs.declared.Chain.the-variants.{Out, In}
-use Rattle.tables.specs.Table.{Fields, fieldOf, nOf, mOf, tableLength, first, arcAt, near, next, place}
+use Rattle.tables.specs.Table.{Fields, fieldOf, nOf, mOf, SizesFit, tableLength, IsProcess, first, arcAt, near, next, place}
 
 -- "Processes and arcs count from 1 in file order."
-abbrev pub Process : Fields → ℕ → Type 0
-Process t p = (1 ≤ p) × (p ≤ nOf t)
-
 abbrev pub IsArc : Fields → ℕ → Type 0
 IsArc t k = (1 ≤ k) × (k ≤ mOf t)
 
@@ -33,11 +33,11 @@ pub record ChainRight (c : Chain) (t : Fields) (p : ℕ) : Type 0 where
 
 -- N is 1 to 128 and M is 0 to 512
 abbrev pub Sizes : Fields → Type 0
-Sizes t = (1 ≤ nOf t) × (nOf t ≤ 128) × (mOf t ≤ 512)
+Sizes t = SizesFit (nOf t) (mOf t)
 
 -- both ends of an arc are processes
 abbrev pub Ends : Fields → ℕ → Type 0
-Ends t k = Process t (arcAt t k .from) × Process t (arcAt t k .to)
+Ends t k = IsProcess (nOf t) (arcAt t k .from) × IsProcess (nOf t) (arcAt t k .to)
 
 -- two arcs agree in from and to
 abbrev pub Alike : Fields → ℕ → ℕ → Type 0
@@ -47,13 +47,13 @@ Alike t j k = (arcAt t j .from ≡ arcAt t k .from) × (arcAt t j .to ≡ arcAt 
 pub record Right (t : Fields) : Type 0 where
   pub sizes : Sizes t
   pub ends : (k : ℕ) → IsArc t k → Ends t k
-  pub firsts : (c : Chain) (p : ℕ) → Process t p → first c t p ≤ mOf t
+  pub firsts : (c : Chain) (p : ℕ) → IsProcess (nOf t) p → first c t p ≤ mOf t
   pub nexts : (c : Chain) (k : ℕ) → IsArc t k → next c (arcAt t k) ≤ mOf t
-  pub chains : (c : Chain) (p : ℕ) → Process t p → ChainRight c t p
+  pub chains : (c : Chain) (p : ℕ) → IsProcess (nOf t) p → ChainRight c t p
   pub unlike : (j k : ℕ) → IsArc t j → IsArc t k → Alike t j k → j ≡ k
 
 -- the whole section: "The length is exactly 4 + 4N + 8M bytes."
-pub record Accepted (bs : List ℕ) : Type 0 where
+pub record MeetsLayout (bs : List ℕ) : Type 0 where
   pub long : length bs ≡ tableLength (nOf (fieldOf bs)) (mOf (fieldOf bs))
   pub right : Right (fieldOf bs)
 
@@ -67,6 +67,9 @@ Foreign c t p = (i : ℕ) × (k : ℕ) × Meets c t p i k × (near c (arcAt t k)
 abbrev pub Misses : Chain → Fields → ℕ → Type 0
 Misses c t p = (k : ℕ) × IsArc t k × (near c (arcAt t k) ≡ p) × ((i : ℕ) → Meets c t p i k → ⊥)
 
+abbrev pub Faulty : Chain → Fields → ℕ → Type 0
+Faulty c t p = Twice c t p ⊎ (Foreign c t p ⊎ Misses c t p)
+
 -- the rows 1 to 7 of "Refused because of the input", each as it reads; no other number is a row of reading a table
 abbrev pub RowOf : ℕ → List ℕ → Fields → Type 0
 RowOf zero bs t = ⊥
@@ -75,8 +78,8 @@ RowOf (suc (suc zero)) bs t = Sizes t → ⊥
 RowOf (suc (suc (suc zero))) bs t = length bs ≡ tableLength (nOf t) (mOf t) → ⊥
 RowOf (suc (suc (suc (suc zero)))) bs t = (k : ℕ) × IsArc t k × (Ends t k → ⊥)
 RowOf (suc (suc (suc (suc (suc zero))))) bs t =
-    ((c : Chain) × (p : ℕ) × Process t p × (mOf t < first c t p)) ⊎ ((c : Chain) × (k : ℕ) × IsArc t k × (mOf t < next c (arcAt t k)))
-RowOf (suc (suc (suc (suc (suc (suc zero)))))) bs t = (c : Chain) × (p : ℕ) × Process t p × (Twice c t p ⊎ (Foreign c t p ⊎ Misses c t p))
+    ((c : Chain) × (p : ℕ) × IsProcess (nOf t) p × (mOf t < first c t p)) ⊎ ((c : Chain) × (k : ℕ) × IsArc t k × (mOf t < next c (arcAt t k)))
+RowOf (suc (suc (suc (suc (suc (suc zero)))))) bs t = (c : Chain) × (p : ℕ) × IsProcess (nOf t) p × Faulty c t p
 RowOf (suc (suc (suc (suc (suc (suc (suc zero))))))) bs t = (j : ℕ) × (k : ℕ) × IsArc t j × IsArc t k × Alike t j k × (j ≡ k → ⊥)
 RowOf (suc (suc (suc (suc (suc (suc (suc (suc r)))))))) bs t = ⊥
 

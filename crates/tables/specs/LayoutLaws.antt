@@ -11,18 +11,20 @@ use mathlib.Core.Logic.{_⊎_, inl, inr, ⊎-elim, ⊎-map, _↔_}
 use mathlib.Core.Path.{_≡_, refl, sym, ap, _∙_}
 use lib.Dec.{eqb, leb, ltb}
 use lib.ListN.{length}
-use borrow.Author.Tests.{leb-true, le-leb}
 use native.Mathlib.Omega.{arith}
-use Rattle.base.specs.Choice.{choose, Same, same, apart, same?, and-three}
+use Rattle.base.specs.Choice.{choose}
+use Rattle.base.specs.ChoiceLaws.{Same, same, apart, same?}
 use Rattle.base.specs.Sums.{allTo}
 use Rattle.tables.specs.declared.Chain.{Chain}
 use Rattle.tables.specs.declared.Chain.the-variants.{Out, In}
-use Rattle.tables.specs.Table.{Fields, fieldOf, nOf, mOf, tableLength, first, arcAt, next}
-use Rattle.tables.specs.Layout.{Process, IsArc, ChainRight, Sizes, Ends, Alike, Right, Accepted, RowOf, Row, NoneBefore}
+use Rattle.tables.specs.Table.{Fields, fieldOf, nOf, mOf, tableLength, IsProcess, first, arcAt, saysWait, next}
+use Rattle.tables.specs.Layout.{IsArc, ChainRight, Sizes, Ends, Alike, Right, MeetsLayout, Faulty, RowOf, Row, NoneBefore}
 use Rattle.tables.specs.Reading.{chainsRight, sizesRight, endsRight, firstsRight, nextsRight, unlikeBefore, fieldsNumber, readNumber}
-use Rattle.tables.specs.Chains.{met}
-use Rattle.tables.specs.ChainTest.{Inside, inside-of, Faulty, right-faulty, chainsRight-listed, chainsRight-faulty, listed-right}
-use Rattle.base.specs.Checks.{Check, holds, fails, check-of, check-map, check-le, check-eq, check-not, check-both, check-all}
+use Rattle.tables.specs.TableLaws.{sizesFit-P, check-process}
+use Rattle.tables.specs.Chains.{met, Inside}
+use Rattle.tables.specs.ChainTestLaws.{inside-of, right-faulty, chainsRight-listed, chainsRight-faulty, listed-right}
+use Rattle.base.specs.Checks.{Check, holds, fails}
+use Rattle.base.specs.CheckLaws.{check-of, check-map, check-le, check-eq, check-not, check-both, check-all}
 
 -- ---- what the checks 4 to 7 say of the fields when they find nothing
 
@@ -30,11 +32,11 @@ abbrev AllEnds : Fields → Type 0
 AllEnds t = (k : ℕ) → IsArc t k → Ends t k
 
 record Bounds (t : Fields) : Type 0 where
-  firsts : (c : Chain) (p : ℕ) → Process t p → first c t p ≤ mOf t
+  firsts : (c : Chain) (p : ℕ) → IsProcess (nOf t) p → first c t p ≤ mOf t
   nexts : (c : Chain) (k : ℕ) → IsArc t k → next c (arcAt t k) ≤ mOf t
 
 abbrev AllChains : Fields → Type 0
-AllChains t = (c : Chain) (p : ℕ) → Process t p → ChainRight c t p
+AllChains t = (c : Chain) (p : ℕ) → IsProcess (nOf t) p → ChainRight c t p
 
 abbrev AllUnlike : Fields → Type 0
 AllUnlike t = (j k : ℕ) → IsArc t j → IsArc t k → Alike t j k → j ≡ k
@@ -43,12 +45,7 @@ AllUnlike t = (j k : ℕ) → IsArc t j → IsArc t k → Alike t j k → j ≡ 
 
 pub sizesRight-P : (t : Fields) → (sizesRight t ≡ true) ↔ Sizes t
 unfolding sizesRight
-sizesRight-P t = (to, λ s. rw (le-leb 1 (nOf t) (s .0), le-leb (nOf t) 128 (s .1), le-leb (mOf t) 512 (s .2)))
-  where
-    to : (leb 1 (nOf t) && leb (nOf t) 128 && leb (mOf t) 512) ≡ true → Sizes t
-    to e =
-        let s = and-three (leb 1 (nOf t)) (leb (nOf t) 128) (leb (mOf t) 512) e in
-        (leb-true 1 (nOf t) (s .0), leb-true (nOf t) 128 (s .1), leb-true (mOf t) 512 (s .2))
+sizesRight-P t = sizesFit-P (nOf t) (mOf t)
 
 check-sizes : (bs : List ℕ) (t : Fields) → Check (sizesRight t) (Sizes t) (RowOf 2 bs t)
 check-sizes bs t = check-of (sizesRight t) (Sizes t) (RowOf 2 bs t) (sizesRight-P t .0) (λ e s. false≢true (sym e ∙ sizesRight-P t .1 s))
@@ -59,7 +56,8 @@ check-long bs t = check-eq (length bs) (tableLength (nOf t) (mOf t))
 check-end : (t : Fields) (k : ℕ) → Check (endsRight t k) (Ends t k) (Ends t k → ⊥)
 unfolding endsRight
 check-end t k =
-    check-map (λ p. ((p .0 .0 .0, p .0 .0 .1), (p .0 .1, p .1))) (λ r s. ⊎-elim (λ q. ⊎-elim (λ o. ⊎-elim (λ h. omega arith) (λ h. omega arith) o) (λ h. omega arith) q) (λ h. omega arith) r) (check-both (check-both (check-both (check-le 1 (arcAt t k .from)) (check-le (arcAt t k .from) (nOf t))) (check-le 1 (arcAt t k .to))) (check-le (arcAt t k .to) (nOf t)))
+    check-map (λ p. p) (λ r s. ⊎-elim (λ h. h (s .0)) (λ h. h (s .1)) r)
+    (check-both (check-process (nOf t) (arcAt t k .from)) (check-process (nOf t) (arcAt t k .to)))
 
 check-ends : (bs : List ℕ) (t : Fields) → Check (allTo (mOf t) (endsRight t)) (AllEnds t) (RowOf 4 bs t)
 check-ends bs t = check-all (mOf t) (endsRight t) (Ends t) (λ k. Ends t k → ⊥) (check-end t)
@@ -86,30 +84,41 @@ check-next t k = check-chains (λ c. next c (arcAt t k)) (mOf t)
 
 check-bounds : (bs : List ℕ) (t : Fields) → Check (allTo (nOf t) (firstsRight t) && allTo (mOf t) (nextsRight t)) (Bounds t) (RowOf 5 bs t)
 check-bounds bs t =
-    check-map (λ p. record { firsts = λ c k r. p .0 k r c; nexts = λ c k r. p .1 k r c }) (⊎-map (λ w. (w .2 .0, w .0, w .1, w .2 .1)) (λ w. (w .2 .0, w .0, w .1, w .2 .1))) (check-both (check-all (nOf t) (firstsRight t) (λ p. (c : Chain) → first c t p ≤ mOf t) (λ p. (c : Chain) × (mOf t < first c t p)) (check-first t)) (check-all (mOf t) (nextsRight t) (λ k. (c : Chain) → next c (arcAt t k) ≤ mOf t) (λ k. (c : Chain) × (mOf t < next c (arcAt t k))) (check-next t)))
+    check-map (λ p. record { firsts = λ c k r. p .0 k r c; nexts = λ c k r. p .1 k r c })
+    (⊎-map (λ w. (w .2 .0, w .0, w .1, w .2 .1)) (λ w. (w .2 .0, w .0, w .1, w .2 .1)))
+    (check-both (check-all (nOf t) (firstsRight t) (λ p. (c : Chain) → first c t p ≤ mOf t) (λ p. (c : Chain) × (mOf t < first c t p)) (check-first t))
+    (check-all (mOf t) (nextsRight t) (λ k. (c : Chain) → next c (arcAt t k) ≤ mOf t) (λ k. (c : Chain) × (mOf t < next c (arcAt t k))) (check-next t)))
 
-check-chain : (t : Fields) (c : Chain) → Inside c t → Check (chainsRight c t) ((p : ℕ) → Process t p → ChainRight c t p) ((p : ℕ) × Process t p × Faulty c t p)
-check-chain t c inside = check-of (chainsRight c t) _ _ (λ e p r. listed-right c t p (met c t p) (chainsRight-listed c t inside e p r)) (chainsRight-faulty c t inside)
+check-chain : (t : Fields) (c : Chain) → Inside c t
+    → Check (chainsRight c t) ((p : ℕ) → IsProcess (nOf t) p → ChainRight c t p) ((p : ℕ) × IsProcess (nOf t) p × Faulty c t p)
+check-chain t c inside =
+    check-of (chainsRight c t) _ _ (λ e p r. listed-right c t p (met c t p) (chainsRight-listed c t inside e p r)) (chainsRight-faulty c t inside)
 
 check-both-chains : (bs : List ℕ) (t : Fields) → ((c : Chain) → Inside c t) → Check (chainsRight Out t && chainsRight In t) (AllChains t) (RowOf 6 bs t)
 check-both-chains bs t inside = check-map all some (check-both (check-chain t Out (inside Out)) (check-chain t In (inside In)))
   where
-    all : ((p : ℕ) → Process t p → ChainRight Out t p) × ((p : ℕ) → Process t p → ChainRight In t p) → AllChains t
+    all : ((p : ℕ) → IsProcess (nOf t) p → ChainRight Out t p) × ((p : ℕ) → IsProcess (nOf t) p → ChainRight In t p) → AllChains t
     all p Out = p .0
     all p In = p .1
 
-    some : ((p : ℕ) × Process t p × Faulty Out t p) ⊎ ((p : ℕ) × Process t p × Faulty In t p) → RowOf 6 bs t
+    some : ((p : ℕ) × IsProcess (nOf t) p × Faulty Out t p) ⊎ ((p : ℕ) × IsProcess (nOf t) p × Faulty In t p) → RowOf 6 bs t
     some (inl w) = (Out, w .0, w .1, w .2)
     some (inr w) = (In, w .0, w .1, w .2)
 
 -- arc k against each before it
-check-unlike : (t : Fields) (k : ℕ) → Check (unlikeBefore t k) ((j : ℕ) → (1 ≤ j) × (j ≤ k - 1) → Alike t j k → ⊥) ((j : ℕ) × ((1 ≤ j) × (j ≤ k - 1)) × Alike t j k)
+check-unlike : (t : Fields) (k : ℕ)
+    → Check (unlikeBefore t k) ((j : ℕ) → (1 ≤ j) × (j ≤ k - 1) → Alike t j k → ⊥) ((j : ℕ) × ((1 ≤ j) × (j ≤ k - 1)) × Alike t j k)
 unfolding unlikeBefore
 check-unlike t k =
-    check-all (k - 1) (λ j. not (eqb (arcAt t j .from) (arcAt t k .from) && eqb (arcAt t j .to) (arcAt t k .to))) (λ j. Alike t j k → ⊥) (λ j. Alike t j k) (λ j. check-map (λ p a. ⊎-elim (λ h. h (a .0)) (λ h. h (a .1)) p) (λ a. a) (check-not (check-both (check-eq (arcAt t j .from) (arcAt t k .from)) (check-eq (arcAt t j .to) (arcAt t k .to)))))
+    check-all (k - 1) (λ j. not (saysWait t (arcAt t k .from) (arcAt t k .to) j)) (λ j. Alike t j k → ⊥)
+    (λ j. Alike t j k) (λ j. check-map (λ p a. ⊎-elim (λ h. h (a .0)) (λ h. h (a .1)) p) (λ a. a)
+    (check-not (check-both (check-eq (arcAt t j .from) (arcAt t k .from)) (check-eq (arcAt t j .to) (arcAt t k .to)))))
 
 check-unlikes : (bs : List ℕ) (t : Fields) → Check (allTo (mOf t) (unlikeBefore t)) (AllUnlike t) (RowOf 7 bs t)
-check-unlikes bs t = check-map all (λ w. (w .2 .0, w .0, (w .2 .1 .0, omega arith), w .1, w .2 .2, λ e. omega arith)) (check-all (mOf t) (unlikeBefore t) (λ k. (j : ℕ) → (1 ≤ j) × (j ≤ k - 1) → Alike t j k → ⊥) (λ k. (j : ℕ) × ((1 ≤ j) × (j ≤ k - 1)) × Alike t j k) (check-unlike t))
+check-unlikes bs t =
+    check-map all (λ w. (w .2 .0, w .0, (w .2 .1 .0, omega arith), w .1, w .2 .2, λ e. omega arith))
+    (check-all (mOf t) (unlikeBefore t) (λ k. (j : ℕ) → (1 ≤ j) × (j ≤ k - 1) → Alike t j k → ⊥) (λ k. (j : ℕ) × ((1 ≤ j) × (j ≤ k - 1)) × Alike t j k)
+    (check-unlike t))
   where
     all : ((k : ℕ) → IsArc t k → (j : ℕ) → (1 ≤ j) × (j ≤ k - 1) → Alike t j k → ⊥) → AllUnlike t
     all h j k rj rk a = at (check-eq j k) (check-le j k)
@@ -138,7 +147,9 @@ none-more a r bs t none here q l u = at (same? q r)
     at (apart e _) = none q l (omega arith)
 
 -- one check more: the row if it is met, and the checks after it if not
-says-next : {P : Type 0} (Good : Type 0) (a r : ℕ) (bs : List ℕ) (t : Fields) (b : Bool) (n : ℕ) → a ≤ suc r → NoneFrom a (suc r) bs t → Check b P (RowOf (suc r) bs t) → (P → RowOf (suc r) bs t → ⊥) → (P → NoneFrom a (suc (suc r)) bs t → Says a Good bs t n) → Says a Good bs t (choose (not b) (suc r) n)
+says-next : {P : Type 0} (Good : Type 0) (a r : ℕ) (bs : List ℕ) (t : Fields) (b : Bool) (n : ℕ) → a ≤ suc r → NoneFrom a (suc r) bs t
+    → Check b P (RowOf (suc r) bs t) → (P → RowOf (suc r) bs t → ⊥) → (P → NoneFrom a (suc (suc r)) bs t → Says a Good bs t n)
+    → Says a Good bs t (choose (not b) (suc r) n)
 says-next Good a r bs t b n l none (holds e p) never rest = rw e (rest p (none-more a (suc r) bs t none (never p)))
 says-next Good a r bs t b n l none (fails e m) never rest = rw e (l, m, none)
 
@@ -163,11 +174,12 @@ unfolding fieldsNumber
 fieldsNumber-says a bs t l sizes none4 =
     says-next (Right t) a 3 bs t _ _ l none4 (check-ends bs t) (no-ends bs t) λ ends none5.
     says-next (Right t) a 4 bs t _ _ (omega arith) none5 (check-bounds bs t) (no-bounds bs t) λ bounds none6.
-    says-next (Right t) a 5 bs t _ _ (omega arith) none6 (check-both-chains bs t (inside-of t ends (bounds .firsts) (bounds .nexts))) (no-chains bs t) λ chains none7.
+    says-next (Right t) a 5 bs t _ _ (omega arith) none6 (check-both-chains bs t (inside-of t ends (bounds .firsts) (bounds .nexts)))
+    (no-chains bs t) λ chains none7.
     says-next (Right t) a 6 bs t _ _ (omega arith) none7 (check-unlikes bs t) (no-unlike bs t) λ unlike none8.
     record { sizes = sizes; ends = ends; firsts = bounds .firsts; nexts = bounds .nexts; chains = chains; unlike = unlike }
 
-readNumber-says : (bs : List ℕ) → Says 0 (Accepted bs) bs (fieldOf bs) (readNumber bs)
+readNumber-says : (bs : List ℕ) → Says 0 (MeetsLayout bs) bs (fieldOf bs) (readNumber bs)
 unfolding readNumber
 readNumber-says bs = at (check-le (suc (length bs)) 4)
   where
@@ -178,13 +190,17 @@ readNumber-says bs = at (check-le (suc (length bs)) 4)
     none1 zero l u w = w
     none1 (suc q) l u w = absurd (omega arith)
 
-    long : NoneFrom 0 2 bs t → Says 0 (Accepted bs) bs t (choose (not (sizesRight t)) 2 (choose (not (eqb (length bs) (tableLength (nOf t) (mOf t)))) 3 (fieldsNumber t)))
+    long : NoneFrom 0 2 bs t
+        → Says 0 (MeetsLayout bs) bs t (choose (not (sizesRight t)) 2 (choose (not (eqb (length bs) (tableLength (nOf t) (mOf t)))) 3 (fieldsNumber t)))
     long none2 =
-        says-next (Accepted bs) 0 1 bs t _ _ (omega arith) none2 (check-sizes bs t) (λ s w. w s) λ sizes none3.
-        says-next (Accepted bs) 0 2 bs t _ _ (omega arith) none3 (check-long bs t) (λ s w. w s) λ exact none4.
-        says-map (Right t) (Accepted bs) 0 bs t (fieldsNumber t) (λ g. record { long = exact; right = g }) (fieldsNumber-says 0 bs t (omega arith) sizes none4)
+        says-next (MeetsLayout bs) 0 1 bs t _ _ (omega arith) none2 (check-sizes bs t) (λ s w. w s) λ sizes none3.
+        says-next (MeetsLayout bs) 0 2 bs t _ _ (omega arith) none3 (check-long bs t) (λ s w. w s) λ exact none4.
+        says-map (Right t) (MeetsLayout bs) 0 bs t (fieldsNumber t) (λ g. record { long = exact; right = g })
+        (fieldsNumber-says 0 bs t (omega arith) sizes none4)
 
-    at : Check (leb (suc (length bs)) 4) (length bs < 4) (4 < suc (length bs)) → Says 0 (Accepted bs) bs t (choose (ltb (length bs) 4) 1 (choose (not (sizesRight t)) 2 (choose (not (eqb (length bs) (tableLength (nOf t) (mOf t)))) 3 (fieldsNumber t))))
+    at : Check (leb (suc (length bs)) 4) (length bs < 4) (4 < suc (length bs))
+        → Says 0 (MeetsLayout bs) bs t
+        (choose (ltb (length bs) 4) 1 (choose (not (sizesRight t)) 2 (choose (not (eqb (length bs) (tableLength (nOf t) (mOf t)))) 3 (fieldsNumber t))))
     at (holds e h) = rw e (omega arith, h, none1)
     at (fails e h) = rw e (long (none-more 0 1 bs t none1 (λ w. omega arith)))
 
@@ -201,7 +217,7 @@ right-row bs t g (suc (suc (suc (suc (suc (suc zero)))))) l = no-chains bs t (g 
 right-row bs t g (suc (suc (suc (suc (suc (suc (suc zero))))))) l = no-unlike bs t (g .unlike)
 right-row bs t g (suc (suc (suc (suc (suc (suc (suc (suc r)))))))) l = λ w. w
 
-accepted-row : (bs : List ℕ) → Accepted bs → (r : ℕ) → Row r bs → ⊥
+accepted-row : (bs : List ℕ) → MeetsLayout bs → (r : ℕ) → Row r bs → ⊥
 accepted-row bs g zero = λ w. w
 accepted-row bs g (suc zero) = λ w. omega (arith, g .long)
 accepted-row bs g (suc (suc zero)) = λ w. w (g .right .sizes)
@@ -220,26 +236,26 @@ fieldsNumber-P t sizes = (λ e. rw e at says, λ g. zeroed g (fieldsNumber t) sa
     zeroed g zero s = refl
     zeroed g (suc r) s = absurd (right-row [] t g (suc r) (s .0) (s .1))
 
-pub accepted-P : (bs : List ℕ) → (readNumber bs ≡ 0) ↔ Accepted bs
+pub accepted-P : (bs : List ℕ) → (readNumber bs ≡ 0) ↔ MeetsLayout bs
 accepted-P bs = (λ e. rw e at says, λ g. zeroed g (readNumber bs) says)
   where
-    says : Says 0 (Accepted bs) bs (fieldOf bs) (readNumber bs)
+    says : Says 0 (MeetsLayout bs) bs (fieldOf bs) (readNumber bs)
     says = readNumber-says bs
 
-    zeroed : Accepted bs → (n : ℕ) → Says 0 (Accepted bs) bs (fieldOf bs) n → n ≡ 0
+    zeroed : MeetsLayout bs → (n : ℕ) → Says 0 (MeetsLayout bs) bs (fieldOf bs) n → n ≡ 0
     zeroed g zero s = refl
     zeroed g (suc r) s = absurd (accepted-row bs g (suc r) (s .1))
 
 pub refused-P : (bs : List ℕ) (r : ℕ) → (readNumber bs ≡ suc r) ↔ (Row (suc r) bs × NoneBefore (suc r) bs)
 refused-P bs r = (λ e. given (rw e at says), λ w. numbered w (readNumber bs) says)
   where
-    says : Says 0 (Accepted bs) bs (fieldOf bs) (readNumber bs)
+    says : Says 0 (MeetsLayout bs) bs (fieldOf bs) (readNumber bs)
     says = readNumber-says bs
 
-    given : Says 0 (Accepted bs) bs (fieldOf bs) (suc r) → Row (suc r) bs × NoneBefore (suc r) bs
+    given : Says 0 (MeetsLayout bs) bs (fieldOf bs) (suc r) → Row (suc r) bs × NoneBefore (suc r) bs
     given s = (s .1, λ q u. s .2 q (omega arith) u)
 
-    numbered : Row (suc r) bs × NoneBefore (suc r) bs → (n : ℕ) → Says 0 (Accepted bs) bs (fieldOf bs) n → n ≡ suc r
+    numbered : Row (suc r) bs × NoneBefore (suc r) bs → (n : ℕ) → Says 0 (MeetsLayout bs) bs (fieldOf bs) n → n ≡ suc r
     numbered w zero s = absurd (accepted-row bs s (suc r) (w .0))
     numbered w (suc q) s = at (check-eq q r) (check-le q r)
       where

@@ -1,10 +1,13 @@
 -- Reading a table by tests, in the order that the code follows ("Reading a table checks 1 to 7 in order").
---   walked c t p ..   == one chain followed with a number of arcs left; each arc must be p's own
+--   Left              == a number of arcs left (left l), or a refusal (wrong)
+--   walked c t p l k  == the chain of p followed from arc k with l arcs left; each arc must be p's own
+--   thenWalked, walkedTo, noneLeft   == one chain after others; the chains of 1 to p; no arc is left
 --   chainsRight c t   == every chain followed in turn, with M arcs left at first and none at the end (row 6 if not)
---   unlikeBefore t k  == arc k agrees in both ends with no earlier arc
+--   sizesRight t, endsRight t k, firstsRight t p, nextsRight t k   == the tests of the rows 2, 4 and 5
+--   unlikeBefore t k  == arc k agrees in both ends with no earlier arc (row 7)
+--   fieldsNumber t    == the first of the rows 4 to 7 that is met, 0 if none is
 --   readNumber bs     == the first row that is met, 0 if none is
---   readingOf bs      == the answer: accepted with N and M, or refused with the number
---   numberOf, nFound, mFound   == for each case of an answer 01's number and values, zeros elsewhere
+--   answer, readingOf bs   == the answer: accepted with N and M, or refused with the number
 -- Assumes nothing.
 use Prim.Native.Nat.{ℕ, zero, suc, _-_}
 use mathlib.Core.Bool.{Bool, true, false, not, _&&_}
@@ -17,7 +20,7 @@ use Rattle.tables.specs.declared.Chain.{Chain}
 use Rattle.tables.specs.declared.Chain.the-variants.{Out, In}
 use Rattle.tables.specs.declared.Reading.{Reading}
 use Rattle.tables.specs.declared.Reading.the-variants.{Accepted, Refused}
-use Rattle.tables.specs.Table.{Fields, fieldOf, nOf, mOf, tableLength, first, arcAt, near, next}
+use Rattle.tables.specs.Table.{Fields, fieldOf, nOf, mOf, sizesFit, tableLength, isProcess, first, arcAt, saysWait, near, next}
 
 -- a number of arcs left, or a refusal
 pub data Left : Type 0 where
@@ -52,10 +55,10 @@ unfoldable pub chainsRight : Chain → Fields → Bool
 chainsRight c t = noneLeft (walkedTo c t (nOf t))
 
 unfoldable pub sizesRight : Fields → Bool
-sizesRight t = leb 1 (nOf t) && leb (nOf t) 128 && leb (mOf t) 512
+sizesRight t = sizesFit (nOf t) (mOf t)
 
 unfoldable pub endsRight : Fields → ℕ → Bool
-endsRight t k = leb 1 (arcAt t k .from) && leb (arcAt t k .from) (nOf t) && leb 1 (arcAt t k .to) && leb (arcAt t k .to) (nOf t)
+endsRight t k = isProcess (nOf t) (arcAt t k .from) && isProcess (nOf t) (arcAt t k .to)
 
 unfoldable pub firstsRight : Fields → ℕ → Bool
 firstsRight t p = leb (first Out t p) (mOf t) && leb (first In t p) (mOf t)
@@ -65,7 +68,7 @@ nextsRight t k = leb (next Out (arcAt t k)) (mOf t) && leb (next In (arcAt t k))
 
 -- arc k has other ends than each arc before it
 unfoldable pub unlikeBefore : Fields → ℕ → Bool
-unlikeBefore t k = allTo (k - 1) (λ j. not (eqb (arcAt t j .from) (arcAt t k .from) && eqb (arcAt t j .to) (arcAt t k .to)))
+unlikeBefore t k = allTo (k - 1) (λ j. not (saysWait t (arcAt t k .from) (arcAt t k .to) j))
 
 -- checks 4 to 7 on the fields of a table whose sizes are right: the first that is met, or 0
 unfoldable pub fieldsNumber : Fields → ℕ
@@ -91,16 +94,3 @@ answer (suc r) n m = Refused (suc r)
 
 unfoldable pub readingOf : List ℕ → Reading
 readingOf bs = answer (readNumber bs) (nOf (fieldOf bs)) (mOf (fieldOf bs))
-
--- 01's number for each case, and its values, zeros elsewhere
-abbrev pub numberOf : Reading → ℕ
-numberOf (Accepted n m) = 0
-numberOf (Refused r) = r
-
-abbrev pub nFound : Reading → ℕ
-nFound (Accepted n m) = n
-nFound (Refused r) = 0
-
-abbrev pub mFound : Reading → ℕ
-mFound (Accepted n m) = m
-mFound (Refused r) = 0

@@ -1,5 +1,5 @@
 -- Laws of the waits that a right table holds.
---   saysWait t a b k, saysWait-from, saysWait-to   == the test that arc k says that a waits for b
+--   saysWait-from, saysWait-to   == the ends of an arc that says a wait
 --   waitsOf-P       == a waits for b exactly if some arc has these ends
 --   waitsOf-sum     == what is summed over the arcs may be summed over the waits: "No two arcs agree in both from and to"
 --   arcCount-is     == there are as many waits as arcs
@@ -7,23 +7,21 @@
 --   neighbours-swap, neighbours-ends   == neighbours are so both ways, and are processes
 -- Assumes nothing.
 use Prim.Native.Nat.{ℕ, _*_, _≤_}
-use mathlib.Core.Bool.{Bool, true, _&&_, or-comm}
+use mathlib.Core.Bool.{true, or-comm}
 use mathlib.Core.Logic.{_↔_, ⊎-elim}
 use mathlib.Core.Path.{_≡_, sym, ap, _∙_}
 use lib.Dec.{eqb}
 use borrow.Author.Tests.{eqb-true, eq-eqb}
 use native.Mathlib.Nat.{mul-one}
 use native.Mathlib.Omega.{arith}
-use Rattle.base.specs.Choice.{bit, and-left, and-right, and-both, or-cases}
-use Rattle.base.specs.Sums.{sumTo, countTo, anyTo, sumTo-cong, sumTo-most, sumTo-swap, Found, anyTo-of, anyTo-found}
-use Rattle.base.specs.Counts.{countTo-one, sumTo-least, sumTo-times, sumTo-pick-two}
-use Rattle.tables.specs.Table.{Fields, nOf, mOf, arcAt}
-use Rattle.tables.specs.Layout.{Process, IsArc, Right}
-use Rattle.tables.specs.Waits.{Waits, waitsOf, outDegree, arcCount, neighbours, Sound}
-
--- arc k says that a waits for b
-abbrev pub saysWait : Fields → ℕ → ℕ → ℕ → Bool
-saysWait t a b k = eqb (arcAt t k .from) a && eqb (arcAt t k .to) b
+use Rattle.base.specs.Choice.{bit}
+use Rattle.base.specs.ChoiceLaws.{and-left, and-right, and-both, or-cases}
+use Rattle.base.specs.Sums.{sumTo, countTo, anyTo}
+use Rattle.base.specs.SumLaws.{sumTo-cong, sumTo-most, sumTo-swap, Found, anyTo-of, anyTo-found, countTo-one, sumTo-least, sumTo-times, sumTo-pick-two}
+use Rattle.tables.specs.Table.{Fields, nOf, mOf, IsProcess, arcAt, saysWait}
+use Rattle.tables.specs.Layout.{IsArc, Right}
+use Rattle.tables.specs.Waits.{Waits, waitsOf, outDegree, neighbours}
+use Rattle.tables.specs.Sound.{arcCount, Sound}
 
 pub saysWait-from : (t : Fields) (a b k : ℕ) → saysWait t a b k ≡ true → arcAt t k .from ≡ a
 saysWait-from t a b k e = eqb-true (arcAt t k .from) a (and-left (eqb (arcAt t k .from) a) (eqb (arcAt t k .to) b) e)
@@ -41,14 +39,19 @@ waitsOf-P t a b = (λ e. found (anyTo-found (mOf t) (saysWait t a b) e), given)
 
     given : (k : ℕ) × IsArc t k × (arcAt t k .from ≡ a) × (arcAt t k .to ≡ b) → anyTo (mOf t) (saysWait t a b) ≡ true
     given w =
-        anyTo-of (mOf t) (saysWait t a b) (w .0) (w .1 .0) (w .1 .1) (and-both (eqb (arcAt t (w .0) .from) a) (eqb (arcAt t (w .0) .to) b) (eq-eqb (arcAt t (w .0) .from) a (w .2)) (eq-eqb (arcAt t (w .0) .to) b (w .3)))
+        anyTo-of (mOf t) (saysWait t a b) (w .0) (w .1 .0) (w .1 .1)
+        (and-both (eqb (arcAt t (w .0) .from) a) (eqb (arcAt t (w .0) .to) b) (eq-eqb (arcAt t (w .0) .from) a (w .2)) (eq-eqb (arcAt t (w .0) .to) b (w .3)))
 
 -- as many arcs say a wait as there are: one or none
 waitsOf-count : (t : Fields) → Right t → (a b : ℕ) → sumTo (mOf t) (λ k. bit (saysWait t a b k)) ≡ bit (waitsOf t .waits a b)
 unfolding waitsOf
-waitsOf-count t g a b = countTo-one (mOf t) (saysWait t a b) (λ j k l u l′ u′ e e′. g .unlike j k (l, u) (l′, u′) (saysWait-from t a b j e ∙ sym (saysWait-from t a b k e′), saysWait-to t a b j e ∙ sym (saysWait-to t a b k e′)))
+waitsOf-count t g a b =
+    countTo-one (mOf t) (saysWait t a b)
+    (λ j k l u l′ u′ e e′. g .unlike j k (l, u) (l′, u′)
+    (saysWait-from t a b j e ∙ sym (saysWait-from t a b k e′), saysWait-to t a b j e ∙ sym (saysWait-to t a b k e′)))
 
-pub waitsOf-sum : (t : Fields) → Right t → (g : ℕ → ℕ → ℕ) → sumTo (mOf t) (λ k. g (arcAt t k .from) (arcAt t k .to)) ≡ sumTo (nOf t) (λ a. sumTo (nOf t) (λ b. bit (waitsOf t .waits a b) * g a b))
+pub waitsOf-sum : (t : Fields) → Right t → (g : ℕ → ℕ → ℕ)
+    → sumTo (mOf t) (λ k. g (arcAt t k .from) (arcAt t k .to)) ≡ sumTo (nOf t) (λ a. sumTo (nOf t) (λ b. bit (waitsOf t .waits a b) * g a b))
 waitsOf-sum t r g =
     sumTo-cong m (λ k. g (arcAt t k .from) (arcAt t k .to)) (λ k. sumTo n (λ a. sumTo n (λ b. part k a b))) (λ k l u. sym (whole k (l, u)))
     ∙ sumTo-swap m n (λ k a. sumTo n (λ b. part k a b))
@@ -72,10 +75,11 @@ waitsOf-sum t r g =
     row : (a : ℕ) → sumTo m (λ k. sumTo n (λ b. part k a b)) ≡ sumTo n (λ b. bit (waitsOf t .waits a b) * g a b)
     row a = sumTo-swap m n (λ k b. part k a b) ∙ sumTo-cong n (λ b. sumTo m (λ k. part k a b)) (λ b. bit (waitsOf t .waits a b) * g a b) (λ b l u. cell a b)
 
-pub arcCount-is : (t : Fields) → Right t → arcCount (waitsOf t) ≡ mOf t
+arcCount-is : (t : Fields) → Right t → arcCount (waitsOf t) ≡ mOf t
 unfolding arcCount outDegree countTo waitsOf
 arcCount-is t r =
-    sumTo-cong n (λ a. sumTo n (λ b. bit (waitsOf t .waits a b))) (λ a. sumTo n (λ b. bit (waitsOf t .waits a b) * 1)) (λ a l u. sumTo-cong n (λ b. bit (waitsOf t .waits a b)) (λ b. bit (waitsOf t .waits a b) * 1) (λ b l′ u′. sym (mul-one (bit (waitsOf t .waits a b)))))
+    sumTo-cong n (λ a. sumTo n (λ b. bit (waitsOf t .waits a b))) (λ a. sumTo n (λ b. bit (waitsOf t .waits a b) * 1))
+    (λ a l u. sumTo-cong n (λ b. bit (waitsOf t .waits a b)) (λ b. bit (waitsOf t .waits a b) * 1) (λ b l′ u′. sym (mul-one (bit (waitsOf t .waits a b)))))
     ∙ sym (waitsOf-sum t r (λ a b. 1))
     ∙ ones (mOf t)
   where
@@ -86,10 +90,10 @@ arcCount-is t r =
     ones m = omega (arith, sumTo-most m 1 (λ k. 1) (λ k l u. omega arith), sumTo-least m (λ k. 1) (λ k l u. omega arith))
 
 -- the ends of the arc that says a wait are processes
-waitsOf-ends : (t : Fields) → Right t → (a b : ℕ) → waitsOf t .waits a b ≡ true → Process t a × Process t b
+waitsOf-ends : (t : Fields) → Right t → (a b : ℕ) → waitsOf t .waits a b ≡ true → IsProcess (nOf t) a × IsProcess (nOf t) b
 waitsOf-ends t r a b e = at (waitsOf-P t a b .0 e)
   where
-    at : (k : ℕ) × IsArc t k × (arcAt t k .from ≡ a) × (arcAt t k .to ≡ b) → Process t a × Process t b
+    at : (k : ℕ) × IsArc t k × (arcAt t k .from ≡ a) × (arcAt t k .to ≡ b) → IsProcess (nOf t) a × IsProcess (nOf t) b
     at w = let q = r .ends (w .0) (w .1) in (rw (w .2) at (q .0), rw (w .3) at (q .1))
 
 pub waitsOf-sound : (t : Fields) → Right t → Sound (waitsOf t)

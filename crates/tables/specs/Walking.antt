@@ -1,8 +1,10 @@
 -- A walk along one chain: how it is opened, and its step, on any bytes.
 --   openNumber bs p    == "Opening it .. checks 1 to 7, then 8 for that process": the first row that is met, 0 if none is
---   openedOf bs c p    == the answer: the arc that the walk stands at, or refused with the number
+--   orElse q r         == the first of two numbers that is no 0
+--   openAnswer, openedOf bs c p   == the answer: the arc that the walk stands at, or refused with the number
 --   openedNumber, openedArc   == for each case of that answer 01's number and value, zeros elsewhere
---   nextOf bs c k      == a step from arc k: the next arc, or the end
+--   arcInside bs k     == k is an arc by the bytes' own M, and its record lies wholly inside them
+--   nextAnswer, nextOf bs c k   == a step from arc k: the next arc, or the end
 --   nextArc            == for each case of that answer the arc's number, 0 at the end
 -- Assumes nothing.
 use Prim.Native.Nat.{ℕ, zero, suc}
@@ -14,12 +16,8 @@ use Rattle.base.specs.Choice.{choose}
 use Rattle.tables.specs.declared.Chain.{Chain}
 use Rattle.tables.specs.declared.Opened.{Opened}
 use Rattle.tables.specs.declared.Next.{Next}
-use Rattle.tables.specs.Table.{Fields, fieldOf, nOf, mOf, tableLength, first, arcAt, next}
+use Rattle.tables.specs.Table.{fieldOf, nOf, mOf, tableLength, isProcess, first, arcAt, next}
 use Rattle.tables.specs.Reading.{readNumber}
-
--- p is a process of the table
-unfoldable pub processRight : Fields → ℕ → Bool
-processRight t p = leb 1 p && leb p (nOf t)
 
 -- the first of two numbers that is no 0
 unfoldable pub orElse : ℕ → ℕ → ℕ
@@ -28,7 +26,7 @@ orElse (suc q) r = suc q
 
 -- "checks 1 to 7, then 8 for that process"
 unfoldable pub openNumber : List ℕ → ℕ → ℕ
-openNumber bs p = orElse (readNumber bs) (choose (processRight (fieldOf bs) p) 0 8)
+openNumber bs p = orElse (readNumber bs) (choose (isProcess (nOf (fieldOf bs)) p) 0 8)
 
 unfoldable pub openAnswer : ℕ → ℕ → Opened
 openAnswer zero k = Opened.At k

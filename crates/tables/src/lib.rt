@@ -1,7 +1,7 @@
-// Wait tables (01, "Wait table"): read, written and followed, on any bytes. Reading and the walk refuse by the rows 1 to 8 of "Refused
-// because of the input", the writer by 10, 2, 4, 7 and 11. It stands on the crate `base` alone.
-pub mod reader;
-pub mod writer;
+// Wait tables (01, "Wait table"): what a table is (specs), the types of the answers, and the one test of a process. The crate
+// `table_reader` reads and follows tables, `table_writer` writes them. It stands on the crate `base` alone.
+ghost use mathlib.Core.Path.{_≡_};
+ghost use Rattle.tables.specs.Table.{isProcess};
 
 // The two chains of a process.
 pub enum Chain {
@@ -35,8 +35,12 @@ pub enum Next {
     End,
 }
 
-// The answer of writing a table: its length in bytes, or the number of the refusal.
-pub enum Writing {
-    Written(usize),
-    Refused(u32),
+// p is one of n processes.
+pub fn is_process(p: usize, n: usize) -> bool
+    ensures { λ r. ⌜ r ≡ isProcess n p ⌝ }
+{
+    if p == 0 {
+        return false;
+    }
+    p <= n
 }

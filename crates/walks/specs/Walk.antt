@@ -2,9 +2,10 @@
 -- at, 0 if at none, and the number of its opening's refusal, 0 if it was accepted.
 --   openedWalk table c p   == the walk that opening leaves, along chain c of process p
 --   gives w           == what a step of w gives: the next arc, or the end
---   stepped w         == w after a step
+--   steppedWalk w     == w after a step
 --   stepsOn i w       == w after i steps
---   walked f w        == the arcs that w stands at, from where it is until it stands at none; at most f of them
+--   before k ks       == arc k before others, none if it is 0
+--   arcsMet f w       == the arcs that w stands at, from where it is until it stands at none; at most f of them
 --   WholeWalk table c p ks   == ks are the arcs of a walk along chain c of p, from its opening to the end, in chain order, each once
 -- openedOf, nextOf and Follows are of the crate tables (Walking and Chains), which says what an opening and a step answer on any bytes,
 -- and what a chain is as a list.
@@ -39,21 +40,21 @@ abbrev pub gives : Walk → Next
 gives w = nextOf (now (w .table)) (w .chain) (w .arc)
 
 -- "Steps keep to the chain named": only the arc is another, 0 at the end
-abbrev pub stepped : Walk → Walk
-stepped w = record { table = w .table; chain = w .chain; arc = nextArc (gives w); number = w .number }
+abbrev pub steppedWalk : Walk → Walk
+steppedWalk w = record { table = w .table; chain = w .chain; arc = nextArc (gives w); number = w .number }
 
 unfoldable pub stepsOn : ℕ → Walk → Walk
 stepsOn zero w = w
-stepsOn (suc i) w = stepsOn i (stepped w)
+stepsOn (suc i) w = stepsOn i (steppedWalk w)
 
 -- an arc before others, none if it is 0
 abbrev pub before : ℕ → List ℕ → List ℕ
 before zero ks = []
 before (suc k) ks = suc k ∷ ks
 
-unfoldable pub walked : ℕ → Walk → List ℕ
-walked zero w = []
-walked (suc f) w = before (w .arc) (walked f (stepped w))
+unfoldable pub arcsMet : ℕ → Walk → List ℕ
+arcsMet zero w = []
+arcsMet (suc f) w = before (w .arc) (arcsMet f (steppedWalk w))
 
 pub record WholeWalk (table : RefT (List ℕ)) (c : Chain) (p : ℕ) (ks : List ℕ) : Type 0 where
   -- the opening is accepted

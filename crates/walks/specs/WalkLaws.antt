@@ -1,13 +1,10 @@
 -- Laws of walks.
 --   whole-walk      == on a table that meets the layout, what a walk meets is the whole chain of its process
---   walked-met      == that list is the chain's (met, crate tables), however many steps beyond M are allowed
+--   arcsMet-met     == that list is the chain's (met, crate tables), however many steps beyond M are allowed
 --   opened-P        == an opening is accepted exactly if the bytes meet the layout and p is a process of the table
---   opening-P, opening-number   == the same on the bytes alone; and the number is that of checks 1 to 8
 --   refused-stands  == a walk whose opening was refused stands at 0
 --   keeps           == "Steps keep to the chain named", and to the table and the number
 --   gives-zero, gives-over, gives-past   == "from an arc number that is 0, over M or past the lent bytes it gives the end", on any bytes
---   next-place      == a step from the chain's place i gives the place after it
---   place-met, place-low, place-past   == the chain's places are its list, and 0 past it
 -- Assumes nothing.
 use Prim.Native.Nat.{ℕ, zero, suc, _≤_, _<_}
 use mathlib.Core.Bool.{Bool, true, _&&_}
@@ -19,22 +16,22 @@ use lib.ListN.{length, getD, List·getD-eq-default}
 use borrow.Author.Tests.{le-leb, leb-true}
 use native.Mathlib.Omega.{arith}
 use denote.Ref.{RefT, now}
-use Rattle.base.specs.Choice.{choose, Tested, passed, failed, tested, and-left, and-right, and-both}
-use Rattle.base.specs.Counts.{bit-same}
+use Rattle.base.specs.Choice.{choose}
+use Rattle.base.specs.ChoiceLaws.{Tested, passed, failed, tested, and-left, and-right, bit-same}
 use Rattle.tables.specs.declared.Chain.{Chain}
 use Rattle.tables.specs.declared.Next.{Next}
 use Rattle.tables.specs.declared.Opened.{Opened}
-use Rattle.tables.specs.Table.{Fields, fieldOf, nOf, mOf, tableLength, first, arcAt, near, next, after, place}
-use Rattle.tables.specs.Layout.{Process, Right, Accepted}
+use Rattle.tables.specs.Table.{Fields, fieldOf, nOf, mOf, tableLength, IsProcess, isProcess, first, arcAt, near, next, follow, place}
+use Rattle.tables.specs.TableLaws.{isProcess-P}
+use Rattle.tables.specs.Layout.{Right, MeetsLayout}
 use Rattle.tables.specs.LayoutLaws.{accepted-P}
 use Rattle.tables.specs.Reading.{readNumber}
-use Rattle.tables.specs.Walking.{processRight, orElse, openNumber, openAnswer, openedOf, openedNumber, openedArc, arcInside, nextAnswer, nextOf, nextArc}
-use Rattle.tables.specs.Chains.{Follows, stop, go, steps, along, met}
+use Rattle.tables.specs.Walking.{orElse, openNumber, openAnswer, openedOf, openedNumber, openedArc, arcInside, nextAnswer, nextOf, nextArc}
+use Rattle.tables.specs.Chains.{Follows, stop, go, steps, along, met, Listed}
 use Rattle.tables.specs.ChainLaws.{place-steps, follows-along, follows-steps}
-use Rattle.tables.specs.ChainTest.{Listed}
 use Rattle.tables.specs.MetLaws.{met-listed}
 use Rattle.walks.specs.declared.Walk.{Walk}
-use Rattle.walks.specs.Walk.{openedWalk, gives, stepped, stepsOn, walked, WholeWalk}
+use Rattle.walks.specs.Walk.{openedWalk, gives, steppedWalk, stepsOn, arcsMet, WholeWalk}
 
 -- ---- a step, on any bytes
 
@@ -81,7 +78,7 @@ gives-past w h = outside (now (w .table)) (w .chain) (w .arc) (λ i. omega arith
 pub keeps : (i : ℕ) (w : Walk) → (stepsOn i w .table ≡ w .table) × (stepsOn i w .chain ≡ w .chain) × (stepsOn i w .number ≡ w .number)
 unfolding stepsOn
 keeps zero w = (refl, refl, refl)
-keeps (suc i) w = keeps i (stepped w)
+keeps (suc i) w = keeps i (steppedWalk w)
 
 -- ---- opening
 
@@ -95,44 +92,37 @@ unfolding openAnswer
 openAnswer-stands zero k h = absurd (h refl)
 openAnswer-stands (suc n) k h = refl
 
-pub opening-number : (bs : List ℕ) (c : Chain) (p : ℕ) → openedNumber (openedOf bs c p) ≡ openNumber bs p
+opening-number : (bs : List ℕ) (c : Chain) (p : ℕ) → openedNumber (openedOf bs c p) ≡ openNumber bs p
 unfolding openedOf
 opening-number bs c p = openAnswer-number (openNumber bs p) (first c (fieldOf bs) p)
 
 -- checks 1 to 8 find nothing
 record Accepts (bs : List ℕ) (p : ℕ) : Type 0 where
   read : readNumber bs ≡ 0
-  process : processRight (fieldOf bs) p ≡ true
+  process : isProcess (nOf (fieldOf bs)) p ≡ true
 
 accepts : (bs : List ℕ) (p : ℕ) → openNumber bs p ≡ 0 → Accepts bs p
 unfolding openNumber orElse
-accepts bs p e = at (readNumber bs) refl (tested (processRight (fieldOf bs) p)) e
+accepts bs p e = at (readNumber bs) refl (tested (isProcess (nOf (fieldOf bs)) p)) e
   where
-    at : (n : ℕ) → readNumber bs ≡ n → Tested (processRight (fieldOf bs) p) → orElse n (choose (processRight (fieldOf bs) p) 0 8) ≡ 0 → Accepts bs p
+    at : (n : ℕ) → readNumber bs ≡ n → Tested (isProcess (nOf (fieldOf bs)) p) → orElse n (choose (isProcess (nOf (fieldOf bs)) p) 0 8) ≡ 0 → Accepts bs p
     at zero r (passed q) h = record { read = r; process = q }
     at zero r (failed q) h = absurd (omega (arith, rw q at h))
     at (suc n) r q h = absurd (omega arith)
 
-process-of : (t : Fields) (p : ℕ) → processRight t p ≡ true → Process t p
-unfolding processRight
-process-of t p e = (leb-true 1 p (and-left (leb 1 p) (leb p (nOf t)) e), leb-true p (nOf t) (and-right (leb 1 p) (leb p (nOf t)) e))
-
-process-right : (t : Fields) (p : ℕ) → Process t p → processRight t p ≡ true
-unfolding processRight
-process-right t p (low, high) = and-both (leb 1 p) (leb p (nOf t)) (le-leb 1 p low) (le-leb p (nOf t) high)
-
-pub opened-first : (bs : List ℕ) (c : Chain) (p : ℕ) → Accepted bs → Process (fieldOf bs) p → openedOf bs c p ≡ Opened.At (first c (fieldOf bs) p)
+opened-first : (bs : List ℕ) (c : Chain) (p : ℕ) → MeetsLayout bs → IsProcess (nOf (fieldOf bs)) p → openedOf bs c p ≡ Opened.At (first c (fieldOf bs) p)
 unfolding openedOf openNumber orElse openAnswer
-opened-first bs c p good q = rw (accepted-P bs .1 good, process-right (fieldOf bs) p q)
+opened-first bs c p good q = rw (accepted-P bs .1 good, isProcess-P (nOf (fieldOf bs)) p .1 q)
 
-pub opening-P : (bs : List ℕ) (c : Chain) (p : ℕ) → (openedNumber (openedOf bs c p) ≡ 0) ↔ (Accepted bs × Process (fieldOf bs) p)
-opening-P bs c p = (
-  λ e. let a : Accepts bs p = accepts bs p (sym (opening-number bs c p) ∙ e) in (accepted-P bs .0 (a .read), process-of (fieldOf bs) p (a .process)),
-  λ g. ap openedNumber (opened-first bs c p (g .0) (g .1)),
-)
+opened-P : (table : RefT (List ℕ)) (c : Chain) (p : ℕ)
+    → (openedWalk table c p .number ≡ 0) ↔ (MeetsLayout (now table) × IsProcess (nOf (fieldOf (now table))) p)
+opened-P table c p = (λ e. met (accepts bs p (sym (opening-number bs c p) ∙ e)), λ g. ap openedNumber (opened-first bs c p (g .0) (g .1)))
+  where
+    bs : List ℕ
+    bs = now table
 
-pub opened-P : (table : RefT (List ℕ)) (c : Chain) (p : ℕ) → (openedWalk table c p .number ≡ 0) ↔ (Accepted (now table) × Process (fieldOf (now table)) p)
-opened-P table c p = opening-P (now table) c p
+    met : Accepts bs p → MeetsLayout bs × IsProcess (nOf (fieldOf bs)) p
+    met a = (accepted-P bs .0 (a .read), isProcess-P _ p .0 (a .process))
 
 pub refused-stands : (table : RefT (List ℕ)) (c : Chain) (p : ℕ) → (openedWalk table c p .number ≡ 0 → ⊥) → openedWalk table c p .arc ≡ 0
 unfolding openedOf
@@ -140,7 +130,7 @@ refused-stands table c p h = openAnswer-stands (openNumber (now table) p) (first
 
 -- ---- the walk on a table that meets the layout
 
-pub nextArc-answer : (k : ℕ) → nextArc (nextAnswer k) ≡ k
+nextArc-answer : (k : ℕ) → nextArc (nextAnswer k) ≡ k
 unfolding nextAnswer
 nextArc-answer zero = refl
 nextArc-answer (suc k) = refl
@@ -161,50 +151,56 @@ follows-low i stop h = absurd (omega arith)
 follows-low zero (go f) h = omega arith
 follows-low (suc i) (go f) h = follows-low i f (omega arith)
 
-module _ (bs : List ℕ) (good : Accepted bs) (c : Chain) where
+module _ (bs : List ℕ) (good : MeetsLayout bs) (c : Chain) where
   inside : (k : ℕ) → 1 ≤ k → k ≤ mOf (fieldOf bs) → nextOf bs c k ≡ nextAnswer (next c (arcAt (fieldOf bs) k))
   unfolding nextOf arcInside
   inside k low high =
       let long : length bs ≡ tableLength (nOf (fieldOf bs)) (mOf (fieldOf bs)) = good .long in
-      rw (le-leb 4 (length bs) (omega arith), le-leb 1 k low, le-leb k (mOf (fieldOf bs)) high, le-leb (tableLength (nOf (fieldOf bs)) k) (length bs) (omega arith))
+      rw (
+        le-leb 4 (length bs) (omega arith),
+        le-leb 1 k low,
+        le-leb k (mOf (fieldOf bs)) high,
+        le-leb (tableLength (nOf (fieldOf bs)) k) (length bs)
+            (omega arith),
+      )
 
-  answers : (k : ℕ) → k ≤ mOf (fieldOf bs) → nextOf bs c k ≡ nextAnswer (after c (fieldOf bs) k)
-  unfolding after nextAnswer
+  answers : (k : ℕ) → k ≤ mOf (fieldOf bs) → nextOf bs c k ≡ nextAnswer (follow c (fieldOf bs) k)
+  unfolding follow nextAnswer
   answers zero high = outside bs c 0 (λ i. omega arith)
   answers (suc k) high = inside (suc k) (omega arith) high
 
-  leads : (k : ℕ) → k ≤ mOf (fieldOf bs) → nextArc (nextOf bs c k) ≡ after c (fieldOf bs) k
-  leads k high = ap nextArc (answers k high) ∙ nextArc-answer (after c (fieldOf bs) k)
+  leads : (k : ℕ) → k ≤ mOf (fieldOf bs) → nextArc (nextOf bs c k) ≡ follow c (fieldOf bs) k
+  leads k high = ap nextArc (answers k high) ∙ nextArc-answer (follow c (fieldOf bs) k)
 
-  after-inside : (k : ℕ) → k ≤ mOf (fieldOf bs) → after c (fieldOf bs) k ≤ mOf (fieldOf bs)
-  unfolding after
-  after-inside zero high = omega arith
-  after-inside (suc k) high = good .right .nexts c (suc k) (omega arith, high)
+  follow-inside : (k : ℕ) → k ≤ mOf (fieldOf bs) → follow c (fieldOf bs) k ≤ mOf (fieldOf bs)
+  unfolding follow
+  follow-inside zero high = omega arith
+  follow-inside (suc k) high = good .right .nexts c (suc k) (omega arith, high)
 
-  place-inside : (p : ℕ) → Process (fieldOf bs) p → (i : ℕ) → place c (fieldOf bs) p i ≤ mOf (fieldOf bs)
+  place-inside : (p : ℕ) → IsProcess (nOf (fieldOf bs)) p → (i : ℕ) → place c (fieldOf bs) p i ≤ mOf (fieldOf bs)
   unfolding place
   place-inside p q zero = good .right .firsts c p q
-  place-inside p q (suc i) = after-inside (place c (fieldOf bs) p i) (place-inside p q i)
+  place-inside p q (suc i) = follow-inside (place c (fieldOf bs) p i) (place-inside p q i)
 
-  pub next-place : (p : ℕ) → Process (fieldOf bs) p → (i : ℕ) → nextOf bs c (place c (fieldOf bs) p i) ≡ nextAnswer (place c (fieldOf bs) p (suc i))
+  next-place : (p : ℕ) → IsProcess (nOf (fieldOf bs)) p → (i : ℕ) → nextOf bs c (place c (fieldOf bs) p i) ≡ nextAnswer (place c (fieldOf bs) p (suc i))
   unfolding place
   next-place p q i = answers (place c (fieldOf bs) p i) (place-inside p q i)
 
-module _ (t : Fields) (right : Right t) (c : Chain) (p : ℕ) (own : Process t p) where
+module _ (t : Fields) (right : Right t) (c : Chain) (p : ℕ) (own : IsProcess (nOf t) p) where
   listed : Listed c t p (met c t p)
   listed = met-listed t right c p own
 
-  pub place-met : (i : ℕ) → place c t p i ≡ getD (met c t p) i 0
+  place-met : (i : ℕ) → place c t p i ≡ getD (met c t p) i 0
   place-met i = place-steps c t p i ∙ follows-steps i (listed .follows)
 
   -- the places of the chain's arcs, and the others
-  pub place-low : (i : ℕ) → i < length (met c t p) → 1 ≤ place c t p i
+  place-low : (i : ℕ) → i < length (met c t p) → 1 ≤ place c t p i
   place-low i h = rw (place-met i) (follows-low i (listed .follows) h)
 
-  pub place-past : (i : ℕ) → length (met c t p) ≤ i → place c t p i ≡ 0
+  place-past : (i : ℕ) → length (met c t p) ≤ i → place c t p i ≡ 0
   place-past i h = place-met i ∙ List·getD-eq-default (met c t p) 0 h
 
-module _ (table : RefT (List ℕ)) (good : Accepted (now table)) (c : Chain) where
+module _ (table : RefT (List ℕ)) (good : MeetsLayout (now table)) (c : Chain) where
   abbrev t : Fields
   t = fieldOf (now table)
 
@@ -216,25 +212,27 @@ module _ (table : RefT (List ℕ)) (good : Accepted (now table)) (c : Chain) whe
   unfolding stepsOn steps
   stepsOn-steps zero n k high = refl
   stepsOn-steps (suc i) n k high =
-      ap (λ (j : ℕ). stepsOn i (at n j)) (leads (now table) good c k high) ∙ stepsOn-steps i n (after c t k) (after-inside (now table) good c k high)
+      ap (λ (j : ℕ). stepsOn i (at n j)) (leads (now table) good c k high) ∙ stepsOn-steps i n (follow c t k) (follow-inside (now table) good c k high)
 
-  walked-along : (f n k : ℕ) → k ≤ mOf t → walked f (at n k) ≡ along c t f k
-  unfolding walked along after
-  walked-along zero n k high = refl
-  walked-along (suc f) n zero high = refl
-  walked-along (suc f) n (suc k) high =
-      ap {B = List ℕ} (λ ks. suc k ∷ ks) (ap (λ (j : ℕ). walked f (at n j)) (leads (now table) good c (suc k) high) ∙ walked-along f n (next c (arcAt t (suc k))) (after-inside (now table) good c (suc k) high))
+  arcsMet-along : (f n k : ℕ) → k ≤ mOf t → arcsMet f (at n k) ≡ along c t f k
+  unfolding arcsMet along follow
+  arcsMet-along zero n k high = refl
+  arcsMet-along (suc f) n zero high = refl
+  arcsMet-along (suc f) n (suc k) high =
+      ap {B = List ℕ} (λ ks. suc k ∷ ks)
+      (ap (λ (j : ℕ). arcsMet f (at n j)) (leads (now table) good c (suc k) high)
+      ∙ arcsMet-along f n (next c (arcAt t (suc k))) (follow-inside (now table) good c (suc k) high))
 
-  module _ (p : ℕ) (own : Process t p) where
+  module _ (p : ℕ) (own : IsProcess (nOf t) p) where
     opened-at : openedWalk table c p ≡ at 0 (first c t p)
     opened-at = ap (λ (o : Opened). at (openedNumber o) (openedArc o)) (opened-first (now table) c p good own)
 
     mine : Listed c t p (met c t p)
     mine = met-listed t (good .right) c p own
 
-    pub walked-met : (f : ℕ) → mOf t ≤ f → walked f (openedWalk table c p) ≡ met c t p
-    walked-met f enough =
-        ap (walked f) opened-at ∙ walked-along f 0 (first c t p) (good .right .firsts c p own) ∙ follows-along f (mine .follows) (omega (arith, mine .short))
+    arcsMet-met : (f : ℕ) → mOf t ≤ f → arcsMet f (openedWalk table c p) ≡ met c t p
+    arcsMet-met f enough =
+        ap (arcsMet f) opened-at ∙ arcsMet-along f 0 (first c t p) (good .right .firsts c p own) ∙ follows-along f (mine .follows) (omega (arith, mine .short))
 
     -- after i steps it stands at the chain's place i
     at-place : (i : ℕ) → stepsOn i (openedWalk table c p) ≡ at 0 (place c t p i)
@@ -248,7 +246,9 @@ module _ (table : RefT (List ℕ)) (good : Accepted (now table)) (c : Chain) whe
         record {
           opened = opened-P table c p .1 (good, own);
           stands = λ i. ap (λ (w : Walk). w .arc) (at-place i) ∙ place-met t (good .right) c p own i;
-          goes-on = λ i h. gives-place i ∙ nextAnswer-arc (place c t p (suc i)) (place-low t (good .right) c p own (suc i) h) ∙ ap Next.Arc (place-met t (good .right) c p own (suc i));
+          goes-on =
+              λ i h. gives-place i ∙ nextAnswer-arc (place c t p (suc i)) (place-low t (good .right) c p own (suc i) h)
+              ∙ ap Next.Arc (place-met t (good .right) c p own (suc i));
           ends = λ i h. gives-place i ∙ nextAnswer-end (place c t p (suc i)) (place-past t (good .right) c p own (suc i) h);
           order = mine .follows;
           once = λ k a e. mine .counts k a ∙ bit-same (near c (arcAt t k)) p e;
@@ -256,5 +256,5 @@ module _ (table : RefT (List ℕ)) (good : Accepted (now table)) (c : Chain) whe
         }
 
     -- "It meets each arc with from = p once and meets nothing else": and so does the walk
-    pub whole-walk : (f : ℕ) → mOf t ≤ f → WholeWalk table c p (walked f (openedWalk table c p))
-    whole-walk f enough = rw (walked-met f enough) met-whole
+    pub whole-walk : (f : ℕ) → mOf t ≤ f → WholeWalk table c p (arcsMet f (openedWalk table c p))
+    whole-walk f enough = rw (arcsMet-met f enough) met-whole

@@ -1,16 +1,15 @@
 // A walk along one chain (01, "Wait table"): it carries the table that it reads and the arc that it has come to. The functions over the
-// struct `Walk` are thin: each takes it apart and leaves the work to one on the slice and the numbers, in `places`.
-pub mod counting;
-pub mod places;
+// struct `Walk` are thin: each takes it apart and leaves the work to one on the slice and the numbers, in `places`. An opening is refused by
+// the rows 1 to 8. It stands on `base`, `tables` and `table_reader`.
+mod places;
 
 use crate::places::opening;
 use crate::places::stepping;
 use tables::Chain;
 use tables::Next;
-use tables::reader;
 ghost use mathlib.Core.Path.{_≡_};
 ghost use Rattle.tables.specs.Walking.{nextOf};
-ghost use Rattle.walks.specs.Walk.{openedWalk, gives, stepped};
+ghost use Rattle.walks.specs.Walk.{openedWalk, gives, steppedWalk};
 
 // The table, the chain that is followed, the arc that the walk stands at, 0 if at none, and the number of the opening's refusal, 0 if it
 // was accepted.
@@ -39,12 +38,12 @@ pub fn open_walk<'a>(table: &'a [u8], chain: Chain, p: usize) -> Walk<'a>
 pub fn next_arc<'a>(w: Walk<'a>) -> Next
     ensures { λ r. ⌜ r ≡ gives (w .entry) ⌝ }
 {
-    reader::next(w.table, w.chain, w.arc)
+    table_reader::next(w.table, w.chain, w.arc)
 }
 
 // "Steps keep to the chain named. A step gives the next arc or the end": the walk moves there, and stands at 0 from the end on.
 pub fn step<'s, 'a>(w: &'s mut Walk<'a>) -> Next
-    ensures { λ r. ⌜ (r ≡ gives (now (w .entry))) × (now (w .exit) ≡ stepped (now (w .entry))) ⌝ }
+    ensures { λ r. ⌜ (r ≡ gives (now (w .entry))) × (now (w .exit) ≡ steppedWalk (now (w .entry))) ⌝ }
 {
     let s = stepping(w.table, w.chain, w.arc);
     w.arc = s.arc;

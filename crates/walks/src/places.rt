@@ -2,7 +2,6 @@
 use tables::Chain;
 use tables::Next;
 use tables::Opened;
-use tables::reader;
 ghost use mathlib.Core.Path.{_≡_};
 ghost use Rattle.tables.specs.Walking.{openedOf, nextOf};
 ghost use Rattle.walks.specs.Places.{placeOf, stepOf};
@@ -23,7 +22,7 @@ pub struct Step {
 pub fn opening(table: &[u8], chain: Chain, p: usize) -> Place
     ensures { λ r. ⌜ r ≡ placeOf (openedOf (now (table .entry)) chain p) ⌝ }
 {
-    match reader::open(table, chain, p) {
+    match table_reader::open(table, chain, p) {
         Opened::At(arc) => Place { arc, number: 0 },
         Opened::Refused(number) => Place { arc: 0, number },
     }
@@ -33,7 +32,7 @@ pub fn opening(table: &[u8], chain: Chain, p: usize) -> Place
 pub fn stepping(table: &[u8], chain: Chain, arc: usize) -> Step
     ensures { λ r. ⌜ r ≡ stepOf (nextOf (now (table .entry)) chain arc) ⌝ }
 {
-    let next = reader::next(table, chain, arc);
+    let next = table_reader::next(table, chain, arc);
     match next {
         Next::Arc(k) => Step { next, arc: k },
         Next::End => Step { next, arc: 0 },

@@ -1,6 +1,7 @@
--- `inputs::pick_at` meets its contract: the four bytes of a pick lie inside the input, and its two fields are those of the part that begins at the table's end.
+-- `inputs::pick_at` meets its contract: the four bytes of a pick lie inside the input, and its two fields are those of the part that
+-- begins at the table's end.
 -- Assumes nothing.
-use Prim.Native.Nat.{_+_, _*_, _≤_, _<_}
+use Prim.Native.Nat.{_+_, _*_, _≤_}
 use borrow.Author.Needs.{needs}
 use native.Mathlib.Omega.{arith}
 use lib.ListN.{length}

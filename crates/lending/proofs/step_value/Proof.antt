@@ -12,7 +12,8 @@ use Rattle.lending.specs.Lent.{lentAnswer, lentRecord}
 use Rattle.lending.proofs.step_value.Statement.{statement}
 use Rattle.lending.proofs.step_value.Tie as tie
 
-taken : {a r : Stepped} {x : Process} {y : Probes} {z : Reply} (old : Process) → r ≡ a → r ≡ Stepped.Taken x y z → (x ≡ lentRecord old a) × (Lent.Taken y z ≡ lentAnswer a)
+taken : {a r : Stepped} {x : Process} {y : Probes} {z : Reply} (old : Process) → r ≡ a → r ≡ Stepped.Taken x y z → (x ≡ lentRecord old a) ×
+    (Lent.Taken y z ≡ lentAnswer a)
 unfolding lentRecord lentAnswer
 taken old p q = (rw (sym p ∙ q), rw (sym p ∙ q))
 

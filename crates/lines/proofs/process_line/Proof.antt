@@ -17,7 +17,9 @@ returns c =
     let c2 = c3 .before .before .before .before in
     let c1 = c2 .before .before .before .before in
     let a = c1 .before .before .before .before in
-    added-line (c1 .put-word .ensures added-then c2 .put-field .ensures added-then c3 .put-flags .ensures added-then (rw (signed-back (a .args .x .cs) (c4 .before .struct-told .given .1 .1 .1 .0 .1)) at (c4 .put-count-field .ensures)) added-then c5 .put-field2 .ensures added-then c6 .put-word2 .ensures) (omega (arith, a .pre))
+    added-line (c1 .put-word .ensures added-then c2 .put-field .ensures added-then c3 .put-flags .ensures added-then
+    (rw (signed-back (a .args .x .cs) (c4 .before .struct-told .given .1 .1 .1 .0 .1)) at (c4 .put-count-field .ensures))
+    added-then c5 .put-field2 .ensures added-then c6 .put-word2 .ensures) (omega (arith, a .pre))
 
 pub process-line-spec : {M : Type 1} → statement M
 process-line-spec =

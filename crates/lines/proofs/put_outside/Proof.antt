@@ -13,7 +13,8 @@ returns c =
     let c2 = c3 .before .before .before .before .before in
     let c1 = c2 .before .before .before .before in
     let a = c1 .before .before .before .before in
-    c1 .put-word .ensures added-then (rw (signed-back (a .args .outside) (a .fits .outside .sfits)) at (c2 .put-count-field .ensures)) added-then c3 .put-word2 .ensures
+    c1 .put-word .ensures added-then (rw (signed-back (a .args .outside) (a .fits .outside .sfits)) at (c2 .put-count-field .ensures))
+    added-then c3 .put-word2 .ensures
 
 pub put-outside-spec : {M : Type 1} → statement M
 put-outside-spec =

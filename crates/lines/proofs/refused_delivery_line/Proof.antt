@@ -14,7 +14,8 @@ returns c =
     let c2 = c3 .before .before .before .before in
     let c1 = c2 .before .before .before .before .before in
     let a = c1 .before .before .before in
-    added-line (c1 .put-link .ensures added-then c2 .put-word .ensures added-then c3 .put-field .ensures added-then c4 .put-word2 .ensures) (omega (arith, a .pre))
+    added-line (c1 .put-link .ensures added-then c2 .put-word .ensures added-then c3 .put-field .ensures added-then c4 .put-word2 .ensures)
+    (omega (arith, a .pre))
 
 pub refused-delivery-line-spec : {M : Type 1} → statement M
 refused-delivery-line-spec =

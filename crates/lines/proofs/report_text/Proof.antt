@@ -16,7 +16,9 @@ returns c =
     let c2 = c3 .before .before .before .before in
     let c1 = c2 .before .before .before .before in
     let a = c1 .before .before .before .before in
-    added-line (c1 .put-number-line .ensures added-then c2 .put-verdict .ensures added-then (rw (signed-back (a .args .outside) (a .fits .outside .sfits)) at (c3 .put-outside .ensures)) added-then c4 .put-number-line2 .ensures added-then c5 .put-mark .ensures) (omega (arith, a .pre))
+    added-line (c1 .put-number-line .ensures added-then c2 .put-verdict .ensures added-then
+    (rw (signed-back (a .args .outside) (a .fits .outside .sfits)) at (c3 .put-outside .ensures)) added-then c4 .put-number-line2 .ensures
+    added-then c5 .put-mark .ensures) (omega (arith, a .pre))
 
 pub report-text-spec : {M : Type 1} → statement M
 report-text-spec =

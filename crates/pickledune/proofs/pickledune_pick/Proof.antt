@@ -3,7 +3,8 @@
 use mathlib.Core.Path.{ap, _∙_}
 use borrow.Author.Needs.{needs}
 use Rattle.steps.proofs.Counts.{signed-back}
-use Rattle.checks.specs.Calls.{deliveryNumber, deliveryKind, deliveryCount}
+use Rattle.checks.specs.Calls.{deliveryNumber}
+use Rattle.pickledune.specs.Values.{deliveryKind, deliveryCount}
 use Rattle.pickledune.proofs.pickledune_pick.Statement.{statement}
 use Rattle.pickledune.proofs.pickledune_pick.Tie as tie
 

@@ -4,7 +4,8 @@ use mathlib.Core.Path.{ap, _∙_}
 use borrow.Author.Needs.{needs}
 use Rattle.steps.proofs.Counts.{signed-back}
 use Rattle.steps.specs.declared.Process.{Process}
-use Rattle.checks.specs.Calls.{readingNumber, readingProcess}
+use Rattle.checks.specs.Calls.{readingNumber}
+use Rattle.pickledune.specs.Values.{readingProcess}
 use Rattle.pickledune.proofs.pickledune_read_record.Statement.{statement}
 use Rattle.pickledune.proofs.pickledune_read_record.Tie as tie
 

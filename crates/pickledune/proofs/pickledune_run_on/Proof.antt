@@ -1,7 +1,8 @@
 -- `pickledune_run_on` meets its contract: the values of what running on answers, and the area that it leaves. Assumes nothing.
 use mathlib.Core.Path.{ap, _∙_}
 use borrow.Author.Needs.{needs}
-use Rattle.checks.specs.Calls.{ranNumber, ranOver, ranMade}
+use Rattle.machine.specs.Calls.{ranNumber, ranMade}
+use Rattle.pickledune.specs.Values.{ranOver}
 use Rattle.pickledune.proofs.pickledune_run_on.Statement.{statement}
 use Rattle.pickledune.proofs.pickledune_run_on.Tie as tie
 

@@ -3,7 +3,7 @@
 use Prim.Native.Nat.{_≤_}
 use native.Mathlib.Omega.{arith}
 use borrow.Author.Needs.{needs}
-use Rattle.printing.proofs.Ends.{lowest-small, own-left}
+use Rattle.choosing.proofs.OnLink.{left-small}
 use Rattle.printing.proofs.print_own.Statement.{statement}
 use Rattle.printing.proofs.print_own.Tie as tie
 
@@ -11,7 +11,7 @@ use Rattle.printing.proofs.print_own.Tie as tie
 small : (c : tie.After-known-told) → let g = c .before .from .given .0 in (g .0 ≤ 128) × (g .1 .0 ≤ 128)
 small c =
     let d = c .before .before .before .before in
-    lowest-small (d .before .before .before .before .pre .0) _ (d .deliver-lowest .ensures .0) _ _ _ (c .before .from .given .1)
+    left-small (d .before .before .before .pre .0) (d .deliver-next .ensures) (c .before .from .given .1)
 
 cast-print-delivery : tie.Need-cast-print-delivery
 cast-print-delivery c = omega (arith, small c .0)
@@ -20,16 +20,10 @@ cast-print-delivery-2 : tie.Need-cast-print-delivery-2
 cast-print-delivery-2 c = omega (arith, small c .1)
 
 returns : tie.Need-returns
-returns c =
-    let d = c .before .before .before .before .before in
-    let s = d .before .before .before .before in
-    own-left (s .pre .0) (d .deliver-lowest .ensures) (s .pre .1 .1 .1)
+returns c = let d = c .before .before .before .before .before in (d .deliver-next .ensures .1 .1 .1, d .deliver-next .ensures .1 .1 .0)
 
 returns-2 : tie.Need-returns-2
-returns-2 c =
-    let d = c .before .before .before .before .before in
-    let s = d .before .before .before .before in
-    own-left (s .pre .0) (d .deliver-lowest .ensures) (s .pre .1 .1 .1)
+returns-2 c = let d = c .before .before .before .before .before in (d .deliver-next .ensures .1 .1 .1, d .deliver-next .ensures .1 .1 .0)
 
 pub print-own-spec : {M : Type 1} → statement M
 print-own-spec =

@@ -1,11 +1,19 @@
 -- `printing::print_pick` meets its contract: the area that a pick leaves is ready.
 -- Assumes nothing.
+use Prim.Native.Nat.{ℕ}
+use mathlib.Core.List.{List}
+use mathlib.Core.Path.{_≡_}
 use borrow.Author.Needs.{needs}
 use denote.Ref.{now}
-use Rattle.moves.specs.Ready.{Ready}
-use Rattle.printing.proofs.Ends.{picked-ready}
+use lib.IntN.{ℤ}
+use Rattle.lenses.specs.Ready.{Ready}
+use Rattle.runs.specs.AreaCalls.{pickArea}
+use Rattle.runs.specs.CallLaws.{pick-ready}
 use Rattle.printing.proofs.print_pick.Statement.{statement}
 use Rattle.printing.proofs.print_pick.Tie as tie
+
+picked-ready : {w : List ℤ} {sq : List ℕ} {n m : ℕ} → Ready w sq n m → (a b : ℕ) {v : List ℤ} → v ≡ pickArea w a b → Ready v sq n m
+picked-ready {w} y a b e = rw e (pick-ready w (y .right) y a b)
 
 ready : (d : tie.After-pick-in) → let s = d .before .before in Ready (d .pick-in .last .0) (now (s .args .square)) (s .args .n) (s .args .m)
 ready d = let s = d .before .before in picked-ready (s .pre) (s .args .from) (s .args .to) (d .pick-in .ensures .1)

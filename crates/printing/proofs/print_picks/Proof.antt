@@ -3,9 +3,8 @@
 use Prim.Native.Nat.{_-_, _≤_}
 use mathlib.Core.Path.{_≡_, refl, _∙_}
 use native.Mathlib.Omega.{arith}
-use borrow.Author.Needs.{needs}
 use lib.ListN.{length}
-use Rattle.moves.specs.Ready.{Ready}
+use Rattle.lenses.specs.Ready.{Ready}
 use Rattle.printing.proofs.print_picks.Statement.{statement}
 use Rattle.printing.proofs.print_picks.Tie as tie
 

@@ -3,7 +3,7 @@
 use Prim.Native.Nat.{_+_, _-_, _≤_}
 use native.Mathlib.Omega.{arith}
 use borrow.Author.Needs.{needs}
-use Rattle.moves.specs.ReadyLaws.{ready-sizes}
+use Rattle.lenses.specs.ReadyLaws.{ready-sizes}
 use Rattle.printing.proofs.print_processes.Statement.{statement}
 use Rattle.printing.proofs.print_processes.Tie as tie
 

@@ -5,10 +5,10 @@ use Rattle.searching.proofs.spread.Statement.{statement}
 use Rattle.searching.proofs.spread.Tie as tie
 
 abbrev Inv-loop : tie.InvT-loop
-Inv-loop square s back met₀ counter₀ met counter = Unit {0}
+Inv-loop found₀ row s counter₀ found counter = Unit {0}
 
 abbrev μ-loop : tie.MeasureT-loop
-μ-loop square s back met₀ counter₀ met counter = 129 - counter
+μ-loop found₀ row s counter₀ found counter = 129 - counter
 
 pub spread-spec : {M : Type 1} → statement M
 spread-spec =
@@ -16,8 +16,7 @@ spread-spec =
     (tie.spec
     Inv-loop
     μ-loop
-    (λ c. search needs)
-    (λ c. search needs)
+    (λ c κs. search needs)
     (λ c. search needs)
     (λ c κs. search needs)
     (λ c. search needs)

@@ -5,10 +5,10 @@ use Rattle.searching.proofs.sweep.Statement.{statement}
 use Rattle.searching.proofs.sweep.Tie as tie
 
 abbrev Inv-loop : tie.InvT-loop
-Inv-loop square back met₀ grew₀ cell₀ met grew cell = Unit {0}
+Inv-loop found₀ row grew₀ cell₀ found grew cell = Unit {0}
 
 abbrev μ-loop : tie.MeasureT-loop
-μ-loop square back met₀ grew₀ cell₀ met grew cell = 16641 - cell
+μ-loop found₀ row grew₀ cell₀ found grew cell = 16641 - cell
 
 pub sweep-spec : {M : Type 1} → statement M
 sweep-spec =

@@ -5,10 +5,10 @@ use Rattle.searching.proofs.waits_for.Statement.{statement}
 use Rattle.searching.proofs.waits_for.Tie as tie
 
 abbrev Inv-loop : tie.InvT-loop
-Inv-loop square met count₀ cell₀ count cell = Unit {0}
+Inv-loop found count₀ k₀ count k = Unit {0}
 
 abbrev μ-loop : tie.MeasureT-loop
-μ-loop square met count₀ cell₀ count cell = 16641 - cell
+μ-loop found count₀ k₀ count k = 16641 - k
 
 pub waits-for-spec : {M : Type 1} → statement M
 waits-for-spec =

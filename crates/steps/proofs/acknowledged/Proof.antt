@@ -12,7 +12,12 @@ returns c =
     let start = c .before .before .before in
     let x = start .args .process in
     let n = start .args .count in
-    rw (signed-back (c .before .sum .result) (c .before .sum .ok), c .before .sum .ensures, signed-back (x .cs) (small-fits (x .cs) (start .pre .1 .0)), signed-back n (start .fits .count .sfits))
+    rw (
+      signed-back (c .before .sum .result) (c .before .sum .ok),
+      c .before .sum .ensures,
+      signed-back (x .cs) (small-fits (x .cs) (start .pre .1 .0)),
+      signed-back n (start .fits .count .sfits),
+    )
 
 pub acknowledged-spec : {M : Type 1} → statement M
 acknowledged-spec = tie.close (tie.spec (λ c κs. search needs) (λ c. search needs) returns)

@@ -10,7 +10,9 @@ sub-result : tie.Need-sub-result
 sub-result c = rw (flag-back (c .args .new) (c .pre .0), flag-back (c .args .old) (c .pre .1)) (record { sfits = search (small-fits, small-change) })
 
 returns : tie.Need-returns
-returns c = rw (flag-back (c .args .new) (c .pre .0), flag-back (c .args .old) (c .pre .1)) (signed-back (pos (c .args .new) -ℤ pos (c .args .old)) (small-fits _ (small-change _ _ (c .pre .0) (c .pre .1))))
+returns c =
+    rw (flag-back (c .args .new) (c .pre .0), flag-back (c .args .old) (c .pre .1))
+    (signed-back (pos (c .args .new) -ℤ pos (c .args .old)) (small-fits _ (small-change _ _ (c .pre .0) (c .pre .1))))
 
 pub change-spec : {M : Type 1} → statement M
 change-spec = tie.close (tie.spec (λ c. search needs) (λ c. search needs) sub-result returns)

@@ -4,7 +4,7 @@ use borrow.Author.Needs.{needs}
 use borrow.Author.Tests.{le-leb, lt-leb}
 use Rattle.steps.specs.Step.{inRange}
 use Rattle.steps.proofs.Counts.{small-back}
-use Rattle.base.specs.Choice.{value-not, value-yes}
+use Rattle.base.specs.ChoiceLaws.{value-not, value-yes}
 use Rattle.steps.proofs.is_in_range.Statement.{statement}
 use Rattle.steps.proofs.is_in_range.Tie as tie
 
@@ -26,7 +26,13 @@ returns-4 c =
     let b = c .before .before .before in
     let x = b .before .before .before .before .before .before .args .process in
     let e = small-back (x .cs) (c .before .before .struct-told .given .1 .1 .1 .0 .1) (c .before .is-small .ensures) in
-    rw (le-leb _ _ (b .before .before .before .before .if1 .left), le-leb _ _ (b .before .before .if2 .left), le-leb _ _ (b .if3 .left), value-not e (c .if4 .taken))
+    rw (
+      le-leb _ _ (b .before .before .before .before .if1 .left),
+      le-leb _ _ (b .before .before .if2 .left),
+      le-leb _ _ (b .if3 .left),
+      value-not e
+          (c .if4 .taken),
+    )
 
 returns-5 : tie.Need-returns-5
 unfolding inRange
@@ -34,7 +40,13 @@ returns-5 c =
     let b = c .before .before .before .before in
     let x = b .before .before .before .before .before .before .args .process in
     let e = small-back (x .cs) (c .before .before .before .struct-told .given .1 .1 .1 .0 .1) (c .before .before .is-small .ensures) in
-    rw (le-leb _ _ (b .before .before .before .before .if1 .left), le-leb _ _ (b .before .before .if2 .left), le-leb _ _ (b .if3 .left), value-yes e (c .before .if4 .left))
+    rw (
+      le-leb _ _ (b .before .before .before .before .if1 .left),
+      le-leb _ _ (b .before .before .if2 .left),
+      le-leb _ _ (b .if3 .left),
+      value-yes e
+          (c .before .if4 .left),
+    )
 
 pub is-in-range-spec : {M : Type 1} → statement M
 is-in-range-spec = tie.close (tie.spec returns returns-2 returns-3 (λ c κs. search needs) returns-4 returns-5)

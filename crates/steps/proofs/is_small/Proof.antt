@@ -9,7 +9,9 @@ returns : tie.Need-returns
 returns c = sym (small-below (c .before .args .count) (rw (signed-back (c .before .args .count) (c .before .fits .count .sfits)) at (c .if1 .taken)))
 
 returns-2 : tie.Need-returns-2
-returns-2 c = rw (signed-back (c .before .args .count) (c .before .fits .count .sfits)) (small-test (c .before .args .count) (rw (signed-back (c .before .args .count) (c .before .fits .count .sfits)) at (c .if1 .left)))
+returns-2 c =
+    rw (signed-back (c .before .args .count) (c .before .fits .count .sfits))
+    (small-test (c .before .args .count) (rw (signed-back (c .before .args .count) (c .before .fits .count .sfits)) at (c .if1 .left)))
 
 pub is-small-spec : {M : Type 1} → statement M
 is-small-spec = tie.close (tie.spec returns returns-2)

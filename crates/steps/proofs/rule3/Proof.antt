@@ -23,8 +23,11 @@ changed c =
 sum-requires : tie.Need-sum-requires
 sum-requires c κs =
     let start = c .before .before .before .before in
-    let x = start .args .turn .process in
-    (rw (signed-back (x .cs) (small-fits (x .cs) (start .pre .count))) (start .pre .count), rw (signed-back (c .before .change .result) (c .before .change .ok)) (changed (c .before)))
+    let x = start .args .turn .process in (
+      rw (signed-back (x .cs) (small-fits (x .cs) (start .pre .count))) (start .pre .count),
+      rw
+          (signed-back (c .before .change .result) (c .before .change .ok)) (changed (c .before)),
+    )
 
 returns : tie.Need-returns
 unfolding gained
@@ -34,7 +37,8 @@ returns c =
     let v = c .before .before .before .new-subordinate in
     let d = c .before .before .change in
     rule3-made (start .args .turn) (v .result) _ (v .ensures)
-    (signed-back (c .sum .result) (c .sum .ok) ∙ c .sum .ensures ∙ ap₂ _+ℤ_ (signed-back (x .cs) (small-fits (x .cs) (start .pre .count))) (signed-back (d .result) (d .ok) ∙ d .ensures))
+    (signed-back (c .sum .result) (c .sum .ok) ∙ c .sum .ensures
+    ∙ ap₂ _+ℤ_ (signed-back (x .cs) (small-fits (x .cs) (start .pre .count))) (signed-back (d .result) (d .ok) ∙ d .ensures))
 
 pub rule3-spec : {M : Type 1} → statement M
 rule3-spec = tie.close (tie.spec (λ c κs. search needs) change-requires sum-requires returns)

@@ -3,7 +3,7 @@
 use borrow.Author.Needs.{needs}
 use Rattle.steps.specs.Step.{answer}
 use Rattle.steps.specs.Within.{settled}
-use Rattle.base.specs.Choice.{value-not, value-yes}
+use Rattle.base.specs.ChoiceLaws.{value-not, value-yes}
 use Rattle.steps.proofs.settled.Statement.{statement}
 use Rattle.steps.proofs.settled.Tie as tie
 

@@ -2,7 +2,7 @@
 -- Assumes nothing.
 use borrow.Author.Needs.{needs}
 use Rattle.steps.specs.Step.{fitting, answer, startTurn, startStepped}
-use Rattle.base.specs.Choice.{value-not, value-yes}
+use Rattle.base.specs.ChoiceLaws.{value-not, value-yes}
 use Rattle.steps.proofs.Rules.{settled-answer}
 use Rattle.steps.proofs.start_step.Statement.{statement}
 use Rattle.steps.proofs.start_step.Tie as tie
@@ -19,7 +19,8 @@ unfolding startStepped
 returns-2 c =
     let b = c .before .before in
     let a = b .before .before .args in
-    settled-answer (a .message) (a .process) (startTurn (a .message) (a .sender) (a .process)) (c .settled .ensures) (c .before .take-start-turn .ensures) (value-yes (b .before .is-num-sufficient .ensures) (b .if1 .left))
+    settled-answer (a .message) (a .process) (startTurn (a .message) (a .sender) (a .process)) (c .settled .ensures)
+    (c .before .take-start-turn .ensures) (value-yes (b .before .is-num-sufficient .ensures) (b .if1 .left))
 
 pub start-step-spec : {M : Type 1} → statement M
 start-step-spec = tie.close (tie.spec (λ c κs. search needs) returns take-start-turn-requires (λ c κs. search needs) returns-2)

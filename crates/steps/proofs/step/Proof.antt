@@ -3,8 +3,8 @@
 use borrow.Author.Needs.{needs}
 use borrow.Author.Tests.{eq-eqb, ne-eqb, lt-ltb, le-ltb}
 use Rattle.steps.specs.Step.{fitting, answer, turn, stepNumber, stepped}
-use Rattle.steps.specs.Within.{stepped-inside}
-use Rattle.base.specs.Choice.{value-not, value-yes}
+use Rattle.steps.specs.StepLaws.{stepped-inside}
+use Rattle.base.specs.ChoiceLaws.{value-not, value-yes}
 use Rattle.steps.proofs.Rules.{settled-answer}
 use Rattle.steps.proofs.step.Statement.{statement}
 use Rattle.steps.proofs.step.Tie as tie
@@ -27,7 +27,13 @@ returns-4 : tie.Need-returns-4
 unfolding stepped stepNumber answer fitting
 returns-4 c =
     let b = c .before .before .before .before in
-    rw (value-yes (b .before .is-lent-in-range .ensures) (b .if1 .left), ne-eqb _ _ (c .before .before .before .if2 .left), le-ltb _ _ (c .before .before .if3 .left), value-not (c .before .is-num-sufficient .ensures) (c .if4 .taken))
+    rw (
+      value-yes (b .before .is-lent-in-range .ensures) (b .if1 .left),
+      ne-eqb _ _ (c .before .before .before .if2 .left),
+      le-ltb _ _
+          (c .before .before .if3 .left),
+      value-not (c .before .is-num-sufficient .ensures) (c .if4 .taken),
+    )
 
 take-turn-requires : tie.Need-take-turn-requires
 take-turn-requires c κs =
@@ -39,8 +45,10 @@ returns-5 c =
     let d = c .before .before in
     let b = d .before .before .before .before in
     let a = b .before .before .args in
-    rw (stepped-inside (a .message) (a .out-degree) (a .in-degree) (a .sender) (a .process) (value-yes (b .before .is-lent-in-range .ensures) (b .if1 .left)) (d .before .before .before .if2 .left) (d .before .before .if3 .left))
-    (settled-answer (a .message) (a .process) (turn (a .message) (a .out-degree) (a .in-degree) (a .sender) (a .process)) (c .settled .ensures) (c .before .take-turn .ensures) (value-yes (d .before .is-num-sufficient .ensures) (d .if4 .left)))
+    rw (stepped-inside (a .message) (a .out-degree) (a .in-degree) (a .sender) (a .process)
+    (value-yes (b .before .is-lent-in-range .ensures) (b .if1 .left)) (d .before .before .before .if2 .left) (d .before .before .if3 .left))
+    (settled-answer (a .message) (a .process) (turn (a .message) (a .out-degree) (a .in-degree) (a .sender) (a .process)) (c .settled .ensures)
+    (c .before .take-turn .ensures) (value-yes (d .before .is-num-sufficient .ensures) (d .if4 .left)))
 
 pub step-spec : {M : Type 1} → statement M
 step-spec =

@@ -6,10 +6,14 @@ use Rattle.steps.proofs.sum.Statement.{statement}
 use Rattle.steps.proofs.sum.Tie as tie
 
 add-result : tie.Need-add-result
-add-result c = rw (signed-back (c .args .a) (c .fits .a .sfits), signed-back (c .args .b) (c .fits .b .sfits)) (record { sfits = small-sum (c .args .a) (c .args .b) (c .pre .0) (c .pre .1) })
+add-result c =
+    rw (signed-back (c .args .a) (c .fits .a .sfits), signed-back (c .args .b) (c .fits .b .sfits))
+    (record { sfits = small-sum (c .args .a) (c .args .b) (c .pre .0) (c .pre .1) })
 
 returns : tie.Need-returns
-returns c = rw (signed-back (c .args .a) (c .fits .a .sfits), signed-back (c .args .b) (c .fits .b .sfits)) (signed-back (c .args .a +ℤ c .args .b) (small-sum (c .args .a) (c .args .b) (c .pre .0) (c .pre .1)))
+returns c =
+    rw (signed-back (c .args .a) (c .fits .a .sfits), signed-back (c .args .b) (c .fits .b .sfits))
+    (signed-back (c .args .a +ℤ c .args .b) (small-sum (c .args .a) (c .args .b) (c .pre .0) (c .pre .1)))
 
 pub sum-spec : {M : Type 1} → statement M
 sum-spec = tie.close (tie.spec add-result returns)

@@ -11,7 +11,8 @@ acknowledged-requires : tie.Need-acknowledged-requires
 acknowledged-requires c κs =
     let start = c .before .before .before in
     let e = c .before .message .given in
-    acknowledgeable (start .args .message) (e .0 .0) (start .args .process) (e .1) (c .known-told .given .0 .1) (start .pre .0) (start .pre .1 .0) (start .pre .1 .1)
+    acknowledgeable (start .args .message) (e .0 .0) (start .args .process) (e .1) (c .known-told .given .0 .1) (start .pre .0) (start .pre .1 .0)
+    (start .pre .1 .1)
 
 returns : tie.Need-returns
 unfolding startTurn

@@ -21,7 +21,8 @@ rule3-requires c κs =
     let start = c .before .before .before .before in
     let x = start .args .process in
     let h = lent (start .args .message) (start .args .out-degree) (start .args .in-degree) x (start .pre .0) in
-    rw (c .set-succeeding .ensures, c .before .rule1 .ensures) (setSucceeding-addable _ (rule1 (start .args .sender) x) (rule1-addable (start .args .sender) x (ranged x (h .process))))
+    rw (c .set-succeeding .ensures, c .before .rule1 .ensures)
+    (setSucceeding-addable _ (rule1 (start .args .sender) x) (rule1-addable (start .args .sender) x (ranged x (h .process))))
 
 set-preceding-requires : tie.Need-set-preceding-requires
 set-preceding-requires c κs =
@@ -35,7 +36,8 @@ rule3-requires-2 c κs =
     let start = c .before .before .before .before in
     let x = start .args .process in
     let h = lent (start .args .message) (start .args .out-degree) (start .args .in-degree) x (start .pre .0) in
-    rw (c .set-preceding .ensures, c .before .rule12 .ensures) (setPreceding-addable _ (rule1 (start .args .sender) x) (rule1-addable (start .args .sender) x (ranged x (h .process))))
+    rw (c .set-preceding .ensures, c .before .rule12 .ensures)
+    (setPreceding-addable _ (rule1 (start .args .sender) x) (rule1-addable (start .args .sender) x (ranged x (h .process))))
 
 acknowledged-requires : tie.Need-acknowledged-requires
 acknowledged-requires c κs =
@@ -50,13 +52,17 @@ returns : tie.Need-returns
 unfolding turn
 returns c =
     let told = c .before .before .before .before in
-    rw (told .enum-told .given .1) (c .rule4 .ensures ∙ ap rule4 (c .before .rule3 .ensures ∙ ap rule3 (c .before .before .set-succeeding .ensures ∙ ap (setSucceeding _) (c .before .before .before .rule1 .ensures))))
+    rw (told .enum-told .given .1)
+    (c .rule4 .ensures ∙ ap rule4 (c .before .rule3 .ensures
+    ∙ ap rule3 (c .before .before .set-succeeding .ensures ∙ ap (setSucceeding _) (c .before .before .before .rule1 .ensures))))
 
 returns-2 : tie.Need-returns-2
 unfolding turn
 returns-2 c =
     let told = c .before .before .before .before in
-    rw (told .enum-told2 .given .1) (c .rule42 .ensures ∙ ap rule4 (c .before .rule32 .ensures ∙ ap rule3 (c .before .before .set-preceding .ensures ∙ ap (setPreceding _) (c .before .before .before .rule12 .ensures))))
+    rw (told .enum-told2 .given .1)
+    (c .rule42 .ensures ∙ ap rule4
+    (c .before .rule32 .ensures ∙ ap rule3 (c .before .before .set-preceding .ensures ∙ ap (setPreceding _) (c .before .before .before .rule12 .ensures))))
 
 returns-3 : tie.Need-returns-3
 unfolding turn

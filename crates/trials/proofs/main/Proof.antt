@@ -5,10 +5,10 @@ use Rattle.trials.proofs.main.Statement.{statement}
 use Rattle.trials.proofs.main.Tie as tie
 
 abbrev Inv-loop : tie.InvT-loop
-Inv-loop number₀ t3 number = Unit {0}
+Inv-loop number₀ t4 number = Unit {0}
 
 abbrev μ-loop : tie.MeasureT-loop
-μ-loop number₀ t3 number = 9 - number
+μ-loop number₀ t4 number = 9 - number
 
 pub main-spec : {M : Type 1} → statement M
 main-spec =
@@ -17,6 +17,7 @@ main-spec =
     Inv-loop
     μ-loop
     (λ c. search needs)
+    (λ c κs. search needs)
     (λ c κs. search needs)
     (λ c κs. search needs)
     (λ c κs. search needs)

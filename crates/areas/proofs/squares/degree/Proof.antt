@@ -1,4 +1,5 @@
--- `areas::squares::degree` meets its contract. The loop's invariant: `d` counts the processes passed that the chain of b leads to. The measure is what is left.
+-- `areas::squares::degree` meets its contract. The loop's invariant: `d` counts the processes passed that the chain of b leads to. The measure is
+-- what is left.
 -- Assumes nothing.
 use Prim.Native.Nat.{ℕ, suc, _+_, _-_, _≤_}
 use mathlib.Core.Bool.{Bool}
@@ -8,7 +9,7 @@ use native.Mathlib.Nat.{add-zero}
 use native.Mathlib.Omega.{arith}
 use Rattle.base.specs.Choice.{bit}
 use Rattle.base.specs.Sums.{sumTo, countTo}
-use Rattle.base.specs.Counts.{countTo-most}
+use Rattle.base.specs.SumLaws.{countTo-most}
 use Rattle.areas.specs.Squares.{joinsBy}
 use Rattle.areas.proofs.squares.degree.Statement.{statement}
 use Rattle.areas.proofs.squares.degree.Tie as tie
@@ -51,8 +52,12 @@ loop-again c =
     let loop = c .before .before .before .loop in
     let a = c .before .before .before .before .args in
     let p = joinsBy (a .square .now) (a .c) (a .b) in
-    let e = c .before .joins .ensures in
-    (omega arith, omega arith, ⊎-elim (λ w. more p (loop .q) (omega arith) (loop .inv .2) (sym e ∙ w .0 .taken) (w .1)) (λ w. more p (loop .q) (omega arith) (loop .inv .2) (sym e ∙ w .0 .left) (w .1 ∙ sym (add-zero (loop .d)))) (c .if1 .came))
+    let e = c .before .joins .ensures in (
+      omega arith,
+      omega arith,
+      ⊎-elim (λ w. more p (loop .q) (omega arith) (loop .inv .2) (sym e ∙ w .0 .taken) (w .1))
+          (λ w. more p (loop .q) (omega arith) (loop .inv .2) (sym e ∙ w .0 .left) (w .1 ∙ sym (add-zero (loop .d)))) (c .if1 .came),
+    )
 
 returns : tie.Need-returns Inv-loop μ-loop
 returns c =

@@ -7,14 +7,14 @@ use mathlib.Core.Path.{_≡_, refl, sym, ap, _∙_}
 use native.Mathlib.Omega.{arith}
 use lib.ListN.{length, getD, set, length-set}
 use lib.Seq.{getD-set-same, getD-set-other}
-use Rattle.base.specs.Choice.{choose, Same, same, apart, same?}
+use Rattle.base.specs.Choice.{choose}
+use Rattle.base.specs.ChoiceLaws.{Same, same, apart, same?}
 use Rattle.tables.specs.declared.Arc.{Arc}
-use Rattle.tables.specs.Table.{Fields, fieldOf, mOf, arcAt}
+use Rattle.tables.specs.Table.{Fields, fieldOf, mOf, arcAt, saysWait}
 use Rattle.tables.specs.Layout.{Right}
-use Rattle.tables.specs.WaitsLaws.{saysWait}
 use Rattle.areas.specs.Area.{arcIn, arcOf}
 use Rattle.areas.specs.Squares.{cell}
-use Rattle.areas.specs.Arcs.{arcIn-zero, arcIn-right}
+use Rattle.areas.specs.ArcLaws.{arcIn-zero, arcIn-right}
 use Rattle.areas.proofs.squares.fill.Statement.{statement}
 use Rattle.areas.proofs.squares.fill.Tie as tie
 
@@ -33,7 +33,8 @@ few : {arc : Arc} (t : Fields) (k : ℕ) → Right t → 1 ≤ k → k ≤ mOf t
 few t k r l u e = rw e (omega (arith, r .sizes .1, r .ends k (l, u) .0 .1, r .ends k (l, u) .1 .1))
 
 -- one arc more
-more : (t : Fields) (sq : List ℕ) (k : ℕ) → Right t → 1 ≤ k → k ≤ mOf t → length sq ≡ 16641 → Holds t sq (k - 1) → Holds t (set sq (arcAt t k .from * 129 + arcAt t k .to) k) (k + 1 - 1)
+more : (t : Fields) (sq : List ℕ) (k : ℕ) → Right t → 1 ≤ k → k ≤ mOf t → length sq ≡ 16641 → Holds t sq (k - 1)
+    → Holds t (set sq (arcAt t k .from * 129 + arcAt t k .to) k) (k + 1 - 1)
 more t sq k r l u n h a b p q =
     let e : k + 1 - 1 ≡ suc (k - 1) = omega arith in
     let f : suc (k - 1) ≡ k = omega arith in
@@ -86,8 +87,13 @@ element-write-square c = omega (arith, ends (c .before .before) .0, ends (c .bef
 loop-again : tie.Need-loop-again Inv-loop μ-loop
 loop-again c =
     let start = c .before .before .before .before .before .before in
-    let loop = c .before .before .before .before .loop in
-    (omega arith, omega arith, simp length-set (loop .inv .2), rw (c .before .before .arc-at .ensures) (more (fieldOf (start .args .table .now)) (loop .square) (loop .k) (start .pre .0) (omega arith) (omega arith) (loop .inv .2) (loop .inv .3)))
+    let loop = c .before .before .before .before .loop in (
+      omega arith,
+      omega arith,
+      simp length-set (loop .inv .2),
+      rw (c .before .before .arc-at .ensures)
+          (more (fieldOf (start .args .table .now)) (loop .square) (loop .k) (start .pre .0) (omega arith) (omega arith) (loop .inv .2) (loop .inv .3)),
+    )
 
 returns : tie.Need-returns Inv-loop μ-loop
 unfolding arcOf

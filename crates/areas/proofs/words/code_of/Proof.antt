@@ -9,7 +9,7 @@ use borrow.Author.Tests.{leb-true}
 use lib.Dec.{ltb}
 use lib.IntN.{ℤ, pos, negsuc, _+ℤ_}
 use lib.Signed.{mag}
-use Rattle.base.specs.Choice.{Tested, passed, failed, tested}
+use Rattle.base.specs.ChoiceLaws.{Tested, passed, failed, tested}
 use Rattle.steps.specs.declared.Message.{Message}
 use Rattle.steps.specs.declared.Message.the-variants.{Ack}
 use Rattle.steps.specs.Step.{small, countSmall}
@@ -49,7 +49,8 @@ returns-3 : tie.Need-returns-3
 unfolding codeOf
 returns-3 c =
     let e = c .before .message .given in
-    rw (e .1, signed-back (e .0 .0) (c .known-told .given .0 .1)) (signed-back (pos 256 +ℤ e .0 .0) (fits (e .0 .0) (counted (e .0 .0) (e .1) (c .before .before .before .pre))))
+    rw (e .1, signed-back (e .0 .0) (c .known-told .given .0 .1))
+    (signed-back (pos 256 +ℤ e .0 .0) (fits (e .0 .0) (counted (e .0 .0) (e .1) (c .before .before .before .pre))))
 
 pub code-of-spec : {M : Type 1} → statement M
 code-of-spec = tie.close (tie.spec (λ c. search needs) (λ c. search needs) (λ c. search needs) add-result returns returns-2 returns-3)

@@ -2,8 +2,8 @@
 -- Assumes nothing.
 use native.Mathlib.Omega.{arith}
 use Rattle.areas.specs.Area.{flagsOf}
+use Rattle.steps.specs.StepLaws.{inRange-P}
 use Rattle.areas.proofs.Signs.{word-number}
-use Rattle.areas.specs.RunLaws.{inRange-P}
 use Rattle.areas.proofs.words.flags_of.Statement.{statement}
 use Rattle.areas.proofs.words.flags_of.Tie as tie
 

@@ -1,5 +1,5 @@
 -- `areas::words::link_length` meets its contract. The loop's invariant: as many messages as the link has are the `l` passed and those from there on.
--- The measure is what is left of the four words.
+-- The measure is what is left of its slots.
 -- Assumes nothing.
 use Prim.Native.Nat.{ℕ, suc, _+_, _-_, _^_, _≤_, _<_}
 use mathlib.Core.List.{List}
@@ -17,44 +17,52 @@ use Rattle.areas.proofs.words.link_length.Statement.{statement}
 use Rattle.areas.proofs.words.link_length.Tie as tie
 
 abbrev Inv-loop : tie.InvT-loop
-Inv-loop area i l₀ l = (l ≤ 4) × (length (messagesAt area i 4) ≡ l + length (messagesAt area (i + l) (4 - l)))
+Inv-loop area i slots l₀ l = (l ≤ slots) × (length (messagesAt area i slots) ≡ l + length (messagesAt area (i + l) (slots - l)))
 
 abbrev μ-loop : tie.MeasureT-loop
-μ-loop area i l₀ l = 4 - l
+μ-loop area i slots l₀ l = slots - l
 
 loop-holds : tie.Need-loop-holds Inv-loop μ-loop
 loop-holds c =
     let q : c .args .i + 0 ≡ c .args .i = omega arith in
-    (omega arith, rw q (omega arith))
+    let z : c .args .slots - 0 ≡ c .args .slots = omega arith in
+    (omega arith, rw (q, z) (omega arith))
 
-module _ (w : List ℤ) (i l : ℕ) (u : l < 4) where
-  left : 4 - l ≡ suc (4 - (l + 1))
+module _ (w : List ℤ) (i s l : ℕ) (u : l < s) where
+  left : s - l ≡ suc (s - (l + 1))
   left = omega arith
 
-  stop : mag (getD w (i + l) (pos 0)) < 2 ^ 31 → ofZ w32 (getD w (i + l) (pos 0)) ≡ 0 → length (messagesAt w (i + l) (4 - l)) ≡ 0
-  stop h e = rw (left, messagesAt-stop w (i + l) (4 - (l + 1)) (ap natAbs (word-is (getD w (i + l) (pos 0)) 0 h (omega arith) e)))
+  stop : mag (getD w (i + l) (pos 0)) < 2 ^ 31 → ofZ w32 (getD w (i + l) (pos 0)) ≡ 0 → length (messagesAt w (i + l) (s - l)) ≡ 0
+  stop h e = rw (left, messagesAt-stop w (i + l) (s - (l + 1)) (ap natAbs (word-is (getD w (i + l) (pos 0)) 0 h (omega arith) e)))
 
-  more : (ofZ w32 (getD w (i + l) (pos 0)) ≡ 0 → ⊥) → length (messagesAt w (i + l) (4 - l)) ≡ suc (length (messagesAt w (i + (l + 1)) (4 - (l + 1))))
+  more : (ofZ w32 (getD w (i + l) (pos 0)) ≡ 0 → ⊥) → length (messagesAt w (i + l) (s - l)) ≡ suc (length (messagesAt w (i + (l + 1)) (s - (l + 1))))
   more h =
       let q : i + (l + 1) ≡ suc (i + l) = omega arith in
-      rw (left, q, messagesAt-more w (i + l) (4 - (l + 1)) (λ e. h (word-zero (getD w (i + l) (pos 0)) e)))
+      rw (left, q, messagesAt-more w (i + l) (s - (l + 1)) (λ e. h (word-zero (getD w (i + l) (pos 0)) e)))
 
 returns : tie.Need-returns Inv-loop μ-loop
 returns c =
     let a = c .before .before .before .before .args in
     let l = c .before .before .before .loop .l in
-    omega (arith, c .before .before .before .loop .inv .1, stop (a .area .now) (a .i) l (c .before .before .loop-test .taken) (c .before .if12 .given) (c .if1 .taken))
+    omega (
+      arith,
+      c .before .before .before .loop .inv .1,
+      stop (a .area .now) (a .i) (a .slots) l (c .before .before .loop-test .taken) (c .before .if12 .given)
+          (c .if1 .taken),
+    )
 
 loop-again : tie.Need-loop-again Inv-loop μ-loop
 loop-again c =
     let a = c .before .before .before .before .args in
-    let l = c .before .before .before .loop .l in
-    (omega arith, omega (arith, c .before .before .before .loop .inv .1, more (a .area .now) (a .i) l (c .before .before .loop-test .taken) (c .if1 .left)))
+    let l = c .before .before .before .loop .l in (
+      omega arith,
+      omega (arith, c .before .before .before .loop .inv .1, more (a .area .now) (a .i) (a .slots) l (c .before .before .loop-test .taken) (c .if1 .left)),
+    )
 
 returns-2 : tie.Need-returns-2 Inv-loop μ-loop
 returns-2 c =
     let a = c .before .before .args in
-    omega (arith, c .before .loop .inv .1, messagesAt-length (a .area .now) (a .i + c .before .loop .l) (4 - c .before .loop .l))
+    omega (arith, c .before .loop .inv .1, messagesAt-length (a .area .now) (a .i + c .before .loop .l) (a .slots - c .before .loop .l))
 
 pub link-length-spec : {M : Type 1} → statement M
 link-length-spec =

@@ -9,7 +9,7 @@ use lib.Dec.{ltb}
 use lib.Signed.{mag}
 use mir.Syntax.{w32}
 use mir.Val.{toZ, ofZ}
-use Rattle.base.specs.Choice.{Tested, passed, failed, tested}
+use Rattle.base.specs.ChoiceLaws.{Tested, passed, failed, tested}
 use Rattle.areas.specs.LinkLaws.{messageOf-suc, messageOf-pre, messageOf-ack}
 use Rattle.steps.proofs.Counts.{signed-back}
 use Rattle.areas.proofs.words.message_of.Statement.{statement}
@@ -50,7 +50,9 @@ returns-3 c =
     let z = start .args .word in
     let b = signed-back z (start .fits .word .sfits) in
     rw (b, signed-back (z -ℤ pos 256) (fits z (start .pre)))
-    (sym (messageOf-ack z (λ e. c .before .before .if1 .left (c .before .before .before .number .ensures ∙ ap natAbs b ∙ e)) (λ e. c .if2 .left (c .before .number2 .ensures ∙ ap natAbs b ∙ e))))
+    (sym
+    (messageOf-ack z (λ e. c .before .before .if1 .left (c .before .before .before .number .ensures ∙ ap natAbs b ∙ e))
+    (λ e. c .if2 .left (c .before .number2 .ensures ∙ ap natAbs b ∙ e))))
 
 pub message-of-spec : {M : Type 1} → statement M
 message-of-spec = tie.close (tie.spec (λ c κs. search needs) returns (λ c κs. search needs) returns-2 sub-t4 returns-3)

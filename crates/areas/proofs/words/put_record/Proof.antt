@@ -5,8 +5,10 @@ use native.Mathlib.Omega.{arith}
 use borrow.Author.Needs.{needs}
 use lib.ListN.{length-set}
 use Rattle.steps.proofs.Counts.{signed-back, mag-abs}
+use Rattle.areas.specs.Area.{wordsTo}
+use Rattle.areas.specs.Writes.{recordWords}
+use Rattle.steps.specs.StepLaws.{inRange-P}
 use Rattle.areas.proofs.Signs.{word-number}
-use Rattle.areas.specs.RunLaws.{inRange-P}
 use Rattle.areas.proofs.words.put_record.Statement.{statement}
 use Rattle.areas.proofs.words.put_record.Tie as tie
 
@@ -17,12 +19,22 @@ cast-num c =
     omega arith
 
 returns : tie.Need-returns
+unfolding recordWords wordsTo
 returns c =
     let start = c .before .before .before .before in
     let x = start .args .x in
     let h = inRange-P x (start .pre .1 .0) in
     let flags = c .before .before .before .flags-of in
-    rw (signed-back (flags .result) (flags .ok), flags .ensures, signed-back (x .cs) (omega (arith, mag-abs (x .cs))), word-number (x .num) (omega arith), word-number (x .father) (omega arith), add-one, add-two, add-three)
+    rw (
+      signed-back (flags .result) (flags .ok),
+      flags .ensures,
+      signed-back (x .cs) (omega (arith, mag-abs (x .cs))),
+      word-number (x .num) (omega arith),
+      word-number (x .father) (omega arith),
+      add-one,
+      add-two,
+      add-three,
+    )
 
 pub put-record-spec : {M : Type 1} → statement M
 put-record-spec =

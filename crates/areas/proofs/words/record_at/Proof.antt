@@ -24,7 +24,14 @@ returns c =
     let a = read .before .before .before .args in
     let w = a .area .now in
     let k = a .k in
-    rw (numbered w k (read .before .before .number-arg .given) (read .before .number .ensures), signed-back (getD w (k + 1) (pos 0)) (read .t6 .given), numbered w (k + 2) (c .before .before .before .number-arg2 .given) (c .before .before .number2 .ensures), numbered w (k + 3) (c .before .number-arg3 .given) (c .number3 .ensures))
+    rw (
+      numbered w k (read .before .before .number-arg .given) (read .before .number .ensures),
+      signed-back (getD w (k + 1) (pos 0)) (read .t6 .given),
+      numbered w
+          (k + 2) (c .before .before .before .number-arg2 .given) (c .before .before .number2 .ensures),
+      numbered w (k + 3) (c .before .number-arg3 .given)
+          (c .number3 .ensures),
+    )
 
 pub record-at-spec : {M : Type 1} → statement M
 record-at-spec =

@@ -25,7 +25,8 @@ returns-3 c =
     let d = c .before .before in
     let w = d .before .before .before .before in
     let e = w .before .before .before .before .message .given in
-    rw (e .1) (w .put-word3 .ensures added-then (rw (signed-back (e .0 .0) (w .before .before .before .known-told .given .0 .1)) at (d .put-count-field .ensures)))
+    rw (e .1) (w .put-word3 .ensures added-then (rw (signed-back (e .0 .0) (w .before .before .before .known-told .given .0 .1)) at
+    (d .put-count-field .ensures)))
 
 pub put-message-spec : {M : Type 1} → statement M
 put-message-spec =

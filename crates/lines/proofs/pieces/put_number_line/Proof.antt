@@ -15,4 +15,5 @@ returns c =
     added-more (omega arith) (c1 .put-word .ensures added-then c2 .put-field .ensures added-then c3 .put-word2 .ensures)
 
 pub put-number-line-spec : {M : Type 1} → statement M
-put-number-line-spec = tie.close (tie.spec (λ c κs. search needs) (λ c κs. search needs) (λ c. search needs) (λ c κs. search needs) (λ c. search needs) returns)
+put-number-line-spec = tie.close (tie.spec (λ c κs. search needs) (λ c κs. search needs) (λ c. search needs) (λ c κs. search needs)
+    (λ c. search needs) returns)

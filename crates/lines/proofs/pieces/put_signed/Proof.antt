@@ -22,7 +22,8 @@ returns-2 c =
     let e = w .before .before .before in
     let a = e .before .before .before in
     let back = signed-back (a .args .z) (a .fits .z .sfits) in
-    rw (signed-low (a .args .z) (rw back at (e .if1 .left)), ← rw back at (e .before .number .ensures)) (w .put-word .ensures added-then d .put-number2 .ensures)
+    rw (signed-low (a .args .z) (rw back at (e .if1 .left)), ← rw back at (e .before .number .ensures))
+    (w .put-word .ensures added-then d .put-number2 .ensures)
 
 pub put-signed-spec : {M : Type 1} → statement M
 put-signed-spec =

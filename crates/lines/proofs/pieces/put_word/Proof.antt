@@ -20,7 +20,8 @@ abbrev μ-loop : tie.MeasureT-loop
 μ-loop out₀ at word end₀ k₀ out end k = length word - k
 
 -- the next byte of the word is added
-next : {k : ℕ} {a b : List ℕ} {m n : ℕ} (w : List ℕ) → k < length w → n < length b → Added k a m (take k w) b n → Added (k + 1) a m (take (k + 1) w) (set b n (getD w k 0)) (n + 1)
+next : {k : ℕ} {a b : List ℕ} {m n : ℕ} (w : List ℕ) → k < length w → n < length b → Added k a m (take k w) b n → Added (k + 1) a m (take (k + 1) w)
+    (set b n (getD w k 0)) (n + 1)
 next {k} w h i x = rw (add-one k, take-suc w k 0 h, ← add-one k) (x added-then added-byte _ _ _ i)
 
 -- the whole word is added

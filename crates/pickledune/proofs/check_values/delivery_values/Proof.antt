@@ -2,7 +2,8 @@
 use mathlib.Core.Path.{sym, ap, _∙_}
 use borrow.Author.Needs.{needs}
 use Rattle.steps.proofs.Counts.{signed-back}
-use Rattle.checks.specs.Calls.{deliveryNumber, deliveryKind, deliveryCount}
+use Rattle.checks.specs.Calls.{deliveryNumber}
+use Rattle.pickledune.specs.Values.{deliveryKind, deliveryCount}
 use Rattle.pickledune.proofs.check_values.delivery_values.Statement.{statement}
 use Rattle.pickledune.proofs.check_values.delivery_values.Tie as tie
 

@@ -1,7 +1,8 @@
 -- `pickledune::check_values::record_values` meets its contract: zeros on a refusal. Assumes nothing.
 use mathlib.Core.Path.{sym, ap}
 use borrow.Author.Needs.{needs}
-use Rattle.checks.specs.Calls.{readingNumber, readingProcess}
+use Rattle.checks.specs.Calls.{readingNumber}
+use Rattle.pickledune.specs.Values.{readingProcess}
 use Rattle.pickledune.proofs.check_values.record_values.Statement.{statement}
 use Rattle.pickledune.proofs.check_values.record_values.Tie as tie
 

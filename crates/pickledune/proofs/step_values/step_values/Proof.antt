@@ -1,9 +1,9 @@
 -- `pickledune::step_values::step_values` meets its contract: what a taken step sends, as numbers. Assumes nothing.
-use mathlib.Core.Path.{_≡_, sym, ap, _∙_}
+use mathlib.Core.Path.{sym, ap, _∙_}
 use borrow.Author.Needs.{needs}
 use Rattle.steps.proofs.Counts.{signed-back}
 use Rattle.steps.specs.declared.Stepped.{Stepped}
-use Rattle.steps.specs.Step.{steppedNumber, steppedProbes, steppedReply}
+use Rattle.pickledune.specs.Values.{steppedNumber, steppedProbes, steppedReply}
 use Rattle.pickledune.specs.Interface.{probesNumber, replyTo, replyCount}
 use Rattle.lending.specs.Lent.{lentRecord}
 use Rattle.pickledune.proofs.step_values.step_values.Statement.{statement}

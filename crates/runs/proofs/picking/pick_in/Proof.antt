@@ -7,7 +7,7 @@ use borrow.Author.Needs.{needs}
 use borrow.Author.Tests.{not-true, not-false}
 use Rattle.tables.specs.Waits.{neighbours}
 use Rattle.areas.specs.Area.{runIn}
-use Rattle.moves.specs.ReadyLaws.{ready-sizes, ready-joined}
+use Rattle.lenses.specs.ReadyLaws.{ready-sizes, ready-joined}
 use Rattle.runs.specs.CallLaws.{pick-25, pick-23, pick-on}
 use Rattle.runs.proofs.Tested.{none-from, none-to}
 use Rattle.runs.proofs.picking.pick_in.Statement.{statement}
@@ -36,7 +36,8 @@ linked : (c : tie.After-joined) → c .joined .result ≡ neighbours (runIn (sta
 linked c =
     let s = start c in
     let small = ready-sizes (s .pre) .0 in
-    c .joined .ensures ∙ ready-joined (s .pre) (s .args .from) (s .args .to) (omega (arith, small, c .before .before .if1 .left)) (omega (arith, small, c .before .if2 .left))
+    c .joined .ensures ∙ ready-joined (s .pre) (s .args .from) (s .args .to) (omega (arith, small, c .before .before .if1 .left))
+    (omega (arith, small, c .before .if2 .left))
 
 returns-3 : tie.Need-returns-3
 returns-3 c =

@@ -2,16 +2,14 @@
 -- Assumes nothing.
 use Prim.Native.Nat.{ℕ, _+_, _-_, _≤_, _<_}
 use mathlib.Core.Path.{_≡_, sym, ap, _∙_, subst}
-use Rattle.base.specs.Choice.{Same, same, apart, same?}
+use Rattle.base.specs.ChoiceLaws.{Same, same, apart, same?}
 use Rattle.steps.specs.declared.Process.{Process}
 use native.Mathlib.Omega.{arith}
 use Rattle.areas.specs.Area.{runIn}
-use Rattle.checks.specs.Calls.{Escape, named, none}
-use Rattle.moves.specs.ReadyLaws.{ready-n, ready-sizes}
+use Rattle.checks.specs.Calls.{named, none}
+use Rattle.lenses.specs.ReadyLaws.{ready-n, ready-sizes}
 use Rattle.runs.proofs.reading.escape_of.Statement.{statement}
 use Rattle.runs.proofs.reading.escape_of.Tie as tie
-use Rattle.runs.proofs.reading.escape_of.Reads as reads
-use Rattle.runs.proofs.reading.escape_of.Lts as lts
 
 abbrev Inv-loop : tie.InvT-loop
 Inv-loop area square n m end p₀ p = (1 ≤ p) × (p ≤ end) × ((q : ℕ) → 1 ≤ q → q < p → runIn area .process q .subordinate ≡ 1 → ⊥)
@@ -35,7 +33,8 @@ returns : tie.Need-returns Inv-loop μ-loop
 returns c =
     let start = c .before .before .before .before .before in
     let loop = c .before .before .before .before .loop in
-    named (loop .inv .0) (omega (arith, ready-n (start .pre), c .before .before .before .loop-test .taken)) (sym (ap (λ (x : Process). x .subordinate) (c .before .before .process .ensures)) ∙ c .if1 .taken)
+    named (loop .inv .0) (omega (arith, ready-n (start .pre), c .before .before .before .loop-test .taken))
+    (sym (ap (λ (x : Process). x .subordinate) (c .before .before .process .ensures)) ∙ c .if1 .taken)
 
 add-p : tie.Need-add-p Inv-loop μ-loop
 add-p c = omega (arith, ready-sizes (c .before .before .before .before .before .pre) .0)
@@ -49,8 +48,10 @@ loop-again c =
     let loop = c .before .before .before .before .loop in
     (omega arith, omega arith, λ q l u e. at q l u e (same? q (loop .p)))
   where
-    at : (q : ℕ) → 1 ≤ q → q < c .before .before .before .before .loop .p + 1 → runIn (c .before .before .before .before .before .args .area .now) .process q .subordinate ≡ 1 → Same q (c .before .before .before .before .loop .p) → ⊥
-    at q l u e (same f g) = c .if1 .left (ap (λ (x : Process). x .subordinate) (c .before .before .process .ensures) ∙ subst (λ (k : ℕ). runIn (c .before .before .before .before .before .args .area .now) .process k .subordinate ≡ 1) f e)
+    at : (q : ℕ) → 1 ≤ q → q < c .before .before .before .before .loop .p + 1 → runIn
+        (c .before .before .before .before .before .args .area .now) .process q .subordinate ≡ 1 → Same q (c .before .before .before .before .loop .p) → ⊥
+    at q l u e (same f g) = c .if1 .left (ap (λ (x : Process). x .subordinate) (c .before .before .process .ensures) ∙ subst
+        (λ (k : ℕ). runIn (c .before .before .before .before .before .args .area .now) .process k .subordinate ≡ 1) f e)
     at q l u e (apart f g) = c .before .before .before .before .loop .inv .2 q l (omega arith) e
 
 returns-2 : tie.Need-returns-2 Inv-loop μ-loop

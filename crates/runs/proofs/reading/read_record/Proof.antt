@@ -1,18 +1,14 @@
 -- `runs::reading::read_record` meets its contract: each way out is a law of CallLaws.
 -- Assumes nothing.
 use native.Mathlib.Omega.{arith}
-use mathlib.Core.Path.{_≡_, refl, sym, ap, _∙_}
+use mathlib.Core.Path.{refl, ap, _∙_}
 use borrow.Author.Needs.{needs}
 use Rattle.checks.specs.declared.Reading.the-variants.{Found}
-use Rattle.moves.specs.ReadyLaws.{ready-n, ready-sizes}
+use Rattle.lenses.specs.ReadyLaws.{ready-n}
 use Rattle.runs.specs.CallLaws.{read-21, read-25, read-found}
-use Rattle.runs.proofs.Tested.{fresh-long, fresh-empty, wrong-area, right-area, right-ready, process-zero, process-over, process-in}
+use Rattle.runs.proofs.Tested.{fresh-long, fresh-empty, wrong-area, right-ready, process-zero, process-over, process-in}
 use Rattle.runs.proofs.reading.read_record.Statement.{statement}
 use Rattle.runs.proofs.reading.read_record.Tie as tie
-use Rattle.runs.proofs.reading.read_record.Reads as reads
-use Rattle.runs.proofs.reading.read_record.Lts as lts
-use Rattle.areas.proofs.testing.test.Reads as test-reads
-use Rattle.moves.proofs.moving.process.Reads as process-reads
 
 test-requires : tie.Need-test-requires
 test-requires c κs = (fresh-long 16641 _ refl, fresh-empty 16641 _ refl)
@@ -53,7 +49,8 @@ returns-4 c =
     let test = told .before .before .test in
     let a = told .before .before .before .before .args in
     let y = right-ready (a .area .now) _ _ _ _ (test .ensures .0) (told .n .given .1) (test .ensures .1) in
-    ap Found (c .process .ensures) ∙ read-found (a .area .now) (y .right) (a .p) (process-in (a .p) _ (c .before .before .before .if1 .left) (omega (arith, ready-n y, c .before .before .if2 .left)))
+    ap Found (c .process .ensures) ∙ read-found (a .area .now) (y .right) (a .p)
+    (process-in (a .p) _ (c .before .before .before .if1 .left) (omega (arith, ready-n y, c .before .before .if2 .left)))
 
 pub read-record-spec : {M : Type 1} → statement M
 read-record-spec =

@@ -1,17 +1,16 @@
 -- `runs::reading::report` meets its contract: each way out is a law of CallLaws.
 -- Assumes nothing.
 use Prim.Native.Nat.{ℕ}
-use mathlib.Core.Path.{_≡_, refl, sym, ap, _∙_, subst}
+use mathlib.Core.Path.{refl, sym, ap, _∙_}
 use native.Mathlib.Omega.{arith}
 use borrow.Author.Needs.{needs}
 use borrow.Author.Tests.{not-true, not-false}
 use Rattle.areas.specs.Area.{runIn}
-use Rattle.checks.specs.declared.Report.{Report}
-use Rattle.moves.specs.Ready.{Ready, right-fit}
-use Rattle.moves.specs.Formed.{parts-of}
-use Rattle.moves.specs.ReadyLaws.{ready-n, ready-sizes}
-use Rattle.runs.specs.AreaCalls.{Reported}
-use Rattle.runs.specs.CallLaws.{toldOf, reported-21, reported-26, reported-over}
+use Rattle.lenses.specs.Ready.{Ready}
+use Rattle.lenses.specs.ReadyLaws.{right-storable, ready-n}
+use Rattle.machine.specs.FormedLaws.{wellFormed-P}
+use Rattle.checks.specs.Run.{knot}
+use Rattle.runs.specs.CallLaws.{reported-21, reported-26, reported-over}
 use Rattle.runs.proofs.Tested.{fresh-long, fresh-empty, wrong-area, right-ready}
 use Rattle.runs.proofs.reading.report.Statement.{statement}
 use Rattle.runs.proofs.reading.report.Tie as tie
@@ -26,7 +25,8 @@ returns c =
     reported-21 (a .area .now) (wrong-area (a .area .now) _ (test .ensures .0) (c .enum-told .given .1))
 
 -- the area is ready from the test on
-ready : (c : tie.After-square2) → let told = c .before in let test = told .before .before .before .test in Ready (told .before .before .before .before .before .args .area .now) (test .last .1 .0) (told .before .n .given .0 .0) (told .before .n .given .0 .1 .0)
+ready : (c : tie.After-square2) → let told = c .before in let test = told .before .before .before .test in Ready
+    (told .before .before .before .before .before .args .area .now) (test .last .1 .0) (told .before .n .given .0 .0) (told .before .n .given .0 .1 .0)
 ready c =
     let told = c .before .before in
     let test = told .before .before .test in
@@ -49,8 +49,8 @@ start-of-requires c κs = ready (c .before .before .before .before .before)
 process-requires : tie.Need-process-requires
 process-requires c κs =
     let y = ready (c .before .before .before .before .before .before .before) in
-    let p = parts-of _ (right-fit _ (y .right) .formed) in
-    rw (c .before .start-of .ensures) (y, (p .start-low, omega (arith, p .start-high, ready-n y)))
+    let p = wellFormed-P knot _ .0 (right-storable _ (y .right) .formed) in
+    rw (c .before .start-of .ensures) (y, (p .start-in .0, omega (arith, p .start-in, ready-n y)))
 
 count-of-requires : tie.Need-count-of-requires
 count-of-requires c κs = ready (c .before .before .before .before .before .before .before .before .before)

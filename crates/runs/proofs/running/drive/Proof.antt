@@ -1,68 +1,74 @@
--- `runs::running::drive` meets its contract. The loop's invariant is `Turn`; the measure is the deliveries that are left.
+-- `runs::running::drive` meets its contract. The loop's invariant is `Turn`, with what is remembered of the area; the measure is the
+-- deliveries that are left.
 -- Assumes nothing.
 use Prim.Native.Nat.{_-_}
 use mathlib.Core.Path.{_∙_}
 use native.Mathlib.Omega.{arith}
 use borrow.Author.Needs.{needs}
-use Rattle.runs.proofs.Turns.{Turn, turn-first, turn-ready, turn-nears, turn-length, turn-over, turn-spent, turn-refused, turn-next}
+use Rattle.areas.specs.Area.{runIn}
+use Rattle.lenses.proofs.Holding.{holding-ready, holding-length}
+use Rattle.choosing.specs.Memory.{Remembers}
+use Rattle.runs.proofs.Turns.{Turn, turn-first, turn-over, turn-spent, turn-refused, turn-next}
 use Rattle.runs.proofs.running.drive.Statement.{statement}
 use Rattle.runs.proofs.running.drive.Tie as tie
 
 abbrev Inv-loop : tie.InvT-loop
-Inv-loop area₀ square n m k loads₀ lows₀ nears made₀ area loads lows made = Turn area₀ k area loads lows made
+Inv-loop area₀ square n m k memory₀ made₀ area memory made = Turn area₀ k area made × Remembers (runIn area) memory
 
 abbrev μ-loop : tie.MeasureT-loop
-μ-loop area₀ square n m k loads₀ lows₀ nears made₀ area loads lows made = k - made
+μ-loop area₀ square n m k memory₀ made₀ area memory made = k - made
 
 loop-holds : tie.Need-loop-holds Inv-loop μ-loop
-loop-holds c = turn-first (c .pre .0) (c .pre .1 .0, c .pre .1 .1 .0)
+loop-holds c = (turn-first (c .pre .0), c .pre .1)
 
 is-over-requires : tie.Need-is-over-requires Inv-loop μ-loop
-is-over-requires c κs = turn-ready (c .before .before .pre .0) (c .before .loop .inv)
+is-over-requires c κs = let a = c .before in holding-ready (a .before .pre .0) (a .loop .inv .0 .holds)
 
 same-length : tie.Need-same-length Inv-loop μ-loop
-same-length c = let a = c .before .before .before in turn-length (a .before .pre .0) (a .loop .inv)
+same-length c = let a = c .before .before .before in holding-length (a .before .pre .0) (a .loop .inv .0 .holds)
 
 returns : tie.Need-returns Inv-loop μ-loop
 returns c =
     let a = c .before .before .before in
-    turn-over (a .before .pre .0) (a .loop .inv) (c .before .is-over .ensures) (c .if1 .taken)
+    turn-over (a .before .pre .0) (a .loop .inv .0) (c .before .is-over .ensures) (c .if1 .taken)
 
 same-length-2 : tie.Need-same-length-2 Inv-loop μ-loop
-same-length-2 c = let a = c .before .before .before .before in turn-length (a .before .pre .0) (a .loop .inv)
+same-length-2 c = let a = c .before .before .before .before in holding-length (a .before .pre .0) (a .loop .inv .0 .holds)
 
 returns-2 : tie.Need-returns-2 Inv-loop μ-loop
 returns-2 c =
     let i = c .before .before in
     let a = i .before .before in
-    turn-spent (a .before .pre .0) (a .loop .inv) (i .is-over .ensures) (c .before .if1 .left) (c .if2 .taken)
+    turn-spent (a .before .pre .0) (a .loop .inv .0) (i .is-over .ensures) (c .before .if1 .left) (c .if2 .taken)
 
-deliver-lowest-requires : tie.Need-deliver-lowest-requires Inv-loop μ-loop
-deliver-lowest-requires c κs =
-    let a = c .before .before .before .before .before .before .before in
-    (turn-ready (a .before .pre .0) (a .loop .inv), (a .loop .inv .indexed .0, (a .loop .inv .indexed .1, turn-nears (a .before .pre .0) (a .loop .inv) (a .before .pre .1 .1 .1))))
+deliver-next-requires : tie.Need-deliver-next-requires Inv-loop μ-loop
+deliver-next-requires c κs =
+    let a = c .before .before .before .before .before .before in
+    (holding-ready (a .before .pre .0) (a .loop .inv .0 .holds), a .loop .inv .1)
 
 same-length-3 : tie.Need-same-length-3 Inv-loop μ-loop
 same-length-3 c =
     let d = c .before .before .before .before in
-    let a = d .before .before .before .before .before .before .before .before in
-    d .deliver-lowest .kept .0 ∙ turn-length (a .before .pre .0) (a .loop .inv)
+    let a = d .before .before .before .before .before .before .before in
+    d .deliver-next .kept .0 ∙ holding-length (a .before .pre .0) (a .loop .inv .0 .holds)
 
 returns-3 : tie.Need-returns-3 Inv-loop μ-loop
 returns-3 c =
     let d = c .before .before .before .before in
-    let o = d .before .before .before .before in
+    let o = d .before .before .before in
     let i = o .before .before in
     let a = i .before .before in
-    turn-refused (a .before .pre .0) (a .loop .inv) (i .is-over .ensures) (o .before .if1 .left) (o .if2 .left) (d .deliver-lowest .ensures) (c .before .number .given .1)
+    turn-refused (a .before .pre .0) (a .loop .inv .0) (i .is-over .ensures) (o .before .if1 .left) (o .if2 .left) (d .deliver-next .ensures)
+    (c .before .number .given .1)
 
 loop-again : tie.Need-loop-again Inv-loop μ-loop
 loop-again c =
     let d = c .before .before .before in
-    let o = d .before .before .before .before in
+    let o = d .before .before .before in
     let i = o .before .before in
     let a = i .before .before in
-    turn-next (a .before .pre .0) (a .loop .inv) (i .is-over .ensures) (o .before .if1 .left) (o .if2 .left) (d .deliver-lowest .ensures) (c .enum-told .given .1)
+    let next = turn-next (a .before .pre .0) (a .loop .inv .0) (i .is-over .ensures) (o .before .if1 .left) (o .if2 .left) (d .deliver-next .ensures) in
+    (next (c .enum-told .given .1), d .deliver-next .ensures .1 .1 .0)
 
 pub drive-spec : {M : Type 1} → statement M
 drive-spec =
@@ -76,7 +82,7 @@ drive-spec =
     returns
     same-length-2
     returns-2
-    deliver-lowest-requires
+    deliver-next-requires
     (λ c. search needs)
     same-length-3
     returns-3

@@ -1,13 +1,8 @@
 -- `runs::running::run_on` meets its contract: 21 where the test fails, and else the deliveries from the run in the area.
 -- Assumes nothing.
 use mathlib.Core.Path.{refl, _∙_}
-use native.Mathlib.Omega.{arith}
 use borrow.Author.Needs.{needs}
-use Rattle.areas.specs.Area.{runIn}
-use Rattle.moves.specs.Ready.{Ready}
-use Rattle.moves.specs.ReadyLaws.{ready-n, ready-sizes}
-use Rattle.choosing.specs.LowsLaws.{lows-ones}
-use Rattle.choosing.specs.NearLaws.{fresh-nears}
+use Rattle.lenses.specs.Ready.{Ready}
 use Rattle.runs.specs.CallLaws.{runOn-21, runOn-on}
 use Rattle.runs.proofs.Tested.{fresh-long, fresh-empty, wrong-area, right-ready}
 use Rattle.runs.proofs.running.run_on.Statement.{statement}
@@ -29,26 +24,21 @@ start c = c .before .before .before .before .before
 ready : (c : tie.After-n) → Ready (start c .args .area .now) (c .before .before .test .last .1 .0) (c .n .given .0 .0) (c .n .given .0 .1 .0)
 ready c =
     let t = c .before .before in
-    right-ready (start c .args .area .now) (t .test .last .1 .0) (t .test .result) (c .n .given .0 .0) (c .n .given .0 .1 .0) (t .test .ensures .0) (c .n .given .1) (t .test .ensures .1)
+    let g = c .n .given in
+    right-ready (start c .args .area .now) (t .test .last .1 .0) (t .test .result) (g .0 .0) (g .0 .1 .0) (t .test .ensures .0) (g .1) (t .test .ensures .1)
 
-fill-loads-requires : tie.Need-fill-loads-requires
-fill-loads-requires c κs = (ready (c .before .before .before .before), (refl, fresh-empty 129 _ refl))
-
-fill-nears-requires : tie.Need-fill-nears-requires
-fill-nears-requires c κs = (ready (c .before .before .before .before .before .before .before .before), fresh-nears _ refl)
+remember-requires : tie.Need-remember-requires
+remember-requires c κs = (ready (c .before .before .before .before), refl)
 
 drive-requires : tie.Need-drive-requires
 drive-requires c κs =
-    let g = c .before .before .before .before .before in
-    let f = g .before .before .before .before in
-    let y = ready (f .before .before .before .before .before) in
-    (y, (f .fill-loads .ensures, (lows-ones (runIn (start (f .before .before .before .before .before) .args .area .now)) (omega (arith, ready-n y, ready-sizes y .0)) _ refl, g .fill-nears .ensures)))
+    let f = c .before .before .before in
+    (ready (f .before .before .before .before .before), f .remember .ensures)
 
 returns-2 : tie.Need-returns-2
 returns-2 c =
     let d = c .before in
-    let f = d .before .before .before .before .before .before .before .before .before .before in
-    let n = f .before .before .before .before .before in
+    let n = d .before .before .before .before .before .before .before .before .before in
     let o = runOn-on (start n .args .area .now) (ready n .right) (start n .args .k) in
     (d .drive .ensures .0 ∙ o .0, d .drive .ensures .1 ∙ o .1)
 
@@ -61,8 +51,7 @@ run-on-spec =
     (λ c. search needs)
     (λ c. search needs)
     returns
-    fill-loads-requires
-    fill-nears-requires
+    remember-requires
     drive-requires
     (λ c. search needs)
     returns-2)

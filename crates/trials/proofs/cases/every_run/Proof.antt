@@ -7,10 +7,10 @@ use Rattle.trials.proofs.cases.every_run.Statement.{statement}
 use Rattle.trials.proofs.cases.every_run.Tie as tie
 
 abbrev Inv-loop : tie.InvT-loop
-Inv-loop area₀ table list square after before e count u₀ k₀ area u k = length area ≡ length area₀
+Inv-loop area₀ table list found e u₀ k₀ area u k = length area ≡ length area₀
 
 abbrev μ-loop : tie.MeasureT-loop
-μ-loop area₀ table list square after before e count u₀ k₀ area u k = count - k
+μ-loop area₀ table list found e u₀ k₀ area u k = 16 - k
 
 pub every-run-spec : {M : Type 1} → statement M
 every-run-spec =
@@ -19,9 +19,9 @@ every-run-spec =
     Inv-loop
     μ-loop
     (λ c. search needs)
+    (λ c. search needs)
+    (λ c. search needs)
     (λ c κs. search needs)
-    (λ c. search needs)
-    (λ c. search needs)
     (λ c. search needs)
     (λ c. search needs)
     (λ c. search needs)

@@ -1,4 +1,4 @@
--- `walks::places::opening` meets its contract: each answer of `reader::open` is told by its arc and its number. Assumes nothing.
+-- `walks::places::opening` meets its contract: each answer of `table_reader::open` is told by its arc and its number. Assumes nothing.
 use mathlib.Core.Path.{sym, ap, _∙_}
 use borrow.Author.Needs.{needs}
 use Rattle.walks.specs.Places.{placeOf}

@@ -1,4 +1,4 @@
--- `walks::places::stepping` meets its contract: each answer of `reader::next` is given with its arc. Assumes nothing.
+-- `walks::places::stepping` meets its contract: each answer of `table_reader::next` is given with its arc. Assumes nothing.
 use mathlib.Core.Path.{_≡_, sym, ap, _∙_}
 use borrow.Author.Needs.{needs}
 use Rattle.tables.specs.declared.Next.{Next}

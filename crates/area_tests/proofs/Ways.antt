@@ -1,0 +1,212 @@
+-- The tests of an area's regions in the parts that the code makes: a way out of the code that fails a part fails the test, and the last way
+-- out passes all parts but one.
+--   tells-no                      == a test fails where what it says does not hold
+--   tells-last                    == where a test says what its last part says, it is that part
+--   failing                       == a call that gave false, where its test was to pass
+--   HeadParts, headTest-parts     == the head
+--   flags-parts                   == the flags' word is the flags packed again exactly if it is a number of at most 7
+--   fatherRight-none, fatherRight-over, fatherRight-joined   == father 0, father over N, and any other by the square
+--   RecordParts, recordTest-parts == a record
+--   arcTest-no, arcTest-back, arcTest-free   == an arc's two links
+--   AreaParts, areaTests-parts    == an area
+-- Assumes nothing.
+use Prim.Native.Nat.{ℕ, _+_, _-_, _*_, _/_, _%_, _≤_, _<_}
+use mathlib.Core.Bool.{Bool, true, false, not, false≢true}
+use mathlib.Core.List.{List}
+use mathlib.Core.Path.{_≡_, sym, ap, _∙_}
+use native.Mathlib.Omega.{arith}
+use borrow.Author.Tests.{eq-eqb, ne-eqb}
+use lib.IntN.{ℤ, pos}
+use lib.ListN.{getD}
+use Rattle.base.specs.ChoiceLaws.{Tested, passed, failed, tested}
+use Rattle.base.specs.Sums.{allTo}
+use Rattle.tables.specs.Table.{nOf, mOf, arcAt}
+use Rattle.tables.specs.Layout.{Right}
+use Rattle.tables.specs.Reading.{fieldsNumber}
+use Rattle.tables.specs.Waits.{waitsOf, neighbours}
+use Rattle.tables.specs.WaitsLaws.{waitsOf-sound, neighbours-ends}
+use Rattle.steps.specs.declared.Process.{Process}
+use Rattle.steps.specs.Step.{inRange}
+use Rattle.checks.specs.Run.{fatherRight}
+use Rattle.areas.specs.Places.{mostProcesses, checkPlace, startPlace, countPlace, headUsed, headSize, fieldPlace, recordUsed, recordSize, linkSlots, linkSize}
+use Rattle.areas.specs.Area.{fieldTotalOf, recordPlace, linkPlace, arcOf, knotCheck, flagsOf, hasBack, numberAt, fieldsIn, recordAt, sameWord}
+use Rattle.areas.specs.Squares.{joinedBy, Square}
+use Rattle.areas.specs.Tells.{Tells}
+use Rattle.areas.specs.TellsLaws.{tells-map, tells-le, tells-eq, tells-id, tells-both, tells-same}
+use Rattle.areas.specs.WordTestLaws.{sameWord-P, counts-of}
+use Rattle.areas.specs.SquareLaws.{joinedBy-is}
+use Rattle.area_tests.specs.AreaTests.{sizesTest, fieldTest, counts, areFree, headTest, recordTest, linkTest, arcTest, areaTests}
+
+pub tells-no : {b : Bool} {P : Type 0} → Tells b P → (P → ⊥) → b ≡ false
+tells-no {b} h never = at (tested b)
+  where
+    at : Tested b → b ≡ false
+    at (passed e) = absurd (never (h .0 e))
+    at (failed e) = e
+
+pub tells-last : {b r : Bool} {P : Type 0} → Tells b P → (r ≡ true → P) → (P → r ≡ true) → r ≡ b
+tells-last {b} {r} h f g = tells-same r b (f, g) h
+
+-- a call gave false, and its test passes: both cannot be
+pub failing : {b t : Bool} → b ≡ t → not b ≡ true → t ≡ true → ⊥
+failing {b} {t} e h p = false≢true (sym (ap not (e ∙ p)) ∙ h)
+
+-- ---- the head
+
+pub record HeadParts (w : List ℤ) : Type 0 where
+  pub check : sameWord (getD w checkPlace (pos 0)) knotCheck ≡ true
+  pub start : counts w startPlace ≡ true
+  pub low : 1 ≤ numberAt w startPlace
+  pub high : numberAt w startPlace ≤ numberAt w (fieldPlace 0)
+  pub count : counts w countPlace ≡ true
+  pub few : numberAt w countPlace ≤ 2048
+  pub free : areFree w headUsed headSize ≡ true
+
+pub headTest-parts : (w : List ℤ) → Tells (headTest w) (HeadParts w)
+unfolding headTest
+headTest-parts w =
+    tells-map
+    (λ s. record {
+      check = s .0 .0 .0 .0 .0 .0;
+      start = s .0 .0 .0 .0 .0 .1;
+      low = s .0 .0 .0 .0 .1;
+      high = s .0 .0 .0 .1;
+      count = s .0 .0 .1;
+      few = s .0 .1;
+      free = s .1;
+    })
+    (λ s. ((((((s .check, s .start), s .low), s .high), s .count), s .few), s .free))
+    (tells-both
+    (tells-both
+    (tells-both
+    (tells-both
+    (tells-both (tells-both (tells-id (sameWord (getD w checkPlace (pos 0)) knotCheck)) (tells-id (counts w startPlace))) (tells-le 1 (numberAt w startPlace)))
+    (tells-le (numberAt w startPlace) (numberAt w (fieldPlace 0))))
+    (tells-id (counts w countPlace)))
+    (tells-le (numberAt w countPlace) 2048))
+    (tells-id (areFree w headUsed headSize)))
+
+-- ---- a record
+
+-- a number of at most 7 is its three bits
+bits : (n : ℕ) → n ≤ 7 → n ≡ n % 2 + 2 * (n / 2 % 2) + 4 * (n / 4 % 2)
+bits n h =
+    let q : n / 2 / 2 ≡ n / 4 = omega arith in
+    let r : n / 4 % 2 ≡ n / 4 = omega arith in
+    omega arith
+
+flags-parts : (w : List ℤ) (k : ℕ) → Tells (sameWord (getD w k (pos 0)) (pos (flagsOf (recordAt w k)))) ((counts w k ≡ true) × (numberAt w k ≤ 7))
+unfolding flagsOf
+flags-parts w k = tells-map to from (sameWord-P (getD w k (pos 0)) (pos (flagsOf (recordAt w k))))
+  where
+    to : getD w k (pos 0) ≡ pos (flagsOf (recordAt w k)) → (counts w k ≡ true) × (numberAt w k ≤ 7)
+    to e =
+        let n : numberAt w k ≡ flagsOf (recordAt w k) = ap lib.IntN.natAbs e in
+        (sameWord-P (getD w k (pos 0)) (pos (numberAt w k)) .1 (counts-of w k (flagsOf (recordAt w k)) e), omega arith)
+
+    from : (counts w k ≡ true) × (numberAt w k ≤ 7) → getD w k (pos 0) ≡ pos (flagsOf (recordAt w k))
+    from s = sameWord-P (getD w k (pos 0)) (pos (numberAt w k)) .0 (s .0) ∙ ap pos (bits (numberAt w k) (s .1))
+
+-- the father of p, by the square
+module _ (w : List ℤ) (sq : List ℕ) (right : Right (fieldsIn w)) (square : Square (fieldsIn w) sq) (p : ℕ) (x : Process) where
+  pub fatherRight-none : x .father ≡ 0 → fatherRight (waitsOf (fieldsIn w)) p x ≡ true
+  unfolding fatherRight
+  fatherRight-none e = rw (eq-eqb (x .father) 0 e)
+
+  pub fatherRight-over : nOf (fieldsIn w) < x .father → fatherRight (waitsOf (fieldsIn w)) p x ≡ false
+  unfolding fatherRight waitsOf
+  fatherRight-over h = rw (ne-eqb (x .father) 0 (λ e. omega arith)) (at (tested (neighbours (waitsOf (fieldsIn w)) p (x .father))))
+    where
+      at : Tested (neighbours (waitsOf (fieldsIn w)) p (x .father)) → neighbours (waitsOf (fieldsIn w)) p (x .father) ≡ false
+      at (passed e) = absurd (omega (arith, neighbours-ends (waitsOf (fieldsIn w)) (waitsOf-sound (fieldsIn w) right) p (x .father) e .3))
+      at (failed e) = e
+
+  pub fatherRight-joined : {b : Bool} → (x .father ≡ 0 → ⊥) → p ≤ mostProcesses → x .father ≤ mostProcesses → b ≡ joinedBy sq p (x .father)
+      → b ≡ fatherRight (waitsOf (fieldsIn w)) p x
+  unfolding fatherRight
+  fatherRight-joined d l u e = rw (ne-eqb (x .father) 0 d) (e ∙ joinedBy-is (fieldsIn w) sq square p (x .father) l u)
+
+pub record RecordParts (w : List ℤ) (p k : ℕ) (x : Process) : Type 0 where
+  pub values : inRange x ≡ true
+  pub father : fatherRight (waitsOf (fieldsIn w)) p x ≡ true
+  pub flags : counts w k ≡ true
+  pub bits : numberAt w k ≤ 7
+  pub num-word : counts w (k + 2) ≡ true
+  pub father-word : counts w (k + 3) ≡ true
+  pub free : areFree w (k + recordUsed) (k + recordSize) ≡ true
+
+recordTest-at : (w : List ℤ) (p : ℕ) → Tells (recordTest w p) (RecordParts w p (recordPlace (fieldsIn w) p) (recordAt w (recordPlace (fieldsIn w) p)))
+unfolding recordTest
+recordTest-at w p =
+    tells-map
+    (λ s. record {
+      values = s .0 .0 .0 .0 .0;
+      father = s .0 .0 .0 .0 .1;
+      flags = s .0 .0 .0 .1 .0;
+      bits = s .0 .0 .0 .1 .1;
+      num-word = s .0 .0 .1;
+      father-word = s .0 .1;
+      free = s .1;
+    })
+    (λ s. (((((s .values, s .father), (s .flags, s .bits)), s .num-word), s .father-word), s .free))
+    (tells-both
+    (tells-both
+    (tells-both
+    (tells-both (tells-both (tells-id (inRange x)) (tells-id (fatherRight (waitsOf (fieldsIn w)) p x))) (flags-parts w k))
+    (tells-id (counts w (k + 2))))
+    (tells-id (counts w (k + 3))))
+    (tells-id (areFree w (k + recordUsed) (k + recordSize))))
+  where
+    k : ℕ
+    k = recordPlace (fieldsIn w) p
+
+    x : Process
+    x = recordAt w k
+
+-- the record stands at word k, and x was read there
+pub recordTest-parts : (w : List ℤ) (p k : ℕ) (x : Process) → k ≡ recordPlace (fieldsIn w) p → x ≡ recordAt w k → Tells (recordTest w p) (RecordParts w p k x)
+recordTest-parts w p k x ek ex = rw (ex, ek) (recordTest-at w p)
+
+-- ---- an arc
+
+module _ (w : List ℤ) (k i : ℕ) (e : i ≡ linkPlace (fieldsIn w) k) where
+  pub arcTest-no : linkTest linkSlots linkSize w i ≡ false → arcTest w k ≡ false
+  unfolding arcTest
+  arcTest-no h = rw (← e, h)
+
+  -- the link back is there exactly if no arc leads back
+  abbrev NoArcBack : Type 0
+  NoArcBack = arcOf (fieldsIn w) (arcAt (fieldsIn w) k .to) (arcAt (fieldsIn w) k .from) ≡ 0
+
+  pub arcTest-back : {b : Bool} → linkTest linkSlots linkSize w i ≡ true → NoArcBack → b ≡ linkTest linkSlots linkSize w (i + linkSize) → b ≡ arcTest w k
+  unfolding arcTest hasBack
+  arcTest-back h o q = rw (← e, h, o) q
+
+  pub arcTest-free : {b : Bool} → linkTest linkSlots linkSize w i ≡ true → (NoArcBack → ⊥) → b ≡ areFree w (i + linkSize) (i + linkSize + linkSize)
+      → b ≡ arcTest w k
+  unfolding arcTest hasBack
+  arcTest-free h o q = rw (← e, h, ne-eqb (arcOf (fieldsIn w) (arcAt (fieldsIn w) k .to) (arcAt (fieldsIn w) k .from)) 0 o) q
+
+-- ---- an area
+
+pub record AreaParts (w : List ℤ) : Type 0 where
+  pub sizes : sizesTest w ≡ true
+  pub fields : allTo (fieldTotalOf (fieldsIn w)) (λ j. fieldTest w (j - 1)) ≡ true
+  pub table : fieldsNumber (fieldsIn w) ≡ 0
+  pub head : headTest w ≡ true
+  pub records : allTo (nOf (fieldsIn w)) (recordTest w) ≡ true
+  pub arcs : allTo (mOf (fieldsIn w)) (arcTest w) ≡ true
+
+pub areaTests-parts : (w : List ℤ) → Tells (areaTests w) (AreaParts w)
+unfolding areaTests
+areaTests-parts w =
+    tells-map (λ s. record { sizes = s .0 .0 .0 .0 .0; fields = s .0 .0 .0 .0 .1; table = s .0 .0 .0 .1; head = s .0 .0 .1; records = s .0 .1; arcs = s .1 })
+    (λ s. (((((s .sizes, s .fields), s .table), s .head), s .records), s .arcs))
+    (tells-both
+    (tells-both
+    (tells-both
+    (tells-both (tells-both (tells-id (sizesTest w)) (tells-id (allTo (fieldTotalOf (fieldsIn w)) (λ j. fieldTest w (j - 1)))))
+    (tells-eq (fieldsNumber (fieldsIn w)) 0))
+    (tells-id (headTest w)))
+    (tells-id (allTo (nOf (fieldsIn w)) (recordTest w))))
+    (tells-id (allTo (mOf (fieldsIn w)) (arcTest w))))

@@ -1,0 +1,79 @@
+-- The whole test of an area, by the ways that the code goes.
+--   Sized w n m               == the sizes passed, and n and m are N and M of the area
+--   sized-of, sized-not       == what the answer of the sizes says
+--   bounds                    == how large they are, and that there are words enough
+--   counted                   == as many fields as the code counts
+--   wrong                     == a way out that fails a part of the test
+--   accepted                  == the way out that passes all parts
+--   replicate-zero            == an array of zeros holds 0 everywhere
+-- Assumes nothing.
+use Prim.Native.Nat.{ℕ, zero, suc, _≤_}
+use mathlib.Core.Bool.{Bool, true, false, false≢true}
+use mathlib.Core.List.{List}
+use mathlib.Core.Path.{_≡_, refl, sym, _∙_}
+use native.Mathlib.Omega.{arith}
+use lib.IntN.{ℤ}
+use lib.ListN.{length, getD, replicate}
+use Rattle.tables.specs.Table.{nOf, mOf}
+use Rattle.area_tests.specs.declared.testing.Sizes.{Sizes}
+use Rattle.areas.specs.Places.{mostProcesses, mostArcs, fieldTotal, fieldPlace, areaLength}
+use Rattle.areas.specs.Area.{fieldTotalOf, numberAt, fieldsIn, areaRight}
+use Rattle.areas.specs.RunInLaws.{fieldsIn-n, fieldsIn-m}
+use Rattle.area_tests.specs.AreaTests.{sizesTest}
+use Rattle.area_tests.specs.Testing.{sizesOf}
+use Rattle.area_tests.specs.AreaTestsLaws.{sizesTest-P, areaTests-P}
+use Rattle.area_tests.proofs.Ways.{tells-no, AreaParts, areaTests-parts}
+
+pub record Sized (w : List ℤ) (n m : ℕ) : Type 0 where
+  pub test : sizesTest w ≡ true
+  pub processes : n ≡ nOf (fieldsIn w)
+  pub arcs : m ≡ mOf (fieldsIn w)
+
+pub sized-of : (w : List ℤ) (n m : ℕ) {r : Sizes} → r ≡ sizesOf (sizesTest w) w → r ≡ Sizes.Right n m → Sized w n m
+sized-of w n m e q = at (sizesTest w) refl (sym e ∙ q)
+  where
+    at : (b : Bool) → sizesTest w ≡ b → sizesOf b w ≡ Sizes.Right n m → Sized w n m
+    at true t h =
+        let p : numberAt w (fieldPlace 0) ≡ n = cc in
+        let a : numberAt w (fieldPlace 1) ≡ m = cc in
+        record { test = t; processes = sym p ∙ sym (fieldsIn-n w); arcs = sym a ∙ sym (fieldsIn-m w) }
+    at false t h = let never : _≡_ {A = ℕ} 0 1 = cc in absurd (omega arith)
+
+pub sized-not : (w : List ℤ) {r : Sizes} → r ≡ sizesOf (sizesTest w) w → r ≡ Sizes.Wrong → sizesTest w ≡ false
+sized-not w e q = at (sizesTest w) refl (sym e ∙ q)
+  where
+    at : (b : Bool) → sizesTest w ≡ b → sizesOf b w ≡ Sizes.Wrong → sizesTest w ≡ false
+    at true t h = let never : _≡_ {A = ℕ} 0 1 = cc in absurd (omega arith)
+    at false t h = t
+
+module _ (w : List ℤ) (n m : ℕ) (s : Sized w n m) where
+  -- N and M are in range, and there are words enough
+  pub record Bounds : Type 0 where
+    pub processes : n ≤ mostProcesses
+    pub arcs : m ≤ mostArcs
+    pub words : areaLength n m ≤ length w
+
+  pub bounds : Bounds
+  bounds =
+      let f = sizesTest-P w .0 (s .test) in
+      record {
+        processes = omega (arith, f .sizes .1, s .processes);
+        arcs = omega (arith, f .sizes .2, s .arcs);
+        words = omega (arith, f .enough, s .processes, s .arcs);
+      }
+
+  pub counted : fieldTotal n m ≡ fieldTotalOf (fieldsIn w)
+  counted = omega (arith, s .processes, s .arcs)
+
+  pub accepted : AreaParts w → Sizes.Right n m ≡ sizesOf (areaRight w) w
+  accepted p = rw (sym (areaTests-P w) ∙ areaTests-parts w .1 p, s .processes ∙ fieldsIn-n w, s .arcs ∙ fieldsIn-m w)
+
+pub wrong : {Q : Type 0} (w : List ℤ) → (AreaParts w → ⊥) → (Sizes.Wrong ≡ sizesOf (areaRight w) w) × (areaRight w ≡ true → Q)
+wrong w never =
+    let f = sym (areaTests-P w) ∙ tells-no (areaTests-parts w) never in
+    (rw f, λ e. absurd (false≢true (sym f ∙ e)))
+
+pub replicate-zero : (n k : ℕ) → _≡_ {A = ℕ} (getD (replicate n 0) k 0) 0
+replicate-zero zero k = refl
+replicate-zero (suc n) zero = refl
+replicate-zero (suc n) (suc k) = replicate-zero n k

@@ -1,0 +1,22 @@
+-- `area_tests::word_tests::is_number` meets its contract: the word comes back from its bits, and is the word of its number exactly if it is not below 0.
+-- Assumes nothing.
+use mathlib.Core.Path.{_≡_, refl, sym, _∙_}
+use lib.Dec.{leb·zero}
+use lib.IntN.{ℤ, pos, negsuc, natAbs}
+use lib.Signed.{leZ}
+use borrow.Author.Tests.{eq-eqb}
+use Rattle.areas.specs.Area.{sameWord}
+use Rattle.steps.proofs.Counts.{signed-back}
+use Rattle.area_tests.proofs.word_tests.is_number.Statement.{statement}
+use Rattle.area_tests.proofs.word_tests.is_number.Tie as tie
+
+test : (z : ℤ) → leZ (pos 0) z ≡ sameWord z (pos (natAbs z))
+unfolding sameWord
+test (pos n) = leb·zero n ∙ sym (eq-eqb n n refl)
+test (negsuc n) = refl
+
+returns : tie.Need-returns
+returns c = rw (signed-back (c .args .word) (c .fits .word .sfits)) (test (c .args .word))
+
+pub is-number-spec : {M : Type 1} → statement M
+is-number-spec = tie.close (tie.spec returns)

@@ -1,0 +1,96 @@
+-- The test of a link in the two parts that code makes.
+--   linkTest-parts        == the test of a link: messages up to the first 0, and zeros from there on
+-- Assumes nothing.
+use Prim.Native.Nat.{ℕ, _+_, _-_, _≤_, _<_}
+use mathlib.Core.Bool.{Bool, true, _&&_}
+use mathlib.Core.List.{List}
+use mathlib.Core.Path.{_≡_, sym, ap, _∙_}
+use native.Mathlib.Omega.{arith}
+use lib.IntN.{ℤ, pos}
+use lib.ListN.{length, getD}
+use Rattle.base.specs.ChoiceLaws.{Below, below, beyond, below?}
+use Rattle.base.specs.Sums.{allTo}
+use Rattle.steps.specs.declared.Message.{Message}
+use Rattle.steps.specs.declared.Message.the-variants.{Suc}
+use Rattle.steps.specs.Step.{countSmall}
+use Rattle.checks.specs.Run.{countsSmall}
+use Rattle.areas.specs.Area.{codeOf, slotWord, messageOf, messagesAt}
+use Rattle.areas.specs.Tells.{Tells}
+use Rattle.areas.specs.TellsLaws.{tells-map, tells-id, tells-both, tells-below, tells-same}
+use Rattle.areas.specs.CodeLaws.{slotWord-past}
+use Rattle.areas.specs.WordTestLaws.{sameWord-P}
+use Rattle.areas.specs.LinkLaws.{messagesAt-length, messagesAt-at, slotWord-at, countsSmall-at, countsSmall-of}
+use Rattle.area_tests.specs.AreaTests.{isFree, messageWord, linkTest}
+use Rattle.area_tests.specs.RegionLaws.{linkTest-P}
+
+-- ---- linkTest
+
+module _ (s z : ℕ) (w : List ℤ) (i : ℕ) (fits : s ≤ z) where
+  -- the messages of the link, and the word j of it
+  abbrev here : List Message
+  here = messagesAt w i s
+
+  abbrev word : ℕ → ℤ
+  word j = getD w (i + j) (pos 0)
+
+  -- what the test says of the words, and of the messages
+  record Holds : Type 0 where
+    pub words : (j : ℕ) → j < z → word j ≡ slotWord here j
+    pub small : countsSmall here ≡ true
+
+  abbrev messages : Bool
+  messages = allTo (length here) (λ j. messageWord (word (j - 1)))
+
+  abbrev zeros : Bool
+  zeros = allTo (z - length here) (λ j. isFree w (i + length here + (j - 1)))
+
+  few : length here ≤ s
+  few = messagesAt-length w i s
+
+  -- a message of the link is that of its word
+  at-word : (j : ℕ) → j < length here → getD here j Suc ≡ messageOf (word j)
+  at-word j h = messagesAt-at w i s j h
+
+  at-code : (j : ℕ) → j < length here → slotWord here j ≡ codeOf (messageOf (word j))
+  at-code j h = slotWord-at here j h ∙ ap codeOf (at-word j h)
+
+  test-P : Tells (linkTest s z w i) Holds
+  test-P = tells-map (λ p. record { words = p .1; small = p .0 }) (λ h. (h .small, h .words)) (linkTest-P s z w i)
+
+  Message-at : ℕ → Type 0
+  Message-at j = (word j ≡ codeOf (messageOf (word j))) × (countSmall (messageOf (word j)) ≡ true)
+
+  Free-at : ℕ → Type 0
+  Free-at j = getD w (i + length here + j) (pos 0) ≡ pos 0
+
+  parts-P : Tells (messages && zeros) Holds
+  unfolding Message-at Free-at
+  parts-P =
+      tells-map to from
+      (tells-both
+      (tells-below (length here) (λ j. messageWord (word j)) Message-at
+      (λ j. tells-both (sameWord-P (word j) (codeOf (messageOf (word j)))) (tells-id (countSmall (messageOf (word j))))))
+      (tells-below (z - length here) (λ j. isFree w (i + length here + j)) Free-at (λ j. sameWord-P (getD w (i + length here + j) (pos 0)) (pos 0))))
+    where
+      Said : Type 0
+      Said = ((j : ℕ) → j < length here → Message-at j) × ((j : ℕ) → j < z - length here → Free-at j)
+
+      at : Said → (j : ℕ) → j < z → Below j (length here) → word j ≡ slotWord here j
+      at p j u (below h _) = p .0 j h .0 ∙ sym (at-code j h)
+      at p j u (beyond h _) =
+          let q : i + length here + (j - length here) ≡ i + j = omega arith in
+          (rw q at (p .1 (j - length here) (omega arith))) ∙ sym (slotWord-past here j h)
+
+      to : Said → Holds
+      to s = record { words = λ j u. at s j u (below? j (length here)); small = countsSmall-of here (λ j u. rw (at-word j u) (s .0 j u .1)) }
+
+      free : Holds → (j : ℕ) → j < z - length here → Free-at j
+      free h j u =
+          let q : i + length here + j ≡ i + (length here + j) = omega arith in
+          rw q (h .words (length here + j) (omega arith) ∙ slotWord-past here (length here + j) (omega arith))
+
+      from : Holds → Said
+      from h = (λ j u. (h .words j (omega (arith, few)) ∙ at-code j u, rw (← at-word j u) (countsSmall-at here j (h .small) u)), free h)
+
+  pub linkTest-parts : linkTest s z w i ≡ (messages && zeros)
+  linkTest-parts = tells-same (linkTest s z w i) (messages && zeros) test-P parts-P

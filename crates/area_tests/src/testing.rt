@@ -1,0 +1,243 @@
+// The test of an area: is it well formed? On any words whatever, in one pass over them.
+use crate::word_tests;
+use areas::places;
+use areas::squares;
+use areas::words;
+ghost use mathlib.Core.Path.{_≡_};
+ghost use mathlib.Core.Bool.{true};
+ghost use Prim.Native.Nat.{ℕ, _+_, _-_, _*_, _≤_, _<_};
+ghost use lib.ListN.{length, getD};
+ghost use Rattle.base.specs.Sums.{allTo};
+ghost use Rattle.tables.specs.Table.{fieldOf, nOf, mOf};
+ghost use Rattle.tables.specs.Layout.{Right};
+ghost use Rattle.areas.specs.Places.{mostProcesses, mostArcs, fieldTotal, fieldPlace};
+ghost use Rattle.areas.specs.Area.{numberAt, fieldsIn, areaRight};
+ghost use Rattle.areas.specs.Squares.{squareSize, Square};
+ghost use Rattle.area_tests.specs.AreaTests.{mostBytes, sizesTest, fieldTest, headTest, recordTest, arcTest};
+ghost use Rattle.area_tests.specs.Testing.{sizesOf, CopiedTo};
+
+// N and M of an area, or that it is not well formed.
+pub enum Sizes {
+    Right { n: usize, m: usize },
+    Wrong,
+}
+
+// Enough words for N and M, which are in range, and for all that they need.
+fn sizes_of(area: &[i32]) -> Sizes
+    ensures { λ r. ⌜ r ≡ sizesOf (sizesTest (now (area .entry))) (now (area .entry)) ⌝ }
+{
+    if area.len() < places::SIZES_END {
+        return Sizes::Wrong;
+    }
+    let n = words::number(area[places::N_PLACE]) as usize;
+    let m = words::number(area[places::M_PLACE]) as usize;
+    if n == 0 {
+        return Sizes::Wrong;
+    }
+    if n > places::MOST_PROCESSES {
+        return Sizes::Wrong;
+    }
+    if m > places::MOST_ARCS {
+        return Sizes::Wrong;
+    }
+    if area.len() < places::area_length(n, m) {
+        return Sizes::Wrong;
+    }
+    Sizes::Right { n, m }
+}
+
+// Copies the fields of the table into bytes, which are 0 before; says whether each is a number of 16 bits.
+fn fields_to_bytes(area: &[i32], count: usize, table: &mut [u8; places::MOST_BYTES]) -> bool
+    requires { ⌜ fieldPlace count ≤ length (now area) ⌝ }
+    requires { ⌜ count ≤ fieldTotal mostProcesses mostArcs ⌝ }
+    requires { ⌜ length (now table) ≡ mostBytes ⌝ }
+    requires { ⌜ ((k : ℕ) → getD (now table) k 0 ≡ 0) ⌝ }
+    ensures { λ r. ⌜ r ≡ allTo count (λ j. fieldTest (now (area .entry)) (j - 1)) ⌝ }
+    ensures { λ r. ⌜ (r ≡ true → CopiedTo (now (area .entry)) count (now (table .exit))) ⌝ }
+    ensures { λ _. ⌜ length (now (table .exit)) ≡ mostBytes ⌝ }
+{
+    for j in 0..count {
+        let word = area[places::field_place(j)];
+        if !word_tests::is_number(word) {
+            return false;
+        }
+        let x = words::number(word);
+        if x > 65535 {
+            return false;
+        }
+        let at = 2 * j;
+        table[at] = (x % 256) as u8;
+        table[at + 1] = (x / 256 % 256) as u8;
+    }
+    true
+}
+
+// Which check, the start, the count, and zeros.
+fn is_head(area: &[i32], n: usize) -> bool
+    requires { ⌜ fieldPlace 2 ≤ length (now area) ⌝ }
+    requires { ⌜ n ≡ numberAt (now area) (fieldPlace 0) ⌝ }
+    ensures { λ r. ⌜ r ≡ headTest (now (area .entry)) ⌝ }
+{
+    if !word_tests::is_same(area[places::CHECK], places::KNOT_CHECK) {
+        return false;
+    }
+    if !word_tests::is_number(area[places::START]) {
+        return false;
+    }
+    let start = words::number(area[places::START]) as usize;
+    if start == 0 {
+        return false;
+    }
+    if start > n {
+        return false;
+    }
+    if !word_tests::is_number(area[places::COUNT]) {
+        return false;
+    }
+    if words::number(area[places::COUNT]) > 2048 {
+        return false;
+    }
+    word_tests::is_free(area, places::HEAD_USED, places::HEAD_SIZE)
+}
+
+// The record of p: values in range, father 0 or a neighbour, zeros in the free words.
+fn is_record(
+    area: &[i32],
+    square: &[u16; places::SQUARE_SIZE],
+    n: usize,
+    m: usize,
+    p: usize,
+) -> bool
+    requires { ⌜ sizesTest (now area) ≡ true ⌝ }
+    requires { ⌜ Square (fieldsIn (now area)) (now square) ⌝ }
+    requires { ⌜ Right (fieldsIn (now area)) ⌝ }
+    requires { ⌜ (n ≡ nOf (fieldsIn (now area))) × (m ≡ mOf (fieldsIn (now area))) ⌝ }
+    requires { ⌜ (1 ≤ p) × (p ≤ n) ⌝ }
+    ensures { λ r. ⌜ r ≡ recordTest (now (area .entry)) p ⌝ }
+{
+    let k = places::record_start(n, m, p);
+    let x = words::record_at(area, k);
+    if !steps::is_in_range(x) {
+        return false;
+    }
+    let father = x.father as usize;
+    if father != 0 {
+        if father > n {
+            return false;
+        }
+        if !squares::joined(square, p, father) {
+            return false;
+        }
+    }
+    if !word_tests::is_number(area[k]) {
+        return false;
+    }
+    if words::number(area[k]) > 7 {
+        return false;
+    }
+    if !word_tests::is_number(area[k + 2]) {
+        return false;
+    }
+    if !word_tests::is_number(area[k + 3]) {
+        return false;
+    }
+    word_tests::is_free(area, k + places::RECORD_USED, k + places::RECORD_SIZE)
+}
+
+fn are_records(area: &[i32], square: &[u16; places::SQUARE_SIZE], n: usize, m: usize) -> bool
+    requires { ⌜ sizesTest (now area) ≡ true ⌝ }
+    requires { ⌜ Square (fieldsIn (now area)) (now square) ⌝ }
+    requires { ⌜ Right (fieldsIn (now area)) ⌝ }
+    requires { ⌜ (n ≡ nOf (fieldsIn (now area))) × (m ≡ mOf (fieldsIn (now area))) ⌝ }
+    ensures { λ r. ⌜ r ≡ allTo n (recordTest (now (area .entry))) ⌝ }
+{
+    let end = n + 1;
+    for p in 1..end {
+        if !is_record(area, square, n, m, p) {
+            return false;
+        }
+    }
+    true
+}
+
+// The two links of arc k; zeros where it has no link back.
+fn is_arc(
+    area: &[i32],
+    table: &[u8; places::MOST_BYTES],
+    square: &[u16; places::SQUARE_SIZE],
+    n: usize,
+    m: usize,
+    k: usize,
+) -> bool
+    requires { ⌜ sizesTest (now area) ≡ true ⌝ }
+    requires { ⌜ fieldOf (now table) ≡ fieldsIn (now area) ⌝ }
+    requires { ⌜ Square (fieldsIn (now area)) (now square) ⌝ }
+    requires { ⌜ Right (fieldsIn (now area)) ⌝ }
+    requires { ⌜ (n ≡ nOf (fieldsIn (now area))) × (m ≡ mOf (fieldsIn (now area))) ⌝ }
+    requires { ⌜ (1 ≤ k) × (k ≤ m) ⌝ }
+    ensures { λ r. ⌜ r ≡ arcTest (now (area .entry)) k ⌝ }
+{
+    let i = places::link_start(n, m, k);
+    if !word_tests::is_link(area, i, places::LINK_SLOTS, places::LINK_SIZE) {
+        return false;
+    }
+    let a = table_reader::arc_at(table, n, k);
+    let back = i + places::LINK_SIZE;
+    if squares::arc(square, a.to, a.from) == 0 {
+        return word_tests::is_link(area, back, places::LINK_SLOTS, places::LINK_SIZE);
+    }
+    word_tests::is_free(area, back, back + places::LINK_SIZE)
+}
+
+fn are_arcs(
+    area: &[i32],
+    table: &[u8; places::MOST_BYTES],
+    square: &[u16; places::SQUARE_SIZE],
+    n: usize,
+    m: usize,
+) -> bool
+    requires { ⌜ sizesTest (now area) ≡ true ⌝ }
+    requires { ⌜ fieldOf (now table) ≡ fieldsIn (now area) ⌝ }
+    requires { ⌜ Square (fieldsIn (now area)) (now square) ⌝ }
+    requires { ⌜ Right (fieldsIn (now area)) ⌝ }
+    requires { ⌜ (n ≡ nOf (fieldsIn (now area))) × (m ≡ mOf (fieldsIn (now area))) ⌝ }
+    ensures { λ r. ⌜ r ≡ allTo m (arcTest (now (area .entry))) ⌝ }
+{
+    let end = m + 1;
+    for k in 1..end {
+        if !is_arc(area, table, square, n, m, k) {
+            return false;
+        }
+    }
+    true
+}
+
+// The whole test. The square, which is 0 before, holds the arcs of a well-formed area afterwards.
+pub fn test(area: &[i32], square: &mut [u16; places::SQUARE_SIZE]) -> Sizes
+    requires { ⌜ length (now square) ≡ squareSize ⌝ }
+    requires { ⌜ ((k : ℕ) → getD (now square) k 0 ≡ 0) ⌝ }
+    ensures { λ r. ⌜ r ≡ sizesOf (areaRight (now (area .entry))) (now (area .entry)) ⌝ }
+    ensures { λ r. ⌜ (areaRight (now (area .entry)) ≡ true → Square (fieldsIn (now (area .entry))) (now (square .exit))) ⌝ }
+{
+    let Sizes::Right { n, m } = sizes_of(area) else {
+        return Sizes::Wrong;
+    };
+    let mut table = [0u8; places::MOST_BYTES];
+    if !fields_to_bytes(area, places::field_total(n, m), &mut table) {
+        return Sizes::Wrong;
+    }
+    if table_reader::fields_number(&table, n, m) != 0 {
+        return Sizes::Wrong;
+    }
+    squares::fill(&table, n, m, square);
+    if !is_head(area, n) {
+        return Sizes::Wrong;
+    }
+    if !are_records(area, square, n, m) {
+        return Sizes::Wrong;
+    }
+    if !are_arcs(area, &table, square, n, m) {
+        return Sizes::Wrong;
+    }
+    Sizes::Right { n, m }
+}

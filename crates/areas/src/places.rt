@@ -1,0 +1,90 @@
+// The numbers of the area's layout (docs/LAYOUT.md), and the addresses made of them: specs/Places in code.
+ghost use mathlib.Core.Path.{_≡_};
+ghost use Prim.Native.Nat.{_+_, _*_, _≤_};
+ghost use Rattle.areas.specs.Places.{mostProcesses, mostArcs, fieldTotal, fieldPlace, recordStart, linkStart, areaLength};
+
+pub const MOST_PROCESSES: usize = 128;
+
+pub const MOST_ARCS: usize = 512;
+
+// The words before the table that are in use: which check, the start, the accepted deliveries.
+pub const CHECK: usize = 0;
+
+pub const KNOT_CHECK: i32 = 1;
+
+pub const START: usize = 1;
+
+pub const COUNT: usize = 2;
+
+pub const HEAD_USED: usize = 3;
+
+pub const HEAD_SIZE: usize = 14;
+
+// N and M, the first fields of the copied table, and the words up to them.
+pub const N_PLACE: usize = HEAD_SIZE;
+
+pub const M_PLACE: usize = HEAD_SIZE + 1;
+
+pub const SIZES_END: usize = HEAD_SIZE + 2;
+
+// A record of a process.
+pub const RECORD_USED: usize = 4;
+
+pub const RECORD_SIZE: usize = 6;
+
+// A link: words for messages, and all its words; an arc has two.
+pub const LINK_SLOTS: usize = 4;
+
+pub const LINK_SIZE: usize = 8;
+
+pub const ARC_SIZE: usize = LINK_SIZE + LINK_SIZE;
+
+// The square of arcs: a row and a column for each process, and one for 0.
+pub const SIDE: usize = MOST_PROCESSES + 1;
+
+pub const SQUARE_SIZE: usize = SIDE * SIDE;
+
+// The bytes of the largest table.
+pub const MOST_BYTES: usize = 2 * (2 + 2 * MOST_PROCESSES + 4 * MOST_ARCS);
+
+// How many fields a table has.
+pub fn field_total(n: usize, m: usize) -> usize
+    requires { ⌜ (n ≤ mostProcesses) × (m ≤ mostArcs) ⌝ }
+    ensures { λ r. ⌜ r ≡ fieldTotal n m ⌝ }
+{
+    2 + 2 * n + 4 * m
+}
+
+// The word of field j.
+pub fn field_place(j: usize) -> usize
+    requires { ⌜ j ≤ fieldTotal mostProcesses mostArcs ⌝ }
+    ensures { λ r. ⌜ r ≡ fieldPlace j ⌝ }
+{
+    HEAD_SIZE + j
+}
+
+// The first word of the record of p.
+pub fn record_start(n: usize, m: usize, p: usize) -> usize
+    requires { ⌜ (n ≤ mostProcesses) × (m ≤ mostArcs) ⌝ }
+    requires { ⌜ (1 ≤ p) × (p ≤ mostProcesses) ⌝ }
+    ensures { λ r. ⌜ r ≡ recordStart n m p ⌝ }
+{
+    HEAD_SIZE + field_total(n, m) + RECORD_SIZE * (p - 1)
+}
+
+// The first word of the links of arc k.
+pub fn link_start(n: usize, m: usize, k: usize) -> usize
+    requires { ⌜ (n ≤ mostProcesses) × (m ≤ mostArcs) ⌝ }
+    requires { ⌜ (1 ≤ k) × (k ≤ 65535) ⌝ }
+    ensures { λ r. ⌜ r ≡ linkStart n m k ⌝ }
+{
+    HEAD_SIZE + field_total(n, m) + RECORD_SIZE * n + ARC_SIZE * (k - 1)
+}
+
+// "start needs 8N + 20M + 16"
+pub fn area_length(n: usize, m: usize) -> usize
+    requires { ⌜ (n ≤ mostProcesses) × (m ≤ mostArcs) ⌝ }
+    ensures { λ r. ⌜ r ≡ areaLength n m ⌝ }
+{
+    16 + 8 * n + 20 * m
+}

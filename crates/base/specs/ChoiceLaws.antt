@@ -1,0 +1,102 @@
+-- Laws of tests and of choice by a test.
+--   Tested b, tested b    == a test and its value, to be split by clauses in a helper
+--   Same m n, same? m n   == two numbers are equal or apart, with the test's value
+--   Below m n, below? m n   == one number is below another or not, with the test's value
+--   bit-≤1, bit-some, bit-same, bit-apart   == a bit is at most 1; which tests have 1 and which 0
+--   value-not, value-yes  == what a branch on a negated test says, where a callee's promise gives the test's value
+--   and-left, and-right, and-both, and-three, or-cases, or-left, or-right, or-none   == both of two tests, or one of them
+-- Assumes nothing.
+use Prim.Native.Nat.{ℕ, _≤_, _<_}
+use mathlib.Core.Bool.{Bool, true, false, not, _&&_, _||_, false≢true}
+use mathlib.Core.Path.{_≡_, refl, sym, ap, _∙_}
+use mathlib.Core.Logic.{_⊎_, inl, inr}
+use lib.Dec.{eqb, ltb}
+use borrow.Author.Tests.{eqb-true, eqb-false, ltb-true, ltb-false, eq-eqb, ne-eqb, not-true, not-false}
+use native.Mathlib.Omega.{arith}
+use Rattle.base.specs.Choice.{bit}
+
+pub bit-≤1 : (b : Bool) → bit b ≤ 1
+bit-≤1 true = omega arith
+bit-≤1 false = omega arith
+
+pub bit-some : (b : Bool) → 1 ≤ bit b → b ≡ true
+bit-some true h = refl
+bit-some false h = absurd (omega arith)
+
+pub bit-same : (x k : ℕ) → x ≡ k → bit (eqb x k) ≡ 1
+bit-same x k e = ap bit (eq-eqb x k e)
+
+pub bit-apart : (x k : ℕ) → (x ≡ k → ⊥) → bit (eqb x k) ≡ 0
+bit-apart x k h = ap bit (ne-eqb x k h)
+
+-- a test and its value, to be split by clauses in a helper
+pub data Tested (b : Bool) : Type 0 where
+  passed : b ≡ true → Tested b
+  failed : b ≡ false → Tested b
+
+pub tested : (b : Bool) → Tested b
+tested true = passed refl
+tested false = failed refl
+
+-- two numbers are equal or apart, with the test's value
+pub data Same (m n : ℕ) : Type 0 where
+  same : m ≡ n → eqb m n ≡ true → Same m n
+  apart : (m ≡ n → ⊥) → eqb m n ≡ false → Same m n
+
+sameBy : (m n : ℕ) (b : Bool) → eqb m n ≡ b → Same m n
+sameBy m n true e = same (eqb-true m n e) e
+sameBy m n false e = apart (eqb-false m n e) e
+
+pub same? : (m n : ℕ) → Same m n
+same? m n = sameBy m n (eqb m n) refl
+
+-- one number is below another or not, with the test's value
+pub data Below (m n : ℕ) : Type 0 where
+  below : m < n → ltb m n ≡ true → Below m n
+  beyond : n ≤ m → ltb m n ≡ false → Below m n
+
+belowBy : (m n : ℕ) (b : Bool) → ltb m n ≡ b → Below m n
+belowBy m n true e = below (ltb-true m n e) e
+belowBy m n false e = beyond (ltb-false m n e) e
+
+pub below? : (m n : ℕ) → Below m n
+below? m n = belowBy m n (ltb m n) refl
+
+-- the branch on a negated test was taken: the test failed; it was left: the test passed
+pub value-not : {b v : Bool} → b ≡ v → not b ≡ true → v ≡ false
+value-not {b} p h = sym p ∙ not-true b h
+
+pub value-yes : {b v : Bool} → b ≡ v → not b ≡ false → v ≡ true
+value-yes {b} p h = sym p ∙ not-false b h
+
+-- both of two tests, from their conjunction, and back
+pub and-left : (a b : Bool) → (a && b) ≡ true → a ≡ true
+and-left true b e = refl
+and-left false b e = e
+
+pub and-right : (a b : Bool) → (a && b) ≡ true → b ≡ true
+and-right true b e = e
+and-right false b e = elim b [ true ↦ refl | false ↦ e ]
+
+pub and-both : (a b : Bool) → a ≡ true → b ≡ true → (a && b) ≡ true
+and-both true b p q = q
+and-both false b p q = p
+
+pub and-three : (a b c : Bool) → (a && b && c) ≡ true → (a ≡ true) × (b ≡ true) × (c ≡ true)
+and-three a b c e = (and-left a b (and-left (a && b) c e), and-right a b (and-left (a && b) c e), and-right (a && b) c e)
+
+pub or-cases : (a b : Bool) → (a || b) ≡ true → (a ≡ true) ⊎ (b ≡ true)
+or-cases true b e = inl refl
+or-cases false b e = inr e
+
+pub or-left : (a b : Bool) → a ≡ true → (a || b) ≡ true
+or-left true b p = refl
+or-left false b p = elim b [ true ↦ refl | false ↦ p ]
+
+pub or-right : (a b : Bool) → b ≡ true → (a || b) ≡ true
+or-right true b p = refl
+or-right false b p = p
+
+pub or-none : (a b : Bool) → (a || b) ≡ false → (a ≡ false) × (b ≡ false)
+or-none true b e = absurd (false≢true (sym e))
+or-none false b e = (refl, e)

@@ -1,0 +1,162 @@
+-- The test `reaches` says what the relation `Reaches` says: N growings of the closure suffice.
+--   from-in, to-in      == both ends of a wait are processes
+--   reaches-forward, reaches-backward   == what passes along every wait (or back along it) passes along a path
+--   reaches-trans       == paths join
+--   reaches-P           == the test and the relation agree
+-- Assumes nothing.
+use Prim.Native.Nat.{ℕ, zero, suc, _+_, _≤_}
+use mathlib.Core.Bool.{Bool, true, false, not, _&&_, false≢true}
+use mathlib.Core.Path.{_≡_, refl, sym, _∙_}
+use mathlib.Core.Logic.{_⊎_, inl, inr, _↔_, ⊎-elim}
+use native.Mathlib.Omega.{arith}
+use borrow.Author.Tests.{eqb-true, eq-eqb, not-true}
+use Rattle.base.specs.Choice.{bit}
+use Rattle.base.specs.ChoiceLaws.{bit-≤1, Tested, passed, failed, tested, Same, same, apart, same?, and-left, and-right, and-both, or-cases, or-left, or-right}
+use Rattle.base.specs.Sums.{sumTo, countTo, anyTo, spot}
+use Rattle.base.specs.SumLaws.{spot-at, spot-off, sumTo-add, sumTo-le, sumTo-part, sumTo-spot, sumTo-most, anyTo-of, Found, anyTo-found}
+use Rattle.tables.specs.Waits.{Waits}
+use Rattle.tables.specs.Sound.{Sound}
+use Rattle.tables.specs.Table.{IsProcess}
+use Rattle.checks.specs.Reach.{Reaches, here, along, within, reaches}
+
+-- both ends of a wait are processes
+pub from-in : {w : Waits} → Sound w → (a b : ℕ) → w .waits a b ≡ true → IsProcess (w .n) a
+from-in ok a b e = (ok .from-low a b e, ok .from-high a b e)
+
+pub to-in : {w : Waits} → Sound w → (a b : ℕ) → w .waits a b ≡ true → IsProcess (w .n) b
+to-in ok a b e = (ok .to-low a b e, ok .to-high a b e)
+
+-- ---- paths
+
+-- what passes along every wait passes along a path
+pub reaches-forward : {w : Waits} {p q : ℕ} (P : ℕ → Type 0) → ((a b : ℕ) → w .waits a b ≡ true → P a → P b) → Reaches w p q → P p → P q
+reaches-forward P h here x = x
+reaches-forward P h (along e t) x = reaches-forward P h t (h _ _ e x)
+
+-- what passes back along every wait passes back along a path
+pub reaches-backward : {w : Waits} {p q : ℕ} (P : ℕ → Type 0) → ((a b : ℕ) → w .waits a b ≡ true → P b → P a) → Reaches w p q → P q → P p
+reaches-backward P h here x = x
+reaches-backward P h (along e t) x = h _ _ e (reaches-backward P h t x)
+
+pub reaches-trans : {w : Waits} {p q r : ℕ} → Reaches w p q → Reaches w q r → Reaches w p r
+reaches-trans {w} {p} {q} {r} t u = reaches-backward (λ x. Reaches w x r) (λ a b e v. along e v) t u
+
+-- ---- the closure
+
+module _ (w : Waits) (ok : Sound w) (p : ℕ) where
+  more : (k q : ℕ) → within w k p q ≡ true → within w (suc k) p q ≡ true
+  unfolding within
+  more k q e = or-left (within w k p q) (anyTo (w .n) (λ m. within w k p m && w .waits m q)) e
+
+  within-own : (k : ℕ) → within w k p p ≡ true
+  unfolding within
+  within-own zero = eq-eqb p p refl
+  within-own (suc k) = more k p (within-own k)
+
+  step : (k m q : ℕ) → within w k p m ≡ true → w .waits m q ≡ true → within w (suc k) p q ≡ true
+  unfolding within
+  step k m q e f =
+      or-right (within w k p q) (anyTo (w .n) (λ x. within w k p x && w .waits x q))
+      (anyTo-of (w .n) (λ x. within w k p x && w .waits x q) m (ok .from-low m q f) (ok .from-high m q f) (and-both (within w k p m) (w .waits m q) e f))
+
+  -- what one growing adds: the last step
+  last : (k q : ℕ) → within w (suc k) p q ≡ true → (within w k p q ≡ true) ⊎ Found (w .n) (λ m. within w k p m && w .waits m q)
+  unfolding within
+  last k q e =
+      ⊎-elim inl (λ f. inr (anyTo-found (w .n) (λ m. within w k p m && w .waits m q) f))
+      (or-cases (within w k p q) (anyTo (w .n) (λ m. within w k p m && w .waits m q)) e)
+
+  within-path : (k q : ℕ) → within w k p q ≡ true → Reaches w p q
+  unfolding within
+  within-path zero q e = rw (eqb-true p q e) here
+  within-path (suc k) q e = ⊎-elim (within-path k q) (λ f. by f (within-path k (f .at))) (last k q e)
+    where
+      by : (f : Found (w .n) (λ m. within w k p m && w .waits m q)) → (within w k p (f .at) ≡ true → Reaches w p (f .at)) → Reaches w p q
+      by f t =
+          reaches-trans (t (and-left (within w k p (f .at)) (w .waits (f .at) q) (f .passes)))
+          (along (and-right (within w k p (f .at)) (w .waits (f .at) q) (f .passes)) here)
+
+  -- how many processes k growings hold
+  size : ℕ → ℕ
+  size k = countTo (w .n) (within w k p)
+
+  -- the growings hold whatever a wait leads to from them
+  Closed : ℕ → Type 0
+  Closed k = (m q : ℕ) → within w k p m ≡ true → w .waits m q ≡ true → within w k p q ≡ true
+
+  -- once closed, one growing more adds nothing, and leaves it closed
+  closed-more : (k : ℕ) → Closed k → Closed (suc k)
+  unfolding Closed
+  closed-more k c m q e f = more k q (c m q (⊎-elim (λ d. d) by (last k m e)) f)
+    where
+      by : Found (w .n) (λ x. within w k p x && w .waits x m) → within w k p m ≡ true
+      by x = c (x .at) m (and-left (within w k p (x .at)) (w .waits (x .at) m) (x .passes)) (and-right (within w k p (x .at)) (w .waits (x .at) m) (x .passes))
+
+  -- a process that one growing adds
+  fresh : ℕ → ℕ → Bool
+  fresh k q = within w (suc k) p q && not (within w k p q)
+
+  size-grows : (k : ℕ) → Found (w .n) (fresh k) → suc (size k) ≤ size (suc k)
+  unfolding size fresh countTo
+  size-grows k f =
+      let n : ℕ = w .n in
+      let split : sumTo n (λ x. bit (within w k p x) + spot (f .at) 1 x) ≡ sumTo n (λ x. bit (within w k p x)) + sumTo n (spot (f .at) 1) =
+      sumTo-add n (λ x. bit (within w k p x)) (spot (f .at) 1) in
+      let one : sumTo n (spot (f .at) 1) ≡ 1 = sumTo-spot n (f .at) 1 (f .low) (f .high) in
+      let all : sumTo n (λ x. bit (within w k p x) + spot (f .at) 1 x) ≤ sumTo n (λ x. bit (within w (suc k) p x)) =
+      sumTo-le n (λ x. bit (within w k p x) + spot (f .at) 1 x) (λ x. bit (within w (suc k) p x))
+      (λ x _ _. at x (same? x (f .at)) (tested (within w k p x))) in
+      omega arith
+    where
+      new : within w (suc k) p (f .at) ≡ true
+      new = and-left (within w (suc k) p (f .at)) (not (within w k p (f .at))) (f .passes)
+
+      old : within w k p (f .at) ≡ false
+      old = not-true (within w k p (f .at)) (and-right (within w (suc k) p (f .at)) (not (within w k p (f .at))) (f .passes))
+
+      at : (x : ℕ) → Same x (f .at) → Tested (within w k p x) → bit (within w k p x) + spot (f .at) 1 x ≤ bit (within w (suc k) p x)
+      at x (same e _) _ = rw (e, old, new, spot-at (f .at) 1) (omega arith)
+      at x (apart e _) (passed y) = rw (y, more k x y, spot-off (f .at) 1 x e) (omega arith)
+      at x (apart e _) (failed y) = rw (y, spot-off (f .at) 1 x e) (omega arith)
+
+  -- a growing that adds no process leaves it closed
+  closed-stuck : (k : ℕ) → anyTo (w .n) (fresh k) ≡ false → Closed k
+  unfolding Closed fresh
+  closed-stuck k none m q e f = at (tested (within w k p q))
+    where
+      at : Tested (within w k p q) → within w k p q ≡ true
+      at (passed y) = y
+      at (failed y) = absurd (false≢true (sym none ∙ anyTo-of (w .n) (fresh k) q (ok .to-low m q f) (ok .to-high m q f) (rw (y, step k m q e f) refl)))
+
+  module _ (pIn : IsProcess (w .n) p) where
+    size-first : 1 ≤ size 0
+    unfolding size countTo
+    size-first =
+        let own : bit (within w 0 p p) ≤ sumTo (w .n) (λ q. bit (within w 0 p q)) = sumTo-part (w .n) (λ q. bit (within w 0 p q)) p (pIn .0) (pIn .1) in
+        rw (within-own 0) at own
+
+    -- closed after k growings, or more than k processes are held
+    grown : (k : ℕ) → Closed k ⊎ (suc k ≤ size k)
+    grown zero = inr size-first
+    grown (suc k) = ⊎-elim (λ c. inl (closed-more k c)) (λ l. by l (tested (anyTo (w .n) (fresh k)))) (grown k)
+      where
+        by : suc k ≤ size k → Tested (anyTo (w .n) (fresh k)) → Closed (suc k) ⊎ (suc (suc k) ≤ size (suc k))
+        by l (passed y) = inr (omega (arith, size-grows k (anyTo-found (w .n) (fresh k) y)))
+        by l (failed y) = inl (closed-more k (closed-stuck k y))
+
+    -- there are but N processes, so N growings suffice
+    within-closed : Closed (w .n)
+    unfolding size countTo
+    within-closed =
+        ⊎-elim (λ c. c) (λ l. absurd (omega (arith, sumTo-most (w .n) 1 (λ q. bit (within w (w .n) p q)) (λ q _ _. bit-≤1 (within w (w .n) p q)))))
+        (grown (w .n))
+
+-- ---- the test and the relation
+
+pub reaches-P : (w : Waits) → Sound w → (p q : ℕ) → IsProcess (w .n) p → (reaches w p q ≡ true) ↔ Reaches w p q
+unfolding reaches Closed
+reaches-P w ok p q pIn = (
+  within-path w ok p (w .n) q,
+  λ t. reaches-forward (λ x. within w (w .n) p x ≡ true) (λ a b e i. within-closed w ok p pIn a b i e) t
+      (within-own w ok p (w .n)),
+)

@@ -1,0 +1,141 @@
+-- Laws of a knot check's runs: the parts of a well-formed one are the machine's (machine, FormedLaws).
+--   formed-range, formed-father   == the record of a process in a well-formed run: in range, its father 0 or a neighbour
+--   turnAt-effect, turnAt-named, turnAt-sucs, turnAt-pres   == the laws of the step, of the receiver's step in a run
+--   new-range, new-reply      == the record and the acknowledgement that an accepted delivery makes are in range
+--   new-father, replied       == the father that a step leaves is right, and whom it acknowledges is a neighbour
+--   knot-after                == an accepted delivery keeps a run well formed, whether start made it or not
+-- Assumes nothing.
+use Prim.Native.Nat.{ℕ, _+_}
+use mathlib.Core.Bool.{true}
+use mathlib.Core.List.{List, _∷_}
+use mathlib.Core.Path.{_≡_, _∙_}
+use mathlib.Core.Logic.{⊎-elim}
+use native.Mathlib.Omega.{arith}
+use borrow.Author.Tests.{eqb-true, leb-true}
+use lib.Dec.{eqb, leb}
+use lib.IntN.{ℤ}
+use Rattle.base.specs.ChoiceLaws.{and-both, and-left, and-right, and-three, or-right, or-cases, Tested, passed, failed, tested}
+use Rattle.tables.specs.Waits.{outDegree, inDegree, neighbours}
+use Rattle.tables.specs.Sound.{Sound}
+use Rattle.tables.specs.Table.{IsProcess}
+use Rattle.tables.specs.WaitsLaws.{neighbours-swap, neighbours-ends}
+use Rattle.machine.specs.Formed.{Formed}
+use Rattle.machine.specs.FormedLaws.{accepts-P, formed-after}
+use Rattle.steps.specs.declared.Message.{Message}
+use Rattle.steps.specs.declared.Probes.the-variants.{Sucs, Pres}
+use Rattle.steps.specs.declared.Reply.the-variants.{To}
+use Rattle.steps.specs.Step.{inRange, small, numSuffices, replyFits, fitting}
+use Rattle.steps.specs.Effect.{Known, Effect, Named, Grown}
+use Rattle.steps.specs.StepLaws.{turn-effect, startTurn-effect, turn-named, startTurn-named, turn-grown, startTurn-grown, grown-sucs, grown-pres}
+use Rattle.checks.specs.Run.{Run, knot, fatherRight, turnOf, turnAt, after, accepts}
+use Rattle.checks.specs.SentLaws.{sent-right}
+
+-- ---- the receiver's step
+
+module _ (r : Run) (a b : ℕ) (m : Message) where
+  pub turnAt-effect :
+      Known (eqb b (r .start)) m (r .process b) →
+      Effect (eqb b (r .start)) m (outDegree (r .waits) b) (inDegree (r .waits) b) a (r .process b) (turnAt r a b m)
+  unfolding turnOf
+  turnAt-effect = at (tested (eqb b (r .start)))
+    where
+      o : ℕ
+      o = outDegree (r .waits) b
+
+      i : ℕ
+      i = inDegree (r .waits) b
+
+      at : Tested (eqb b (r .start)) → Known (eqb b (r .start)) m (r .process b) → Effect (eqb b (r .start)) m o i a (r .process b) (turnAt r a b m)
+      at (passed e) = rw e (startTurn-effect m o i a (r .process b))
+      at (failed e) = rw e (turn-effect m o i a (r .process b))
+
+  turnAt-named : Named a (r .process b) (turnAt r a b m)
+  unfolding turnOf
+  turnAt-named = at (tested (eqb b (r .start)))
+    where
+      at : Tested (eqb b (r .start)) → Named a (r .process b) (turnAt r a b m)
+      at (passed e) = rw e (startTurn-named m a (r .process b))
+      at (failed e) = rw e (turn-named m (outDegree (r .waits) b) (inDegree (r .waits) b) a (r .process b))
+
+  turnAt-grown : Grown (outDegree (r .waits) b) (inDegree (r .waits) b) (r .process b) (turnAt r a b m)
+  unfolding turnOf
+  turnAt-grown = at (tested (eqb b (r .start)))
+    where
+      at : Tested (eqb b (r .start)) → Grown (outDegree (r .waits) b) (inDegree (r .waits) b) (r .process b) (turnAt r a b m)
+      at (passed e) = rw e (startTurn-grown m (outDegree (r .waits) b) (inDegree (r .waits) b) a (r .process b))
+      at (failed e) = rw e (turn-grown m (outDegree (r .waits) b) (inDegree (r .waits) b) a (r .process b))
+
+  pub turnAt-sucs : turnAt r a b m .probes ≡ Sucs → turnAt r a b m .process .num ≡ r .process b .num + outDegree (r .waits) b
+  turnAt-sucs = grown-sucs (outDegree (r .waits) b) (inDegree (r .waits) b) (r .process b) (turnAt r a b m) turnAt-grown
+
+  pub turnAt-pres : turnAt r a b m .probes ≡ Pres → turnAt r a b m .process .num ≡ r .process b .num + inDegree (r .waits) b
+  turnAt-pres = grown-pres (outDegree (r .waits) b) (inDegree (r .waits) b) (r .process b) (turnAt r a b m) turnAt-grown
+
+-- ---- one record of a well-formed run
+
+module _ {r : Run} (f : Formed knot r) (p : ℕ) (i : IsProcess (r .waits .n) p) where
+  pub formed-range : inRange (r .process p) ≡ true
+  formed-range = and-left (inRange (r .process p)) (fatherRight (r .waits) p (r .process p)) (f .records p i)
+
+  pub formed-father : fatherRight (r .waits) p (r .process p) ≡ true
+  formed-father = and-right (inRange (r .process p)) (fatherRight (r .waits) p (r .process p)) (f .records p i)
+
+-- ---- whom a step names
+
+module _ {r : Run} (f : Formed knot r) (sd : Sound (r .waits)) (a b : ℕ) (j : neighbours (r .waits) a b ≡ true) (m : Message) where
+  back : neighbours (r .waits) b a ≡ true
+  back = neighbours-swap (r .waits) b a ∙ j
+
+  pub new-father : fatherRight (r .waits) b (turnAt r a b m .process) ≡ true
+  unfolding fatherRight
+  new-father =
+      let i = neighbours-ends (r .waits) sd a b j in
+      ⊎-elim
+      (λ (e : turnAt r a b m .process .father ≡ r .process b .father). rw e (formed-father f b (i .2, i .3)))
+      (λ (e : turnAt r a b m .process .father ≡ a). rw e (or-right (eqb a 0) (neighbours (r .waits) b a) back))
+      (turnAt-named r a b m .father)
+
+  -- whom the step acknowledges is a neighbour of the receiver
+  pub replied :
+      replyFits (turnAt r a b m .reply) ≡ true → (q : ℕ) (c : ℤ) → turnAt r a b m .reply ≡ To q c → neighbours (r .waits) b q ≡ true
+  unfolding replyFits fatherRight
+  replied k q c e =
+      ⊎-elim
+      (λ (g : q ≡ a). rw g back)
+      (λ (g : q ≡ turnAt r a b m .process .father). far g)
+      (turnAt-named r a b m .reply q c e)
+    where
+      low : leb 1 q ≡ true
+      low = and-left (leb 1 q) (small c) (rw e at k)
+
+      far : q ≡ turnAt r a b m .process .father → neighbours (r .waits) b q ≡ true
+      far g =
+          ⊎-elim
+          (λ (z : eqb (turnAt r a b m .process .father) 0 ≡ true).
+          absurd (omega (arith, leb-true 1 q low, eqb-true (turnAt r a b m .process .father) 0 z)))
+          (λ (z : neighbours (r .waits) b (turnAt r a b m .process .father) ≡ true). rw g z)
+          (or-cases (eqb (turnAt r a b m .process .father) 0) (neighbours (r .waits) b (turnAt r a b m .process .father)) new-father)
+
+-- ---- an accepted delivery
+
+module _ (r : Run) (a b : ℕ) (m : Message) (rest : List Message) (ok : accepts r a b m rest ≡ true) where
+  fits :
+      (numSuffices m (r .process b) ≡ true) × (inRange (turnAt r a b m .process) ≡ true) × (replyFits (turnAt r a b m .reply) ≡ true)
+  unfolding fitting
+  fits =
+      and-three (numSuffices m (r .process b)) (inRange (turnAt r a b m .process)) (replyFits (turnAt r a b m .reply))
+      (accepts-P knot r a b m rest .0 ok .fits)
+
+  pub new-range : inRange (turnAt r a b m .process) ≡ true
+  new-range = fits .1
+
+  pub new-reply : replyFits (turnAt r a b m .reply) ≡ true
+  new-reply = fits .2
+
+  pub knot-after :
+      Formed knot r → Sound (r .waits) → neighbours (r .waits) a b ≡ true → r .link a b ≡ m ∷ rest → Formed knot (after r a b m rest)
+  knot-after f sd j l =
+      let i = neighbours-ends (r .waits) sd a b j in
+      formed-after knot r f a b (i .0, i .1) (i .2, i .3) m rest l ok
+      (and-both _ _ new-range (new-father f sd a b j m))
+      (λ y _. sent-right (r .waits) b (turnAt r a b m) y new-reply)

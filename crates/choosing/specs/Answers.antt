@@ -1,0 +1,26 @@
+-- What the code answers for a choice and for the delivery on it, whatever the order; and the delivery in the fixed order.
+--   chosenOf c          == the answer for a choice: its link, or nobody
+--   chosenAnswer c d    == the answer of the delivery d on the choice c: the message with its link, or the number of the refusal
+--   nextOf r            == the delivery "lowest sender first and then lowest receiver among links with a message"
+-- Assumes nothing.
+use Rattle.checks.specs.declared.Delivery.{Delivery}
+use Rattle.checks.specs.Run.{Run}
+use Rattle.checks.specs.Calls.{Picked, deliverOn}
+use Rattle.machine.specs.Calls.{Selection, nobody, pair, lowest}
+use Rattle.choosing.specs.declared.Chosen.{Chosen}
+use Rattle.choosing.specs.declared.Chosen.the-variants.{Nobody, Link}
+use Rattle.choosing.specs.declared.ChosenDelivery.{ChosenDelivery}
+
+abbrev pub chosenOf : Selection → Chosen
+chosenOf nobody = Nobody
+chosenOf (pair a b) = Link a b
+
+-- with no link chosen the delivery is refused by 24, so the first line is never met
+abbrev pub chosenAnswer : Selection → Delivery → ChosenDelivery
+chosenAnswer nobody (Delivery.Delivered m) = ChosenDelivery.Refused 24
+chosenAnswer nobody (Delivery.Refused n) = ChosenDelivery.Refused n
+chosenAnswer (pair a b) (Delivery.Delivered m) = ChosenDelivery.Delivered a b m
+chosenAnswer (pair a b) (Delivery.Refused n) = ChosenDelivery.Refused n
+
+abbrev pub nextOf : Run → Picked
+nextOf r = deliverOn r (lowest r)

@@ -1,0 +1,24 @@
+-- `delivery::rooms::goes_to` meets its contract, by the kind of probes.
+-- Assumes nothing.
+use borrow.Author.Needs.{needs}
+use Rattle.delivery.proofs.rooms.goes_to.Statement.{statement}
+use Rattle.delivery.proofs.rooms.goes_to.Tie as tie
+
+returns-2 : tie.Need-returns-2
+returns-2 c = rw (c .before .enum-told2 .given .1) (c .joins .ensures)
+
+returns-3 : tie.Need-returns-3
+returns-3 c = rw (c .before .enum-told3 .given .1) (c .joins2 .ensures)
+
+pub goes-to-spec : {M : Type 1} → statement M
+goes-to-spec =
+    tie.close
+    (tie.spec
+    (λ c. search needs)
+    (λ c. search needs)
+    (λ c κs. search needs)
+    (λ c. search needs)
+    (λ c κs. search needs)
+    (λ c. search needs)
+    returns-2
+    returns-3)

@@ -1,0 +1,39 @@
+-- `delivery::rooms::has_room` meets its contract: a link on which nothing is sent has room, and the others are tested.
+-- Assumes nothing.
+use Prim.Native.Nat.{ℕ}
+use mathlib.Core.Bool.{Bool, not, _||_}
+use mathlib.Core.Path.{sym}
+use borrow.Author.Needs.{needs}
+use lib.Dec.{leb}
+use Rattle.base.specs.ChoiceLaws.{value-not, value-yes}
+use Rattle.base.specs.Sums.{allTo}
+use Rattle.areas.specs.Area.{runIn}
+use Rattle.delivery.specs.Rooms.{loadAfter}
+use Rattle.delivery.specs.Delivering.{probesGo, replyGoes}
+use Rattle.delivery.proofs.Loads.{some-fails, all-pass, unsent-room}
+use Rattle.delivery.proofs.rooms.has_room.Statement.{statement}
+use Rattle.delivery.proofs.rooms.has_room.Tie as tie
+
+-- the room on one link
+abbrev room : tie.Start → ℕ → Bool
+room s q = leb (loadAfter (runIn (s .args .area .now)) (s .args .a) (s .args .b) (s .args .probes) (s .args .reply) q) 4
+
+-- and its test where the acknowledgement goes
+abbrev replies : tie.Start → Bool
+replies s = allTo (s .args .n) (λ q. not (replyGoes (s .args .reply) q) || room s q)
+
+returns : tie.Need-returns
+returns c =
+    let s = c .before .before in
+    sym (some-fails (s .args .n) (room s) (replyGoes (s .args .reply)) (value-not {v = replies s} (c .before .reply-has-room .ensures) (c .if1 .taken)))
+
+returns-2 : tie.Need-returns-2
+returns-2 c =
+    let s = c .before .before .before in
+    let a = s .args in
+    all-pass (a .n) (room s) (replyGoes (a .reply)) (probesGo (a .square .now) (a .probes) (a .b))
+    (unsent-room (s .pre .0) (a .a) (a .b) (a .probes) (a .reply) (s .pre .1 .0 .1))
+    (value-yes {v = replies s} (c .before .before .reply-has-room .ensures) (c .before .if1 .left)) (c .probes-have-room .ensures)
+
+pub has-room-spec : {M : Type 1} → statement M
+has-room-spec = tie.close (tie.spec (λ c κs. search needs) returns (λ c κs. search needs) returns-2)

@@ -1,0 +1,114 @@
+-- What the parts of a delivery compute.
+--   steppedAt r a b m     == the receiver's step as the answer of `step` or of the start's step
+--   probesOf c            == the probes that go along a chain
+--   probesGo, replyGoes   == whether a broadcast, and an acknowledgement, goes to q
+--   changed r a b x       == the run after the message is off its link and the record is changed
+--   Relinked r q          == q differs from r in its links alone
+--   carriedOut r a b x y z   == the delivery as changes one after another; that this is `after` is a law
+--   Carried r a b x y z   == what makes these changes possible
+--   probesSent w b y      == how many probes a broadcast of b sends
+--   grownBy x y z         == by how much num grows from the record x to the record y, where the step of both sends probes
+--   preparedOf r a b ms   == a delivery as far as nothing is changed: 24, then 22, and else what the receiver's step leaves and sends
+-- Assumes nothing.
+use Prim.Native.Nat.{ℕ, _+_, _-_, _≤_}
+use mathlib.Core.Bool.{Bool, true, false}
+use mathlib.Core.List.{List, [], _∷_}
+use mathlib.Core.Path.{_≡_}
+use lib.IntN.{ℤ}
+use lib.Dec.{eqb}
+use Rattle.base.specs.Choice.{choose}
+use Rattle.tables.specs.declared.Chain.{Chain}
+use Rattle.tables.specs.declared.Chain.the-variants.{Out, In}
+use Rattle.tables.specs.Waits.{Waits, outDegree, inDegree, neighbours}
+use Rattle.steps.specs.declared.Message.{Message}
+use Rattle.steps.specs.declared.Process.{Process}
+use Rattle.steps.specs.declared.Probes.{Probes}
+use Rattle.steps.specs.declared.Probes.the-variants.{Sucs, Pres}
+use Rattle.steps.specs.declared.Reply.{Reply}
+use Rattle.steps.specs.declared.Reply.the-variants.{To}
+use Rattle.steps.specs.declared.Stepped.{Stepped}
+use Rattle.steps.specs.Step.{stepped, startStepped, inRange, replyFits}
+use Rattle.checks.specs.Run.{Run, fatherRight, turnAt, accepts}
+use Rattle.machine.specs.Calls.{waiting}
+use Rattle.areas.specs.Replaced.{putProcess, putLink, putCount}
+use Rattle.areas.specs.Squares.{joinsBy}
+use Rattle.lenses.specs.Changes.{tailOf, answered, spread, off}
+use Rattle.delivery.specs.Rooms.{loadAfter}
+use Rattle.delivery.specs.declared.delivering.Prepared.{Prepared}
+use Rattle.delivery.specs.declared.delivering.Prepared.the-variants.{Go}
+
+abbrev pub steppedAt : Run → ℕ → ℕ → Message → Stepped
+steppedAt r a b m =
+    choose (eqb b (r .start))
+    (startStepped m a (r .process b))
+    (stepped m (outDegree (r .waits) b) (inDegree (r .waits) b) a (r .process b))
+
+abbrev pub probesGo : List ℕ → Probes → ℕ → ℕ → Bool
+probesGo sq Probes.Nothing b q = false
+probesGo sq Sucs b q = joinsBy sq Out b q
+probesGo sq Pres b q = joinsBy sq In b q
+
+-- the probes that go along a chain
+abbrev pub probesOf : Chain → Probes
+probesOf Out = Sucs
+probesOf In = Pres
+
+abbrev pub replyGoes : Reply → ℕ → Bool
+replyGoes Reply.Nothing q = false
+replyGoes (To p c) q = eqb p q
+
+-- the probes of a broadcast, sent
+abbrev pub spreadBy : Probes → Run → ℕ → Run
+spreadBy Probes.Nothing r b = r
+spreadBy Sucs r b = spread Out r b
+spreadBy Pres r b = spread In r b
+
+-- the oldest message is off the link from a to b, and the record of b is changed
+abbrev pub changed : Run → ℕ → ℕ → Process → Run
+changed r a b x = putProcess (off r a b) b x
+
+-- q differs from r in its links alone
+pub record Relinked (r q : Run) : Type 0 where
+  pub waits : q .waits ≡ r .waits
+  pub start : q .start ≡ r .start
+  pub count : q .count ≡ r .count
+  pub process : (p : ℕ) → q .process p ≡ r .process p
+
+-- the changes that make a delivery, one after another
+unfoldable pub carriedOut : Run → ℕ → ℕ → Process → Probes → Reply → Run
+carriedOut r a b x y z =
+    let q : Run = spreadBy y (answered (putProcess (putLink r a b (tailOf (r .link a b))) b x) b z) b in
+    putCount q (q .count + 1)
+
+-- what makes each of them possible
+pub record Carried (r : Run) (a b : ℕ) (x : Process) (y : Probes) (z : Reply) : Type 0 where
+  pub joined : neighbours (r .waits) a b ≡ true
+  pub waits : waiting (r .link a b) ≡ true
+  pub range : inRange x ≡ true
+  pub father : fatherRight (r .waits) b x ≡ true
+  pub replies : replyFits z ≡ true
+  pub replied : (p : ℕ) (c : ℤ) → z ≡ To p c → neighbours (r .waits) b p ≡ true
+  pub count : r .count + 1 ≤ 2048
+  pub room : (q : ℕ) → 1 ≤ q → q ≤ r .waits .n → loadAfter r a b y z q ≤ 4
+
+-- ---- before anything is changed
+
+-- "sends suc to all successors"; "the same with preceding and predecessors"
+abbrev pub probesSent : Waits → ℕ → Probes → ℕ
+probesSent w b Probes.Nothing = 0
+probesSent w b Sucs = outDegree w b
+probesSent w b Pres = inDegree w b
+
+-- "adds their number to num"
+abbrev pub grownBy : Process → Process → Probes → ℕ
+grownBy x y Probes.Nothing = 0
+grownBy x y Sucs = y .num - x .num
+grownBy x y Pres = y .num - x .num
+
+-- 24, "nothing waits on that link", then 22
+unfoldable pub preparedOf : Run → ℕ → ℕ → List Message → Prepared
+preparedOf r a b [] = Prepared.Refused 24
+preparedOf r a b (m ∷ rest) =
+    choose (accepts r a b m rest)
+    (Go m (turnAt r a b m .process) (turnAt r a b m .probes) (turnAt r a b m .reply) (probesSent (r .waits) b (turnAt r a b m .probes)))
+    (Prepared.Refused 22)

@@ -1,0 +1,160 @@
+-- A delivery made by changes one after another is the delivery that a promise names.
+--   answered-relinked, spreadBy-relinked   == what a step sends changes links alone
+--   run-same              == two runs that agree in every value are the same
+--   answered-link, spreadBy-link   == the links after an acknowledgement, and after a broadcast
+--   off-length            == how many messages stay on a link of the receiver
+--   carriedOut-is         == the changes one after another make `after`
+--   loadAfter-is          == loadAfter counts the messages on the receiver's links after the delivery
+-- Assumes nothing.
+use Prim.Native.Nat.{ℕ, _+_, _-_}
+use mathlib.Core.Bool.{Bool, true, false, _&&_, false≢true}
+use mathlib.Core.List.{List, [], _∷_, _++_, append-nil, append-assoc}
+use mathlib.Core.Path.{_≡_, refl, sym, ap, ap₂, _∙_, fun-ext}
+use native.Mathlib.Omega.{arith}
+use borrow.Author.Tests.{eqb-true, eq-eqb, le-leb}
+use lib.Dec.{eqb, leb}
+use lib.ListN.{length, length-append}
+use Rattle.machine.specs.Machine as Machines
+use Rattle.base.specs.Choice.{choose, bit}
+use Rattle.base.specs.ChoiceLaws.{Same, same, apart, same?, Tested, passed, failed, tested, and-left, and-right}
+use Rattle.tables.specs.declared.Chain.{Chain}
+use Rattle.tables.specs.declared.Chain.the-variants.{Out, In}
+use Rattle.tables.specs.Waits.{Waits}
+use Rattle.tables.specs.Sound.{Sound}
+use Rattle.tables.specs.Chains.{joins}
+use Rattle.steps.specs.declared.Message.{Message}
+use Rattle.steps.specs.declared.Message.the-variants.{Ack}
+use Rattle.steps.specs.declared.Process.{Process}
+use Rattle.steps.specs.declared.Probes.{Probes}
+use Rattle.steps.specs.declared.Probes.the-variants.{Sucs, Pres}
+use Rattle.steps.specs.declared.Reply.{Reply}
+use Rattle.steps.specs.declared.Reply.the-variants.{To}
+use Rattle.checks.specs.Run.{Run, one, turnAt, replyTo, probesTo, sentTo, after}
+use Rattle.machine.specs.Machine.{taken}
+use Rattle.areas.specs.Replaced.{putProcess, putLink, putCount}
+use Rattle.lenses.specs.Changes.{probeOf, spreadTo, tailOf, answered, spread, off}
+use Rattle.lenses.specs.ChangeLaws.{joins-high, tail-length}
+use Rattle.delivery.specs.Rooms.{loadAfter}
+use Rattle.delivery.specs.Delivering.{spreadBy, changed, Relinked, carriedOut}
+
+run-same : (q r : Run) → q .waits ≡ r .waits → q .start ≡ r .start → q .count ≡ r .count → ((p : ℕ) → q .process p ≡ r .process p)
+    → ((x y : ℕ) → q .link x y ≡ r .link x y) → q ≡ r
+run-same q r w s c p l =
+    let d : q .process ≡ r .process = fun-ext p in
+    let e : q .link ≡ r .link = fun-ext (λ x. fun-ext (l x)) in
+    λ i. record { waits = w i; start = s i; count = c i; process = d i; link = e i }
+
+-- ---- what a step sends
+
+pub answered-relinked : (r : Run) (b : ℕ) (z : Reply) → Relinked r (answered r b z)
+unfolding answered putLink
+answered-relinked r b Reply.Nothing = record { waits = refl; start = refl; count = refl; process = λ p. refl }
+answered-relinked r b (To p c) = record { waits = refl; start = refl; count = refl; process = λ p. refl }
+
+pub spreadBy-relinked : (y : Probes) (r : Run) (b : ℕ) → Relinked r (spreadBy y r b)
+unfolding spread spreadTo
+spreadBy-relinked Probes.Nothing r b = record { waits = refl; start = refl; count = refl; process = λ p. refl }
+spreadBy-relinked Sucs r b = record { waits = refl; start = refl; count = refl; process = λ p. refl }
+spreadBy-relinked Pres r b = record { waits = refl; start = refl; count = refl; process = λ p. refl }
+
+none-sent : (t : Bool) (ms : List Message) → ms ≡ choose t (ms ++ []) ms
+none-sent true ms = sym (append-nil ms)
+none-sent false ms = refl
+
+pub answered-link : (r : Run) (b : ℕ) (z : Reply) (x y : ℕ) → answered r b z .link x y ≡ choose (eqb x b) (r .link x y ++ replyTo z y) (r .link x y)
+unfolding answered putLink replyTo
+answered-link r b Reply.Nothing x y = none-sent (eqb x b) (r .link x y)
+answered-link r b (To p c) x y = at (same? x b) (same? y p)
+  where
+    at : Same x b → Same y p
+        → choose (eqb x b && eqb y p) (r .link b p ++ (Ack c ∷ [])) (r .link x y) ≡ choose (eqb x b) (r .link x y ++ one (eqb y p) (Ack c)) (r .link x y)
+    at (same e f) (same g h) = rw (f, h, e, g)
+    at (same e f) (apart g h) = rw (f, h) (sym (append-nil (r .link x y)))
+    at (apart e f) g = rw f
+
+-- nobody past N is waited for, or waits
+far-joins : (c : Chain) (w : Waits) → Sound w → (b q : ℕ) → leb q (w .n) ≡ false → joins c w b q ≡ false
+far-joins c w s b q h = at (tested (joins c w b q))
+  where
+    at : Tested (joins c w b q) → joins c w b q ≡ false
+    at (failed e) = e
+    at (passed e) = absurd (false≢true (sym h ∙ le-leb q (w .n) (joins-high c w s b q e)))
+
+spread-link : (c : Chain) (r : Run) → Sound (r .waits) → (b x y : ℕ)
+    → spread c r b .link x y ≡ choose (eqb x b) (r .link x y ++ one (joins c (r .waits) b y) (probeOf c)) (r .link x y)
+unfolding spread spreadTo
+spread-link c r s b x y = at (tested (eqb x b)) (tested (leb y (r .waits .n)))
+  where
+    at : Tested (eqb x b) → Tested (leb y (r .waits .n))
+        → choose (eqb x b && leb y (r .waits .n)) (r .link x y ++ one (joins c (r .waits) b y) (probeOf c)) (r .link x y)
+        ≡ choose (eqb x b) (r .link x y ++ one (joins c (r .waits) b y) (probeOf c)) (r .link x y)
+    at (failed e) f = rw e
+    at (passed e) (passed f) = rw (e, f)
+    at (passed e) (failed f) = rw (e, f, far-joins c (r .waits) s b y f) (sym (append-nil (r .link x y)))
+
+pub spreadBy-link : (z : Probes) (r : Run) → Sound (r .waits) → (b x y : ℕ)
+    → spreadBy z r b .link x y ≡ choose (eqb x b) (r .link x y ++ probesTo (r .waits) b z y) (r .link x y)
+unfolding probesTo
+spreadBy-link Probes.Nothing r s b x y = none-sent (eqb x b) (r .link x y)
+spreadBy-link Sucs r s b x y = spread-link Out r s b x y
+spreadBy-link Pres r s b x y = spread-link In r s b x y
+
+-- ---- what is taken
+
+pub off-length : (r : Run) (a b q : ℕ) → length (off r a b .link b q) ≡ length (r .link b q) - bit (eqb b a && eqb q b)
+unfolding putLink
+off-length r a b q = at (tested (eqb b a && eqb q b))
+  where
+    at : Tested (eqb b a && eqb q b)
+        → length (choose (eqb b a && eqb q b) (tailOf (r .link a b)) (r .link b q)) ≡ length (r .link b q) - bit (eqb b a && eqb q b)
+    at (failed e) = rw e (omega arith)
+    at (passed e) =
+        let f : b ≡ a = eqb-true b a (and-left (eqb b a) (eqb q b) e) in
+        let g : q ≡ b = eqb-true q b (and-right (eqb b a) (eqb q b) e) in
+        let k : r .link b q ≡ r .link a b = ap₂ (λ (u v : ℕ). r .link u v) f g in
+        rw (e, k) (tail-length (r .link a b))
+
+-- ---- the whole delivery
+
+-- an acknowledgement and then probes, or neither
+twice : (t : Bool) (k p q : List Message) → choose t (choose t (k ++ p) k ++ q) (choose t (k ++ p) k) ≡ choose t (k ++ (p ++ q)) k
+twice true k p q = append-assoc k p q
+twice false k p q = refl
+
+module _ (r : Run) (s : Sound (r .waits)) (a b : ℕ) (m : Message) (rest : List Message) (l : r .link a b ≡ m ∷ rest) where
+  off-link : (u v : ℕ) → off r a b .link u v ≡ taken r a b rest u v
+  unfolding putLink taken
+  off-link u v = rw l
+
+  changed-link : (x : Process) (u v : ℕ) → changed r a b x .link u v ≡ taken r a b rest u v
+  unfolding putProcess
+  changed-link x u v = off-link u v
+
+  -- what a step leaves of the run without the message
+  carried-relinked : (x : Process) (y : Probes) (z : Reply) → Relinked (changed r a b x) (spreadBy y (answered (changed r a b x) b z) b)
+  carried-relinked x y z =
+      let g = answered-relinked (changed r a b x) b z in
+      let h = spreadBy-relinked y (answered (changed r a b x) b z) b in
+      record { waits = h .waits ∙ g .waits; start = h .start ∙ g .start; count = h .count ∙ g .count; process = λ p. h .process p ∙ g .process p }
+
+  carried-link : (x : Process) (y : Probes) (z : Reply) (u v : ℕ)
+      → spreadBy y (answered (changed r a b x) b z) b .link u v
+      ≡ choose (eqb u b) (taken r a b rest u v ++ (replyTo z v ++ probesTo (r .waits) b y v)) (taken r a b rest u v)
+  unfolding putProcess putLink
+  carried-link x y z u v =
+      let w : answered (changed r a b x) b z .waits ≡ r .waits = answered-relinked (changed r a b x) b z .waits in
+      spreadBy-link y (answered (changed r a b x) b z) (rw w s) b u v
+      ∙ rw (w, answered-link (changed r a b x) b z u v, changed-link x u v) (twice (eqb u b) (taken r a b rest u v) (replyTo z v) (probesTo (r .waits) b y v))
+
+  pub carriedOut-is : carriedOut r a b (turnAt r a b m .process) (turnAt r a b m .probes) (turnAt r a b m .reply) ≡ after r a b m rest
+  unfolding Machines.after sentTo carriedOut putCount putProcess putLink
+  carriedOut-is =
+      let x : Process = turnAt r a b m .process in
+      let y : Probes = turnAt r a b m .probes in
+      let z : Reply = turnAt r a b m .reply in
+      let g = carried-relinked x y z in
+      run-same (carriedOut r a b x y z) (after r a b m rest) (g .waits) (g .start) (ap (λ (k : ℕ). k + 1) (g .count)) (g .process) (carried-link x y z)
+
+  pub loadAfter-is : (q : ℕ) → length (after r a b m rest .link b q) ≡ loadAfter r a b (turnAt r a b m .probes) (turnAt r a b m .reply) q
+  unfolding Machines.after sentTo
+  loadAfter-is q = rw (eq-eqb b b refl, length-append, length-append, ← off-link b q, off-length r a b q) (omega arith)

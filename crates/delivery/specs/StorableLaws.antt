@@ -1,0 +1,60 @@
+-- Calls keep a run within its area, and well formed: for any well-formed run, whether start made it or not.
+--   storable-after, storable-made   == kept by one accepted delivery, and by any number of them
+--   storable-pick, storable-on, storable-runOn   == kept by a pick, a delivery in an order, and running on
+--   waiting-joined   == a message waits only between neighbours
+-- Assumes nothing.
+use Prim.Native.Nat.{ℕ}
+use mathlib.Core.Bool.{true, false, false≢true}
+use mathlib.Core.List.{List, _∷_}
+use mathlib.Core.Path.{_≡_, refl, subst}
+use Rattle.base.specs.ChoiceLaws.{Tested, passed, failed, tested}
+use Rattle.tables.specs.Table.{Fields}
+use Rattle.tables.specs.Waits.{Waits, neighbours}
+use Rattle.machine.specs.Machine as Machines
+use Rattle.machine.specs.Calls.{Selection, waiting, lowest}
+use Rattle.machine.specs.ChooserLaws.{fixedOrder-finds}
+use Rattle.machine.specs.FormedLaws.{wellFormed-P}
+use Rattle.machine.specs.Made.{Made}
+use Rattle.machine.specs.MadeLaws.{made-keeps, deliverOn-made, pick-made, runOn-made}
+use Rattle.steps.specs.declared.Message.{Message}
+use Rattle.checks.specs.Run.{Run, knot, after, accepts}
+use Rattle.checks.specs.Calls.{pick, deliverOn, runOn}
+use Rattle.checks.specs.RunLaws.{knot-after}
+use Rattle.areas.specs.Contained.{Contained}
+use Rattle.lenses.specs.Storable.{Storable}
+use Rattle.delivery.specs.ContainedLaws.{contained-after}
+
+module _ (t : Fields) where
+  -- a message waits only between neighbours
+  pub waiting-joined : (r : Run) → Contained t r → (a b : ℕ) → waiting (r .link a b) ≡ true → neighbours (r .waits) a b ≡ true
+  waiting-joined r h a b e = at (tested (neighbours (r .waits) a b))
+    where
+      at : Tested (neighbours (r .waits) a b) → neighbours (r .waits) a b ≡ true
+      at (passed n) = n
+      at (failed n) = absurd (false≢true (rw (h .links a b (subst (λ (w : Waits). neighbours w a b ≡ false) (h .waits) n)) at e))
+
+  storable-after :
+      (r : Run) → Storable t r → (a b : ℕ) (m : Message) (rest : List Message) → r .link a b ≡ m ∷ rest → accepts r a b m rest ≡ true →
+      Storable t (after r a b m rest)
+  unfolding Machines.after
+  storable-after r f a b m rest l e =
+      let j : neighbours (r .waits) a b ≡ true = waiting-joined r (f .held) a b (rw l refl) in
+      let h = wellFormed-P knot r .0 (f .formed) in
+      record {
+        held = contained-after t r (f .held) h (f .sound) a b j m rest l e;
+        formed = wellFormed-P knot (after r a b m rest) .1 (knot-after r a b m rest e h (f .sound) j l);
+        sound = f .sound;
+      }
+
+  storable-made : (r : Run) → Storable t r → {k : ℕ} {q : Run} → Made knot r k q → Storable t q
+  storable-made r f d = made-keeps (Storable t) (λ q g a b _ _ m rest l e. storable-after q g a b m rest l e) f d
+
+  pub storable-pick : (r : Run) → Storable t r → (a b : ℕ) → Storable t (pick r a b .run)
+  storable-pick r f a b = storable-made r f (pick-made knot r (f .sound) a b)
+
+  -- one delivery in the fixed order
+  pub storable-on : (r : Run) → Storable t r → (c : Selection) → lowest r ≡ c → Storable t (deliverOn r c .run)
+  storable-on r f c e = storable-made r f (deliverOn-made knot r c (λ a b q. fixedOrder-finds 0 r a b (rw e q)) .made)
+
+  pub storable-runOn : (k : ℕ) (r : Run) → Storable t r → Storable t (runOn k r .run)
+  storable-runOn k r f = storable-made r f (runOn-made knot _ fixedOrder-finds k 0 r)

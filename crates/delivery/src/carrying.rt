@@ -1,0 +1,62 @@
+// A delivery carried out: the changes that a step makes in a tested area.
+use areas::places;
+use lenses::heading;
+use lenses::links;
+use lenses::records;
+use lenses::sending;
+use steps::Probes;
+use steps::Process;
+use steps::Reply;
+use tables::Chain;
+ghost use mathlib.Core.Path.{_≡_};
+ghost use Prim.Native.Nat.{_+_, _≤_};
+ghost use Rattle.areas.specs.Area.{runIn, keeping};
+ghost use Rattle.lenses.specs.Ready.{Ready};
+ghost use Rattle.delivery.specs.Delivering.{probesOf, spreadBy, carriedOut, Carried};
+ghost use Rattle.tables.specs.declared.Chain.{Chain};
+ghost use Rattle.lenses.specs.Changes.{Spreadable};
+
+// b sends the probes of its step, if there are any.
+fn send(
+    area: &mut [i32],
+    square: &[u16; places::SQUARE_SIZE],
+    n: usize,
+    m: usize,
+    b: usize,
+    probes: Probes,
+)
+    requires { ⌜ Ready (now area) (now square) n m ⌝ }
+    requires { ⌜ (1 ≤ b) × (b ≤ n) ⌝ }
+    requires { ⌜ ((c : Chain) → probes ≡ probesOf c → Spreadable c (runIn (now area)) n b) ⌝ }
+    ensures { λ _. ⌜ now (area .exit) ≡ keeping (now (area .entry)) (spreadBy probes (runIn (now (area .entry))) b) ⌝ }
+{
+    match probes {
+        Probes::Nothing => {}
+        Probes::Sucs => sending::broadcast(area, square, n, m, Chain::Out, b),
+        Probes::Pres => sending::broadcast(area, square, n, m, Chain::In, b),
+    }
+}
+
+// b's step has been taken: the message comes off its link, the record changes, and the step's messages go out.
+pub fn carry_out(
+    area: &mut [i32],
+    square: &[u16; places::SQUARE_SIZE],
+    n: usize,
+    m: usize,
+    a: usize,
+    b: usize,
+    process: Process,
+    probes: Probes,
+    reply: Reply,
+)
+    requires { ⌜ Ready (now area) (now square) n m ⌝ }
+    requires { ⌜ Carried (runIn (now area)) a b process probes reply ⌝ }
+    ensures { λ _. ⌜ now (area .exit) ≡ keeping (now (area .entry)) (carriedOut (runIn (now (area .entry))) a b process probes reply) ⌝ }
+{
+    links::take(area, square, n, m, a, b);
+    records::put_process(area, square, n, m, b, process);
+    sending::acknowledge(area, square, n, m, b, reply);
+    send(area, square, n, m, b, probes);
+    let count = heading::count_of(area, square, n, m);
+    heading::put_count(area, square, n, m, count + 1);
+}

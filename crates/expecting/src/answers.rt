@@ -1,0 +1,226 @@
+// The answers of the calls on a run, each compared with what the search expects.
+use crate::Expected;
+use crate::faults;
+use checks::Delivery;
+use checks::Mark;
+use checks::Reading;
+use checks::Report;
+use checks::Verdict;
+use drawing::numbers;
+use machine::Ran;
+use ordering::Call;
+use ordering::Course;
+use steps::Message;
+use steps::Process;
+
+// The course with a difference if the test fails. Only the first one counts.
+pub fn expect(c: Course, test: bool, fault: u32) -> Course {
+    let mut d = c;
+    if !test && c.fault == 0 {
+        d.fault = fault;
+    }
+    d
+}
+
+// A report is refused with 26 while fewer than D deliveries are made, and then says D.
+fn is_told(report: Report, c: Course) -> bool {
+    match report {
+        Report::Over {
+            deliveries,
+            verdict: _,
+            outside: _,
+            escape: _,
+            mark: _,
+        } => c.made == c.due && deliveries == c.due,
+        Report::Refused(number) => c.made < c.due && number == 26,
+    }
+}
+
+// After a report at any time.
+pub fn reported(report: Report, c: Course) -> Course {
+    expect(c, is_told(report, c), faults::OVER)
+}
+
+// The number that a pick is refused with, if it is: 25 for no link, 23 if all deliveries are made, else 24.
+fn refusal(found: &[bool; 16899], call: Call, c: Course) -> u32 {
+    if !searching::is_link(found, call.from, call.to) {
+        return 25;
+    }
+    if c.made == c.due {
+        return 23;
+    }
+    24
+}
+
+// A message that can be on a link: a suc along a wait, a pre against one, an acknowledgement with a count in range.
+fn is_message(found: &[bool; 16899], call: Call, message: Message) -> bool {
+    match message {
+        Message::Suc => searching::is_wait(found, call.from, call.to),
+        Message::Pre => searching::is_wait(found, call.to, call.from),
+        Message::Ack(count) => -128 <= count && count <= 128,
+    }
+}
+
+// A pick that could be refused with 24 may deliver a message.
+fn is_picked(found: &[bool; 16899], call: Call, answer: Delivery, refusal: u32) -> bool {
+    match answer {
+        Delivery::Delivered(message) => refusal == 24 && is_message(found, call, message),
+        Delivery::Refused(number) => number == refusal,
+    }
+}
+
+// A message came to a receiver.
+fn delivered(to: usize, message: Message, c: Course) -> Course {
+    let mut d = c;
+    d.made = numbers::sum(d.made, 1);
+    d.misses = 0;
+    d.receiver = to;
+    match message {
+        Message::Suc => d.sucs = numbers::sum(d.sucs, 1),
+        Message::Pre => d.pres = numbers::sum(d.pres, 1),
+        Message::Ack(_) => {}
+    }
+    d
+}
+
+fn tried(to: usize, answer: Delivery, c: Course) -> Course {
+    let Delivery::Delivered(message) = answer else {
+        let mut d = c;
+        d.misses = numbers::more(d.misses);
+        return d;
+    };
+    delivered(to, message, c)
+}
+
+// After a pick of any two numbers.
+pub fn picked(found: &[bool; 16899], call: Call, answer: Delivery, c: Course) -> Course {
+    let right = is_picked(found, call, answer, refusal(found, call, c));
+    expect(tried(call.to, answer, c), right, faults::PICK)
+}
+
+// The deliveries that are left.
+fn left(c: Course) -> u32 {
+    if c.made > c.due {
+        return 0;
+    }
+    c.due - c.made
+}
+
+// Over with all that were left, or spent with k.
+fn is_run(answer: Ran, k: u32, left: u32) -> bool {
+    match answer {
+        Ran::Over(made) => made == left && left <= k,
+        Ran::Spent(made) => made == k && k < left,
+        Ran::Refused { number: _, made: _ } => false,
+    }
+}
+
+// A after running on by at most k.
+fn made(c: Course, k: u32) -> u32 {
+    if left(c) <= k {
+        return c.due;
+    }
+    numbers::sum(c.made, k)
+}
+
+// After running on by at most k.
+pub fn ran(k: u32, answer: Ran, c: Course) -> Course {
+    let mut d = c;
+    d.made = made(c, k);
+    expect(d, is_run(answer, k, left(c)), faults::RUNNING_ON)
+}
+
+// What holds of every record at any time: flags, and "subordinate is 1 if succeeding and not preceding".
+fn is_fair(x: Process) -> bool {
+    if x.succeeding == 1 && x.preceding == 0 {
+        return x.subordinate == 1;
+    }
+    x.subordinate == 0 && x.succeeding < 2 && x.preceding < 2
+}
+
+// A record is found exactly for the processes; 25 for other numbers.
+fn is_read(answer: Reading, process: bool) -> bool {
+    match answer {
+        Reading::Found(x) => process && is_fair(x),
+        Reading::Refused(number) => !process && number == 25,
+    }
+}
+
+// After reading the record of any number, with N.
+pub fn read(n: usize, p: usize, answer: Reading, c: Course) -> Course {
+    expect(c, is_read(answer, 0 < p && p <= n), faults::RECORD)
+}
+
+// "as escape one of them, 0 if none"
+fn is_escape(found: &[bool; 16899], outside: i32, escape: u32) -> bool {
+    if escape == 0 {
+        return outside == 0;
+    }
+    searching::outsider(found, escape as usize) == 1
+}
+
+// "knot exactly if all processes reachable from the start reach it", and returned exactly with knot.
+fn is_verdict(verdict: Verdict, mark: Mark, outside: i32) -> bool {
+    match verdict {
+        Verdict::Knot => match mark {
+            Mark::Returned => outside == 0,
+            Mark::Held => false,
+        },
+        Verdict::Free => match mark {
+            Mark::Returned => false,
+            Mark::Held => outside != 0,
+        },
+    }
+}
+
+// The report of the end.
+pub fn is_last_report(report: Report, found: &[bool; 16899], outside: i32, due: u32) -> bool {
+    match report {
+        Report::Refused(_) => false,
+        Report::Over {
+            deliveries,
+            verdict,
+            outside: told,
+            escape,
+            mark,
+        } => {
+            deliveries == due
+                && told == outside
+                && is_verdict(verdict, mark, outside)
+                && is_escape(found, outside, escape)
+        }
+    }
+}
+
+// "cs 0, but the start's cs is outside"
+fn last_cs(e: Expected, p: usize) -> i32 {
+    if p == e.start {
+        return e.outside;
+    }
+    0
+}
+
+// The values of p at the end; father is left open.
+fn is_last(x: Process, found: &[bool; 16899], p: usize, cs: i32) -> bool {
+    x.succeeding == searching::flag(found, searching::AFTER, p)
+        && x.preceding == searching::flag(found, searching::BEFORE, p)
+        && x.subordinate == searching::outsider(found, p)
+        && x.num == 0
+        && x.cs == cs
+}
+
+// The record of p at the end.
+pub fn is_last_record(answer: Reading, found: &[bool; 16899], e: Expected, p: usize) -> bool {
+    match answer {
+        Reading::Refused(_) => false,
+        Reading::Found(x) => is_last(x, found, p, last_cs(e, p)),
+    }
+}
+
+// If picks made every delivery, they delivered as many sucs and pres as there are waits to send them along.
+pub fn are_all_probes(e: Expected, order: usize, c: Course) -> bool {
+    if ordering::is_by_picks(order) {
+        return c.sucs == e.sucs && c.pres == e.pres;
+    }
+    true
+}

@@ -1,0 +1,5 @@
+pub mod Holding
+pub mod Stores
+pub mod Lookups
+pub mod ChainWalks
+pub mod Spreads

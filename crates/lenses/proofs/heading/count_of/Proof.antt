@@ -1,0 +1,17 @@
+-- `lenses::heading::count_of` meets its contract: the word is that of the heading.
+-- Assumes nothing.
+use native.Mathlib.Omega.{arith}
+use borrow.Author.Needs.{needs}
+use Rattle.lenses.proofs.Stores.{long}
+use Rattle.lenses.proofs.Lookups.{count-is}
+use Rattle.lenses.proofs.heading.count_of.Statement.{statement}
+use Rattle.lenses.proofs.heading.count_of.Tie as tie
+
+shared-slice-copy-out-number : tie.Need-shared-slice-copy-out-number
+shared-slice-copy-out-number c = omega (arith, long (c .pre))
+
+returns : tie.Need-returns
+returns c = count-is (c .before .before .args .area .now) (c .before .number-arg .given) (c .number .ensures)
+
+pub count-of-spec : {M : Type 1} → statement M
+count-of-spec = tie.close (tie.spec shared-slice-copy-out-number (λ c κs. search needs) returns)

@@ -1,0 +1,135 @@
+-- What picks and running on do and answer (01, "Steps" and "Refused because of the state"), for any check.
+--   Answer M           == the message of a delivery, or the number of its refusal
+--   Picked, RanOn      == an answer and the run that the call leaves
+--   pick ρ r a b       == "A pick checks 21, 25, 23, 24, 22."
+--   Selection          == a link with a message, or nobody
+--   Chooser P M        == an order of running on: from its own state and the run, the link whose oldest message goes, and its next state
+--   deliverOn, goOn, runFrom, runOn   == "Running on checks 21 first, then over, then spent, then 24, 22.", over any chooser
+--   lowest r           == "lowest sender first and then lowest receiver among links with a message"
+--   fixedOrder         == that choice as a chooser, which needs no state
+--   ranNumber, ranMade == for each case of running on's answer 01's number, and the number made
+-- Assumes nothing.
+use Prim.Native.Nat.{ℕ, zero, suc}
+use mathlib.Core.Bool.{Bool, true, false, not}
+use mathlib.Core.List.{List, [], _∷_}
+use Rattle.base.specs.Choice.{choose}
+use Rattle.tables.specs.Waits.{neighbours}
+use Rattle.machine.specs.declared.Ran.{Ran}
+use Rattle.machine.specs.declared.Ran.the-variants.{Spent}
+use Rattle.machine.specs.Machine.{Machine, Rules, over, wellFormed, after, accepts}
+
+-- ---- a pick
+
+-- "It answers with that message.", or "A refusal returns its number"
+pub data Answer (M : Type 0) : Type 0 where
+  given : M → Answer M
+  refusal : ℕ → Answer M
+
+pub record Picked (P M : Type 0) : Type 0 where
+  pub answer : Answer M
+  pub run : Machine P M
+
+module _ {P M : Type 0} where
+  -- "A refusal returns its number .. and changes no lent byte or word"
+  abbrev pub refused : ℕ → Machine P M → Picked P M
+  refused n r = record { answer = refusal n; run = r }
+
+module _ {P M : Type 0} (ρ : Rules P M) where
+  -- 22, or the delivery
+  unfoldable pub delivered : Machine P M → ℕ → ℕ → M → List M → Picked P M
+  delivered r a b m rest = choose (accepts ρ r a b m rest) (record { answer = given m; run = after ρ r a b m rest }) (refused 22 r)
+
+  -- 24, "nothing waits on that link", then 22
+  unfoldable pub deliver : Machine P M → ℕ → ℕ → List M → Picked P M
+  deliver r a b [] = refused 24 r
+  deliver r a b (m ∷ rest) = delivered r a b m rest
+
+  -- "A pick checks 21, 25, 23, 24, 22."
+  unfoldable pub pick : Machine P M → ℕ → ℕ → Picked P M
+  pick r a b =
+      choose (not (wellFormed ρ r)) (refused 21 r)
+      (choose (not (neighbours (r .waits) a b)) (refused 25 r)
+      (choose (over ρ r) (refused 23 r)
+      (deliver r a b (r .link a b))))
+
+-- ---- running on
+
+-- a link with a message: its sender and receiver
+pub data Selection : Type 0 where
+  nobody : Selection
+  pair : ℕ → ℕ → Selection
+
+-- an order: the link whose oldest message goes next, and the chooser's next state
+abbrev pub Chooser : Type 0 → Type 0 → Type 0
+Chooser P M = ℕ → Machine P M → Selection × ℕ
+
+pub record RanOn (P M : Type 0) : Type 0 where
+  pub answer : Ran
+  pub run : Machine P M
+
+module _ {P M : Type 0} where
+  -- a refusal ends it and "keeps its deliveries and gives their number"; after a delivery it goes on
+  abbrev pub goOn : ℕ → Picked P M → (Machine P M → RanOn P M) → RanOn P M
+  goOn made p rest = elim (p .answer) [ refusal n ↦ record { answer = Ran.Refused n made; run = p .run } | given m ↦ rest (p .run) ]
+
+module _ {P M : Type 0} (ρ : Rules P M) where
+  -- the delivery on the chosen link: 24 where there is none
+  unfoldable pub deliverOn : Machine P M → Selection → Picked P M
+  deliverOn r nobody = refused 24 r
+  deliverOn r (pair a b) = deliver ρ r a b (r .link a b)
+
+  -- over, then spent, then 24, 22, with so many deliveries made before
+  unfoldable pub runFrom : Chooser P M → ℕ → ℕ → ℕ → Machine P M → RanOn P M
+  runFrom next zero made s r =
+      choose (over ρ r) (record { answer = Ran.Over made; run = r }) (record { answer = Spent made; run = r })
+  runFrom next (suc k) made s r =
+      elim (over ρ r) [
+        | true ↦ record { answer = Ran.Over made; run = r }
+        | false ↦ goOn made (deliverOn r (next s r .0)) (λ q. runFrom next k (suc made) (next s r .1) q)
+      ]
+
+  -- "Running on makes up to k deliveries", from the chooser's first state on
+  unfoldable pub runOn : Chooser P M → ℕ → ℕ → Machine P M → RanOn P M
+  runOn next k s r = choose (not (wellFormed ρ r)) (record { answer = Ran.Refused 21 0; run = r }) (runFrom next k 0 s r)
+
+-- ---- the fixed order
+
+abbrev pub orElse : Selection → Selection → Selection
+orElse nobody d = d
+orElse (pair a b) d = pair a b
+
+module _ {M : Type 0} where
+  abbrev pub waiting : List M → Bool
+  waiting [] = false
+  waiting (m ∷ ms) = true
+
+module _ {P M : Type 0} where
+  -- the lowest receiver of 1 to n to whom a message from a waits
+  unfoldable pub lowestReceiver : Machine P M → ℕ → ℕ → Selection
+  lowestReceiver r a zero = nobody
+  lowestReceiver r a (suc n) = orElse (lowestReceiver r a n) (choose (waiting (r .link a (suc n))) (pair a (suc n)) nobody)
+
+  -- the lowest sender of 1 to n from whom a message waits, with the lowest receiver
+  unfoldable pub lowestSender : Machine P M → ℕ → Selection
+  lowestSender r zero = nobody
+  lowestSender r (suc n) = orElse (lowestSender r n) (lowestReceiver r (suc n) (r .waits .n))
+
+  -- "lowest sender first and then lowest receiver among links with a message"
+  unfoldable pub lowest : Machine P M → Selection
+  lowest r = lowestSender r (r .waits .n)
+
+  abbrev pub fixedOrder : Chooser P M
+  fixedOrder s r = (lowest r, s)
+
+-- ---- 01's number for each case of the answer, 0 where nothing is refused
+
+abbrev pub ranNumber : Ran → ℕ
+ranNumber (Ran.Over made) = 0
+ranNumber (Spent made) = 0
+ranNumber (Ran.Refused n made) = n
+
+-- "with the number made"
+abbrev pub ranMade : Ran → ℕ
+ranMade (Ran.Over made) = made
+ranMade (Spent made) = made
+ranMade (Ran.Refused n made) = made

@@ -1,0 +1,180 @@
+-- A well-formed run, part by part, and that a delivery keeps it so.
+--   wellFormed-P        == wellFormed is exactly these parts
+--   linkRight-P         == a link is right: at most so many messages, each of them right
+--   allRight-append, allRight-tail   == the messages of two lists one after the other
+--   accepts-P           == accepts is exactly its parts
+--   formed-after        == an accepted delivery keeps a run well formed, if the receiver's new record and what it sends are right
+-- Assumes nothing.
+use Prim.Native.Nat.{ℕ, suc, _+_, _≤_}
+use mathlib.Core.Bool.{Bool, true, false, _&&_}
+use mathlib.Core.List.{List, [], _∷_, _++_}
+use mathlib.Core.Path.{_≡_}
+use mathlib.Core.Logic.{_↔_}
+use native.Mathlib.Omega.{arith}
+use borrow.Author.Tests.{leb-true, le-leb}
+use lib.Dec.{eqb, leb}
+use lib.ListN.{length}
+use Rattle.base.specs.Choice.{choose}
+use Rattle.base.specs.ChoiceLaws.{and-left, and-right, and-both, and-three, Same, same, apart, same?}
+use Rattle.base.specs.Sums.{allTo}
+use Rattle.base.specs.SumLaws.{allTo-at, allTo-of}
+use Rattle.tables.specs.Table.{IsProcess}
+use Rattle.machine.specs.Formed.{Formed, Acceptable}
+use Rattle.machine.specs.Machine.{Machine, Rules, allRight, linkRight, wellFormed, taken, leftBy, after, accepts}
+
+-- ---- the messages of a list
+
+module _ {M : Type 0} (p : M → Bool) where
+  pub allRight-append : (xs ys : List M) → allRight p xs ≡ true → allRight p ys ≡ true → allRight p (xs ++ ys) ≡ true
+  unfolding allRight
+  allRight-append [] ys e f = f
+  allRight-append (m ∷ ms) ys e f =
+      and-both _ _ (and-left (p m) (allRight p ms) e) (allRight-append ms ys (and-right (p m) (allRight p ms) e) f)
+
+  pub allRight-tail : (xs ys : List M) → allRight p (xs ++ ys) ≡ true → allRight p ys ≡ true
+  unfolding allRight
+  allRight-tail [] ys e = e
+  allRight-tail (m ∷ ms) ys e = allRight-tail ms ys (and-right (p m) (allRight p (ms ++ ys)) e)
+
+-- ---- the parts
+
+and-four : (a b c d : Bool) → (a && b && c && d) ≡ true → (a ≡ true) × (b ≡ true) × (c ≡ true) × (d ≡ true)
+and-four a b c d e = let p = and-three a b c (and-left (a && b && c) d e) in (p .0, p .1, p .2, and-right (a && b && c) d e)
+
+pub linkRight-P :
+    {P M : Type 0} (ρ : Rules P M) (ms : List M) →
+    (linkRight ρ ms ≡ true) ↔ ((length ms ≤ ρ .capacity) × (allRight (ρ .messageRight) ms ≡ true))
+unfolding linkRight
+linkRight-P ρ ms =
+    let short : Bool = leb (length ms) (ρ .capacity) in
+    let right : Bool = allRight (ρ .messageRight) ms in (
+      λ e. (leb-true (length ms) (ρ .capacity) (and-left short right e), and-right short right e),
+      λ h. and-both short right (le-leb (length ms) (ρ .capacity) (h .0)) (h .1),
+    )
+
+module _ {P M : Type 0} (ρ : Rules P M) (r : Machine P M) where
+  link-parts :
+      allTo (r .waits .n) (λ a. allTo (r .waits .n) (λ b. linkRight ρ (r .link a b))) ≡ true → (a b : ℕ) → IsProcess (r .waits .n) a →
+      IsProcess (r .waits .n) b → (length (r .link a b) ≤ ρ .capacity) × (allRight (ρ .messageRight) (r .link a b) ≡ true)
+  link-parts e a b pa pb =
+      let row = allTo-at (r .waits .n) (λ a. allTo (r .waits .n) (λ b. linkRight ρ (r .link a b))) e a (pa .0) (pa .1) in
+      linkRight-P ρ (r .link a b) .0 (allTo-at (r .waits .n) (λ b. linkRight ρ (r .link a b)) row b (pb .0) (pb .1))
+
+  wellFormed-parts : wellFormed ρ r ≡ true → Formed ρ r
+  unfolding wellFormed
+  wellFormed-parts e =
+      let records : ℕ → Bool = λ p. ρ .recordRight (r .waits) p (r .process p) in
+      let links : Bool = allTo (r .waits .n) (λ a. allTo (r .waits .n) (λ b. linkRight ρ (r .link a b))) in
+      let heads : Bool = ρ .room r && leb 1 (r .start) && leb (r .start) (r .waits .n) && leb (r .count) (ρ .most) in
+      let most = and-three heads (allTo (r .waits .n) records) links e in
+      let head = and-four (ρ .room r) (leb 1 (r .start)) (leb (r .start) (r .waits .n)) (leb (r .count) (ρ .most)) (most .0) in
+      record {
+        room = head .0;
+        start-in = (leb-true 1 (r .start) (head .1), leb-true (r .start) (r .waits .n) (head .2));
+        count = leb-true (r .count) (ρ .most) (head .3);
+        records = λ p i. allTo-at (r .waits .n) records (most .1) p (i .0) (i .1);
+        short = λ a b pa pb. link-parts (most .2) a b pa pb .0;
+        messages = λ a b pa pb. link-parts (most .2) a b pa pb .1;
+      }
+
+  formed-wellFormed : Formed ρ r → wellFormed ρ r ≡ true
+  unfolding wellFormed
+  formed-wellFormed f =
+      and-both _ _ (and-both _ _ (and-both _ _ (and-both _ _ (and-both _ _
+      (f .room)
+      (le-leb 1 (r .start) (f .start-in .0)))
+      (le-leb (r .start) (r .waits .n) (f .start-in .1)))
+      (le-leb (r .count) (ρ .most) (f .count)))
+      (allTo-of (r .waits .n) _ (λ p l u. f .records p (l, u))))
+      (allTo-of (r .waits .n) _ (λ a la ua. allTo-of (r .waits .n) _ (λ b lb ub. right a b (la, ua) (lb, ub))))
+    where
+      right : (a b : ℕ) → IsProcess (r .waits .n) a → IsProcess (r .waits .n) b → linkRight ρ (r .link a b) ≡ true
+      right a b pa pb = linkRight-P ρ (r .link a b) .1 (f .short a b pa pb, f .messages a b pa pb)
+
+  pub wellFormed-P : (wellFormed ρ r ≡ true) ↔ Formed ρ r
+  wellFormed-P = (wellFormed-parts, formed-wellFormed)
+
+-- ---- an accepted delivery
+
+module _ {P M : Type 0} (ρ : Rules P M) (r : Machine P M) (a b : ℕ) (m : M) (rest : List M) where
+  accepts-parts : accepts ρ r a b m rest ≡ true → Acceptable ρ r a b m rest
+  unfolding accepts
+  accepts-parts e =
+      let shorts : ℕ → Bool = λ q. leb (length (after ρ r a b m rest .link b q)) (ρ .capacity) in
+      let fits : Bool = ρ .fits (r .waits) (r .start) a b m (r .process b) in
+      let parts = and-four (ρ .room (after ρ r a b m rest)) (leb (r .count + 1) (ρ .most)) fits (allTo (r .waits .n) shorts) e in
+      record {
+        room = parts .0;
+        count = leb-true (r .count + 1) (ρ .most) (parts .1);
+        fits = parts .2;
+        short = λ q i. leb-true (length (after ρ r a b m rest .link b q)) (ρ .capacity) (allTo-at (r .waits .n) shorts (parts .3) q (i .0) (i .1));
+      }
+
+  accepted-accepts : Acceptable ρ r a b m rest → accepts ρ r a b m rest ≡ true
+  unfolding accepts
+  accepted-accepts h =
+      and-both _ _ (and-both _ _ (and-both _ _
+      (h .room)
+      (le-leb (r .count + 1) (ρ .most) (h .count)))
+      (h .fits))
+      (allTo-of (r .waits .n) _ (λ q l u. le-leb _ (ρ .capacity) (h .short q (l, u))))
+
+  pub accepts-P : (accepts ρ r a b m rest ≡ true) ↔ Acceptable ρ r a b m rest
+  accepts-P = (accepts-parts, accepted-accepts)
+
+module _ {P M : Type 0} (ρ : Rules P M) (r : Machine P M) (f : Formed ρ r) (a b : ℕ) (pa : IsProcess (r .waits .n) a)
+    (pb : IsProcess (r .waits .n) b) (m : M) (rest : List M) (l : r .link a b ≡ m ∷ rest) where
+  -- what stays of the picked link is right, as it was
+  rest-short : length rest ≤ ρ .capacity
+  rest-short =
+      let k : length (r .link a b) ≤ ρ .capacity = f .short a b pa pb in
+      let e : suc (length rest) ≤ ρ .capacity = rw l at k in
+      omega arith
+
+  rest-right : allRight (ρ .messageRight) rest ≡ true
+  rest-right = allRight-tail (ρ .messageRight) (m ∷ []) rest (rw l at (f .messages a b pa pb))
+
+  taken-short : (x y : ℕ) → IsProcess (r .waits .n) x → IsProcess (r .waits .n) y → length (taken r a b rest x y) ≤ ρ .capacity
+  unfolding taken
+  taken-short x y px py = at (eqb x a && eqb y b)
+    where
+      at : (c : Bool) → length (choose c rest (r .link x y)) ≤ ρ .capacity
+      at true = rest-short
+      at false = f .short x y px py
+
+  taken-right : (x y : ℕ) → IsProcess (r .waits .n) x → IsProcess (r .waits .n) y → allRight (ρ .messageRight) (taken r a b rest x y) ≡ true
+  unfolding taken
+  taken-right x y px py = at (eqb x a && eqb y b)
+    where
+      at : (c : Bool) → allRight (ρ .messageRight) (choose c rest (r .link x y)) ≡ true
+      at true = rest-right
+      at false = f .messages x y px py
+
+  pub formed-after :
+      accepts ρ r a b m rest ≡ true → ρ .recordRight (r .waits) b (leftBy ρ r a b m .process) ≡ true →
+      ((y : ℕ) → IsProcess (r .waits .n) y → allRight (ρ .messageRight) (leftBy ρ r a b m .sent y) ≡ true) → Formed ρ (after ρ r a b m rest)
+  unfolding after
+  formed-after ok new sent =
+      let h : Acceptable ρ r a b m rest = accepts-P ρ r a b m rest .0 ok in
+      record {
+        room = h .room;
+        start-in = f .start-in;
+        count = h .count;
+        records = λ p i. own p i (same? p b);
+        short = λ x y px py. shorts h x y px py (same? x b);
+        messages = λ x y px py. right x y px py (same? x b);
+      }
+    where
+      own : (p : ℕ) → IsProcess (r .waits .n) p → Same p b → ρ .recordRight (r .waits) p (choose (eqb p b) (leftBy ρ r a b m .process) (r .process p)) ≡ true
+      own p i (same e g) = rw (g, e) new
+      own p i (apart e g) = rw g (f .records p i)
+
+      shorts : Acceptable ρ r a b m rest → (x y : ℕ) → IsProcess (r .waits .n) x → IsProcess (r .waits .n) y → Same x b
+          → length (after ρ r a b m rest .link x y) ≤ ρ .capacity
+      shorts h x y px py (same e g) = rw e (h .short y py)
+      shorts h x y px py (apart e g) = rw g (taken-short x y px py)
+
+      right : (x y : ℕ) → IsProcess (r .waits .n) x → IsProcess (r .waits .n) y → Same x b → allRight (ρ .messageRight) (after ρ r a b m rest .link x y) ≡ true
+      right x y px py (same e g) =
+          rw g (allRight-append (ρ .messageRight) (taken r a b rest x y) (leftBy ρ r a b m .sent y) (taken-right x y px py) (sent y py))
+      right x y px py (apart e g) = rw g (taken-right x y px py)

@@ -1,0 +1,140 @@
+-- Laws on the beginning of a run in its area, one for each step of the code.
+--   Stage w sq n m r new   == the area new holds the run r of w's table, and is ready for the next change
+--   put-stage, suc-stage   == the area once the start's record is put, and once its suc probes are sent
+--   begin-made     == the area once its pre probes are sent
+--   laid-unbegun, laid-begun   == the area that was laid out is ready to begin, and what it becomes
+-- Assumes nothing.
+use Prim.Native.Nat.{ℕ, _≤_}
+use mathlib.Core.Bool.{true}
+use mathlib.Core.List.{List}
+use mathlib.Core.Path.{_≡_, sym, ap, _∙_, subst}
+use native.Mathlib.Omega.{arith}
+use lib.ListN.{length}
+use lib.IntN.{ℤ}
+use Rattle.tables.specs.declared.Chain.the-variants.{Out, In}
+use Rattle.tables.specs.Table.{Fields, fieldOf, nOf, mOf, IsProcess}
+use Rattle.tables.specs.Sound.{Sound}
+use Rattle.tables.specs.Waits.{waitsOf}
+use Rattle.tables.specs.WaitsLaws.{waitsOf-sound}
+use Rattle.steps.specs.declared.Process.{Process}
+use Rattle.steps.specs.Step.{inRange}
+use Rattle.checks.specs.Run.{Run, fatherRight, started, startRun}
+use Rattle.areas.specs.Area.{stored, fieldsIn, runIn, keeping}
+use Rattle.areas.specs.Replaced.{putProcess}
+use Rattle.areas.specs.StoredLaws.{stored-again}
+use Rattle.areas.specs.ReadLaws.{fieldsIn-stored, runIn-stored}
+use Rattle.areas.specs.AreaFacts.{RightTable}
+use Rattle.areas.specs.AreaLaws.{areaRight-table, areaRight-stored}
+use Rattle.areas.specs.Squares.{Square}
+use Rattle.lenses.specs.Changes.{spread}
+use Rattle.lenses.specs.Storable.{Storable}
+use Rattle.lenses.specs.Ready.{Ready}
+use Rattle.lenses.specs.ReadyLaws.{keeping-run, keeping-again, ready-kept}
+use Rattle.starting.specs.Starting.{quiet, begun, sucSent, startedFrom, Startable, Unbegun}
+use Rattle.starting.specs.StartingLaws.{quiet-fit, begun-fit, begun-room, sucSent-fit, sucSent-room, startRun-made, started-inRange}
+use Rattle.starting.specs.StartingLaws.{started-father, startedFrom-is, accepted-table}
+
+-- an area with another run of the same table in it
+pub record Stage (w : List ℤ) (sq : List ℕ) (n m : ℕ) (r : Run) (new : List ℤ) : Type 0 where
+  pub ready : Ready new sq n m
+  pub run : runIn new ≡ r
+  pub next : (q : Run) → keeping new q ≡ keeping w q
+
+stage-of : (w : List ℤ) (sq : List ℕ) (n m : ℕ) → Ready w sq n m → (r : Run) → Storable (fieldsIn w) r → (new : List ℤ) → new ≡ keeping w r
+    → Stage w sq n m r new
+stage-of w sq n m y r f new e =
+    rw e
+    (record {
+      ready = ready-kept w (y .right) r f sq n m y;
+      run = keeping-run w (y .right) r f;
+      next = keeping-again w (y .right) r f;
+    })
+
+module _ {w : List ℤ} {sq : List ℕ} {n m s : ℕ} (k : Unbegun w sq n m s) where
+  table : RightTable (fieldsIn w)
+  table = areaRight-table w (k .ready .right)
+
+  sound : Sound (waitsOf (fieldsIn w))
+  sound = waitsOf-sound (fieldsIn w) (table .right)
+
+  process : IsProcess (waitsOf (fieldsIn w) .n) s
+  unfolding waitsOf
+  process = (k .low, omega (arith, k .high, k .ready .n-is))
+
+  pub few : (n ≤ 128) × (s ≤ 128)
+  few = omega (arith, k .high, k .ready .n-is, table .right .sizes .1)
+
+  -- the start's record, and what putting it asks
+  module _ (x : Process) (e : x ≡ startedFrom sq n s) where
+    record-is : x ≡ started (waitsOf (fieldsIn w)) s
+    record-is = e ∙ ap (λ (j : ℕ). startedFrom sq j s) (k .ready .n-is) ∙ startedFrom-is (fieldsIn w) sq (k .ready .square) (table .right .sizes .1) s (few .1)
+
+    pub record-inRange : inRange x ≡ true
+    record-inRange = rw record-is (started-inRange (waitsOf (fieldsIn w)) sound s)
+
+    pub record-father : fatherRight (runIn w .waits) s x ≡ true
+    record-father = rw record-is (started-father (waitsOf (fieldsIn w)) (runIn w .waits) s)
+
+    pub put-stage : (new : List ℤ) → new ≡ keeping w (putProcess (runIn w) s x) → Stage w sq n m (begun (fieldsIn w) s) new
+    unfolding begun
+    put-stage new f =
+        stage-of w sq n m (k .ready) (begun (fieldsIn w) s) (begun-fit (fieldsIn w) (table .right) s process) new
+        (f
+        ∙ ap (λ (r : Run). keeping w (putProcess r s x)) (k .run)
+        ∙ ap (λ (z : Process). keeping w (putProcess (quiet (fieldsIn w) s) s z)) record-is)
+
+  module _ {one : List ℤ} (a : Stage w sq n m (begun (fieldsIn w) s) one) where
+    pub put-room : (q : ℕ) → length (runIn one .link s q) ≤ 3
+    put-room q = rw (a .run) (begun-room (fieldsIn w) (table .right) s process q)
+
+    pub suc-stage : (new : List ℤ) → new ≡ keeping one (spread Out (runIn one) s) → Stage w sq n m (sucSent (fieldsIn w) s) new
+    unfolding sucSent
+    suc-stage new f =
+        stage-of w sq n m (k .ready) (sucSent (fieldsIn w) s) (sucSent-fit (fieldsIn w) (table .right) s process) new
+        (f ∙ a .next (spread Out (runIn one) s) ∙ ap (λ (r : Run). keeping w (spread Out r s)) (a .run))
+
+  module _ {two : List ℤ} (b : Stage w sq n m (sucSent (fieldsIn w) s) two) where
+    pub suc-room : (q : ℕ) → length (runIn two .link s q) ≤ 3
+    suc-room q = rw (b .run) (sucSent-room (fieldsIn w) (table .right) s process q)
+
+    pub begin-made : (new : List ℤ) → new ≡ keeping two (spread In (runIn two) s) → new ≡ keeping w (startRun (waitsOf (fieldsIn w)) s)
+    begin-made new f =
+        f
+        ∙ b .next (spread In (runIn two) s)
+        ∙ ap (λ (r : Run). keeping w (spread In r s)) (b .run)
+        ∙ ap (keeping w) (sym (startRun-made (fieldsIn w) sound s))
+
+-- ---- from the quiet run of a table
+
+module _ {bs : List ℕ} {n m s : ℕ} {w : List ℤ} (k : Startable bs n m s w) (laid : List ℤ) (is : laid ≡ stored (fieldOf bs) (quiet (fieldOf bs) s) w) where
+  fields : fieldsIn laid ≡ fieldOf bs
+  fields = ap fieldsIn is ∙ fieldsIn-stored (fieldOf bs) (quiet (fieldOf bs) s) w (accepted-table bs (k .accepted) .shut)
+
+  fit : Storable (fieldOf bs) (quiet (fieldOf bs) s)
+  unfolding waitsOf
+  fit = quiet-fit (fieldOf bs) (k .accepted .right) s (k .low, omega (arith, k .high, k .n-is))
+
+  pub laid-unbegun : (sq : List ℕ) → Square (fieldOf bs) sq → Unbegun laid sq n m s
+  laid-unbegun sq h =
+      record {
+        ready = record {
+          right = rw is (areaRight-stored (fieldOf bs) (quiet (fieldOf bs) s) w (accepted-table bs (k .accepted)) (fit .held) (fit .formed)
+              (omega (arith, k .long, k .n-is, k .m-is)));
+          square = subst (λ (t : Fields). Square t sq) (sym fields) h;
+          n-is = k .n-is ∙ sym (ap nOf fields);
+          m-is = k .m-is ∙ sym (ap mOf fields);
+        };
+        low = k .low;
+        high = k .high;
+        run =
+            ap runIn is
+            ∙ runIn-stored (fieldOf bs) (quiet (fieldOf bs) s) w (k .accepted .right) (accepted-table bs (k .accepted) .shut) (fit .held) (fit .formed)
+            ∙ ap (λ (t : Fields). quiet t s) (sym fields);
+      }
+
+  pub laid-begun : (new : List ℤ) → new ≡ keeping laid (startRun (waitsOf (fieldsIn laid)) s) → new ≡ stored (fieldOf bs) (startRun (waitsOf (fieldOf bs)) s) w
+  laid-begun new e =
+      e
+      ∙ ap (λ (t : Fields). stored t (startRun (waitsOf t) s) laid) fields
+      ∙ ap (stored (fieldOf bs) (startRun (waitsOf (fieldOf bs)) s)) is
+      ∙ stored-again (fieldOf bs) (startRun (waitsOf (fieldOf bs)) s) (quiet (fieldOf bs) s) w

@@ -1,0 +1,39 @@
+-- Start on any table bytes, process number and lent words (01, "Steps", "Refused because of the input").
+--   startNumber bs s w       == "start 1 to 9" in order; 0 if none is met
+--   startAnswer, startArea   == start's answer, and the area that it leaves
+--   startedBy                == the answer with a number
+-- Assumes nothing.
+use Prim.Native.Nat.{ℕ, zero, suc}
+use mathlib.Core.Bool.{not}
+use mathlib.Core.List.{List}
+use lib.Dec.{eqb, ltb}
+use lib.ListN.{length}
+use lib.IntN.{ℤ}
+use Rattle.base.specs.Choice.{choose}
+use Rattle.tables.specs.Table.{fieldOf, nOf, mOf, isProcess}
+use Rattle.tables.specs.Reading.{readNumber}
+use Rattle.tables.specs.Waits.{waitsOf}
+use Rattle.checks.specs.Run.{startRun}
+use Rattle.starting.specs.declared.Started.{Started}
+use Rattle.starting.specs.declared.Started.the-variants.{Ready, Refused}
+use Rattle.areas.specs.Places.{areaLength}
+use Rattle.areas.specs.Area.{stored}
+
+-- "Reading a table checks 1 to 7 in order, start 1 to 9."
+unfoldable pub startNumber : List ℕ → ℕ → List ℤ → ℕ
+startNumber bs s w =
+    choose (not (eqb (readNumber bs) 0)) (readNumber bs)
+    (choose (not (isProcess (nOf (fieldOf bs)) s)) 8
+    (choose (ltb (length w) (areaLength (nOf (fieldOf bs)) (mOf (fieldOf bs)))) 9
+    0))
+
+abbrev pub startedBy : ℕ → Started
+startedBy zero = Ready
+startedBy (suc n) = Refused (suc n)
+
+unfoldable pub startAnswer : List ℕ → ℕ → List ℤ → Started
+startAnswer bs s w = startedBy (startNumber bs s w)
+
+-- the area that an accepted start leaves
+unfoldable pub startArea : List ℕ → ℕ → List ℤ → List ℤ
+startArea bs s w = choose (eqb (startNumber bs s w) 0) (stored (fieldOf bs) (startRun (waitsOf (fieldOf bs)) s) w) w

@@ -1,0 +1,78 @@
+-- A start on its way: before anything is sent, and between its parts.
+--   quiet t s          == the run of the table t with start s, all values 0 and no message
+--   begun t s          == the same with the start's record put
+--   sucSent t s        == and with its suc probes sent
+--   startedFrom sq n s == the start's record, with its degrees by the square of arcs
+--   Startable bs n m s w    == what the checks 1 to 9 leave: an accepted table with its N and M, a process of it, and words enough
+--   Unbegun w sq n m s      == the area w holds the quiet run of its table, ready to begin
+--   Cleared old n new  == the first n words are 0, the others as before
+--   Copied t old n new == the words from 14 on are the first n fields of t, the others as before
+-- Assumes nothing.
+use Prim.Native.Nat.{ℕ, _+_, _≤_, _<_}
+use mathlib.Core.List.{List, []}
+use mathlib.Core.Path.{_≡_}
+use lib.ListN.{length, getD}
+use lib.IntN.{ℤ, pos}
+use Rattle.base.specs.Sums.{countTo}
+use Rattle.tables.specs.declared.Chain.the-variants.{Out, In}
+use Rattle.tables.specs.Table.{Fields, fieldOf, nOf, mOf}
+use Rattle.tables.specs.Layout.{MeetsLayout}
+use Rattle.tables.specs.Waits.{waitsOf}
+use Rattle.steps.specs.declared.Process.{Process}
+use Rattle.steps.specs.Step.{idle}
+use Rattle.checks.specs.Run.{Run, started}
+use Rattle.areas.specs.Places.{areaLength, fieldPlace}
+use Rattle.areas.specs.Area.{fieldsIn, runIn}
+use Rattle.areas.specs.Replaced.{putProcess}
+use Rattle.areas.specs.Squares.{joinsBy}
+use Rattle.lenses.specs.Changes.{spread}
+use Rattle.lenses.specs.Ready.{Ready}
+
+-- "All values 0"
+unfoldable pub quiet : Fields → ℕ → Run
+quiet t s = record { waits = waitsOf t; start = s; count = 0; process = λ p. idle; link = λ a b. [] }
+
+-- "s gets succeeding and preceding"
+unfoldable pub begun : Fields → ℕ → Run
+begun t s = putProcess (quiet t s) s (started (waitsOf t) s)
+
+-- "s sends suc to each successor"
+unfoldable pub sucSent : Fields → ℕ → Run
+sucSent t s = spread Out (begun t s) s
+
+-- "num is the number sent"
+unfoldable pub startedFrom : List ℕ → ℕ → ℕ → Process
+startedFrom sq n s =
+    record {
+      succeeding = 1;
+      preceding = 1;
+      subordinate = 0;
+      cs = pos 0;
+      num = countTo n (λ q. joinsBy sq Out s q) + countTo n (λ q. joinsBy sq In s q);
+      father = 0;
+    }
+
+pub record Startable (bs : List ℕ) (n m s : ℕ) (w : List ℤ) : Type 0 where
+  pub accepted : MeetsLayout bs
+  pub n-is : n ≡ nOf (fieldOf bs)
+  pub m-is : m ≡ mOf (fieldOf bs)
+  pub low : 1 ≤ s
+  pub high : s ≤ n
+  pub long : areaLength n m ≤ length w
+
+pub record Unbegun (w : List ℤ) (sq : List ℕ) (n m s : ℕ) : Type 0 where
+  pub ready : Ready w sq n m
+  pub low : 1 ≤ s
+  pub high : s ≤ n
+  pub run : runIn w ≡ quiet (fieldsIn w) s
+
+pub record Cleared (old : List ℤ) (n : ℕ) (new : List ℤ) : Type 0 where
+  pub long : length new ≡ length old
+  pub zeros : (k : ℕ) → k < n → getD new k (pos 0) ≡ pos 0
+  pub kept : (k : ℕ) → n ≤ k → getD new k (pos 0) ≡ getD old k (pos 0)
+
+pub record Copied (t : Fields) (old : List ℤ) (n : ℕ) (new : List ℤ) : Type 0 where
+  pub long : length new ≡ length old
+  pub fields : (j : ℕ) → j < n → getD new (fieldPlace j) (pos 0) ≡ pos (t j)
+  pub before : (k : ℕ) → k < 14 → getD new k (pos 0) ≡ getD old k (pos 0)
+  pub behind : (k : ℕ) → 14 + n ≤ k → getD new k (pos 0) ≡ getD old k (pos 0)

@@ -1,0 +1,192 @@
+-- The run of a start, as code makes it: from the quiet run the start's record, then its suc probes, then its pre probes.
+--   quiet-fit, begun-fit, sucSent-fit, start-fit   == each run on the way, and the last, is one that the area holds, and well formed
+--   started-inRange, started-father, begun-room, sucSent-room   == what the changes ask of the values
+--   startRun-made     == the last is the run of `checks`' own start
+--   startedFrom-is    == the start's record by the square is its record
+--   accepted-table    == the table of accepted bytes
+--   startNumber-startable   == what a start that no row refuses says of its table, its process and its words
+-- Assumes nothing.
+use Prim.Native.Nat.{ℕ, _+_, _*_, _≤_}
+use mathlib.Core.Bool.{Bool, true, false, not, _&&_}
+use mathlib.Core.List.{List, [], _++_}
+use mathlib.Core.Path.{_≡_, refl, fun-ext}
+use native.Mathlib.Omega.{arith}
+use borrow.Author.Tests.{ltb-false, leb-false, le-leb}
+use lib.Dec.{eqb, ltb, leb}
+use lib.ListN.{length, getD, List·getD-eq-default}
+use lib.IntN.{ℤ}
+use Rattle.machine.specs.Machine as Machines
+use Rattle.tables.specs.TableLaws.{isProcess-P}
+use Rattle.base.specs.Choice.{choose}
+use Rattle.base.specs.ChoiceLaws.{Tested, passed, failed, tested, Same, same, apart, same?}
+use Rattle.base.specs.SumLaws.{countTo-most}
+use Rattle.tables.specs.declared.Chain.{Chain}
+use Rattle.tables.specs.declared.Chain.the-variants.{Out, In}
+use Rattle.tables.specs.Table.{Fields, fieldOf, nOf, mOf, IsProcess, isProcess}
+use Rattle.tables.specs.Reading.{readNumber}
+use Rattle.tables.specs.Layout.{Right, MeetsLayout}
+use Rattle.tables.specs.LayoutLaws.{accepted-P}
+use Rattle.tables.specs.Waits.{Waits, waitsOf, outDegree, inDegree}
+use Rattle.tables.specs.Sound.{Sound}
+use Rattle.tables.specs.WaitsLaws.{waitsOf-sound}
+use Rattle.tables.specs.Chains.{joins}
+use Rattle.steps.specs.declared.Message.the-variants.{Suc, Pre}
+use Rattle.steps.specs.Step.{inRange, small, idle}
+use Rattle.checks.specs.Run.{knot, fatherRight, one, started, startRun}
+use Rattle.areas.specs.Places.{areaLength}
+use Rattle.areas.specs.Contained.{Shut}
+use Rattle.areas.specs.Replaced.{putProcess}
+use Rattle.areas.specs.AreaFacts.{RightTable}
+use Rattle.areas.specs.Squares.{Square}
+use Rattle.areas.specs.SquareLaws.{degreeBy-is}
+use Rattle.lenses.specs.Changes.{spreadTo, spread}
+use Rattle.lenses.specs.ChangeLaws.{joins-high, storable-process, storable-spread}
+use Rattle.machine.specs.FormedLaws.{wellFormed-P}
+use Rattle.lenses.specs.Storable.{Storable}
+use Rattle.starting.specs.StartCall.{startNumber}
+use Rattle.starting.specs.Starting.{quiet, begun, sucSent, startedFrom, Startable}
+
+-- ---- the values of the start's record
+
+pub started-inRange : (w : Waits) → Sound w → (s : ℕ) → inRange (started w s) ≡ true
+unfolding inRange small started outDegree inDegree
+started-inRange w d s =
+    le-leb (outDegree w s + inDegree w s) 256
+    (omega (arith, countTo-most (w .n) (λ q. w .waits s q), countTo-most (w .n) (λ q. w .waits q s), d .few))
+
+pub started-father : (w v : Waits) (s : ℕ) → fatherRight v s (started w s) ≡ true
+unfolding fatherRight started
+started-father w v s = refl
+
+-- by the square of arcs
+pub startedFrom-is : (t : Fields) (sq : List ℕ) → Square t sq → nOf t ≤ 128 → (s : ℕ) → s ≤ 128 → startedFrom sq (nOf t) s ≡ started (waitsOf t) s
+unfolding startedFrom started
+startedFrom-is t sq q few s h = rw (degreeBy-is t sq q Out s few h, degreeBy-is t sq q In s few h)
+
+-- ---- the run of a start
+
+-- what stands on a link of the start, where the probes go to processes alone
+made : (w : Waits) → Sound w → (s b : ℕ) (here : Bool) → choose here (one (w .waits s b) Suc ++ one (w .waits b s) Pre) [] ≡ choose (here && leb b (w .n))
+    (choose (here && leb b (w .n)) (one (w .waits s b) Suc) [] ++ one (w .waits b s) Pre) (choose (here && leb b (w .n)) (one (w .waits s b) Suc) [])
+made w d s b false = refl
+made w d s b true = at (tested (leb b (w .n))) (tested (w .waits s b)) (tested (w .waits b s))
+  where
+    none : (c : Chain) → leb b (w .n) ≡ false → joins c w s b ≡ true → ⊥
+    none c e j = omega (arith, leb-false b (w .n) e, joins-high c w d s b j)
+
+    at : Tested (leb b (w .n)) → Tested (w .waits s b) → Tested (w .waits b s) → (one (w .waits s b) Suc ++ one (w .waits b s) Pre) ≡ choose (leb b (w .n))
+        (choose (leb b (w .n)) (one (w .waits s b) Suc) [] ++ one (w .waits b s) Pre) (choose (leb b (w .n)) (one (w .waits s b) Suc) [])
+    at (passed e) _ _ = rw e
+    at (failed e) (passed f) _ = absurd (none Out e f)
+    at (failed e) (failed f) (passed g) = absurd (none In e g)
+    at (failed e) (failed f) (failed g) = rw (e, f, g)
+
+-- "All values 0; s gets succeeding and preceding. s sends suc to each successor, then pre to each predecessor"
+pub startRun-made : (t : Fields) → Sound (waitsOf t) → (s : ℕ) → startRun (waitsOf t) s ≡ spread In (sucSent t s) s
+unfolding Machines.startRun sucSent begun quiet putProcess spread spreadTo
+startRun-made t d s =
+    let w : Waits = waitsOf t in
+    let e : startRun (waitsOf t) s .link ≡ spread In (sucSent t s) s .link = fun-ext (λ a. fun-ext (λ b. made (waitsOf t) d s b (eqb a s))) in
+    λ i. record { waits = w; start = s; count = 0; process = λ p. choose (eqb p s) (started w s) idle; link = e i }
+
+-- ---- each run on the way
+
+module _ (t : Fields) (right : Right t) (s : ℕ) (process : IsProcess (waitsOf t .n) s) where
+  pub quiet-fit : Storable t (quiet t s)
+  unfolding quiet inRange small fatherRight Machines.allRight
+  quiet-fit =
+      record {
+        held = record { waits = refl; processes = λ p h. refl; links = λ a b h. refl };
+        formed =
+            wellFormed-P knot (quiet t s) .1
+            (record {
+              room = refl;
+              start-in = process;
+              count = omega arith;
+              records = λ p _. refl;
+              short = λ a b _ _. omega arith;
+              messages = λ a b _ _. refl;
+            });
+        sound = waitsOf-sound t right;
+      }
+
+  low : 1 ≤ s
+  low = process .0
+
+  high : s ≤ nOf t
+  unfolding waitsOf
+  high = process .1
+
+  pub begun-fit : Storable t (begun t s)
+  unfolding begun quiet
+  begun-fit = storable-process t (quiet t s) quiet-fit s (started (waitsOf t) s) low high (started-inRange (waitsOf t) (waitsOf-sound t right) s)
+      (started-father (waitsOf t) (waitsOf t) s)
+
+  -- no message waits
+  pub begun-room : (q : ℕ) → length (begun t s .link s q) ≤ 3
+  unfolding begun quiet putProcess
+  begun-room q = omega arith
+
+  pub sucSent-fit : Storable t (sucSent t s)
+  unfolding sucSent
+  sucSent-fit = storable-spread Out (begun t s) s t begun-fit (λ q l u j. begun-room q)
+
+  -- at most one message waits
+  pub sucSent-room : (q : ℕ) → length (sucSent t s .link s q) ≤ 3
+  unfolding sucSent begun quiet putProcess spread spreadTo
+  sucSent-room q = at (eqb s s && leb q (waitsOf t .n)) (waitsOf t .waits s q)
+    where
+      at : (b c : Bool) → length (choose b (one c Suc) []) ≤ 3
+      at true true = omega arith
+      at true false = omega arith
+      at false c = omega arith
+
+  pub start-fit : Storable t (startRun (waitsOf t) s)
+  start-fit = rw (startRun-made t (waitsOf-sound t right) s) (storable-spread In (sucSent t s) s t sucSent-fit (λ q l u j. sucSent-room q))
+
+-- ---- the table of accepted bytes
+
+-- "The length is exactly 4 + 4N + 8M bytes": a table has no field past its last
+fieldOf-shut : (bs : List ℕ) → MeetsLayout bs → Shut (fieldOf bs)
+unfolding fieldOf
+fieldOf-shut bs h j u =
+    let l : length bs ≤ 2 * j = omega (arith, h .long) in
+    let a : getD bs (2 * j) 0 ≡ 0 = List·getD-eq-default bs 0 {n = 2 * j} l in
+    let b : getD bs (2 * j + 1) 0 ≡ 0 = List·getD-eq-default bs 0 {n = 2 * j + 1} (omega arith) in
+    omega arith
+
+pub accepted-table : (bs : List ℕ) → MeetsLayout bs → RightTable (fieldOf bs)
+accepted-table bs h = record { right = h .right; shut = fieldOf-shut bs h }
+
+-- ---- an accepted start
+
+pub startNumber-startable : (bs : List ℕ) (s : ℕ) (w : List ℤ) → startNumber bs s w ≡ 0 → Startable bs (nOf (fieldOf bs)) (mOf (fieldOf bs)) s w
+unfolding startNumber
+startNumber-startable bs s w e =
+    at (same? (readNumber bs) 0) (tested (isProcess n s)) (tested (ltb (length w) (areaLength n m))) e
+  where
+    n : ℕ
+    n = nOf (fieldOf bs)
+
+    m : ℕ
+    m = mOf (fieldOf bs)
+
+    -- a refusal's number is not 0
+    not-zero : (r : ℕ) → 1 ≤ r → r ≡ 0 → ⊥
+    not-zero r h z = omega arith
+
+    at : Same (readNumber bs) 0 → Tested (isProcess n s) → Tested (ltb (length w) (areaLength n m))
+        → choose (not (eqb (readNumber bs) 0)) (readNumber bs) (choose (not (isProcess n s)) 8 (choose (ltb (length w) (areaLength n m)) 9 0)) ≡ 0
+        → Startable bs n m s w
+    at (apart d f) p l q = absurd (d (rw f at q))
+    at (same d f) (failed p) l q = absurd (not-zero 8 (omega arith) (rw (f, p) at q))
+    at (same d f) (passed p) (passed l) q = absurd (not-zero 9 (omega arith) (rw (f, p, l) at q))
+    at (same d f) (passed p) (failed l) q =
+        record {
+          accepted = accepted-P bs .0 d;
+          n-is = refl;
+          m-is = refl;
+          low = isProcess-P n s .0 p .0;
+          high = isProcess-P n s .0 p .1;
+          long = ltb-false (length w) (areaLength n m) l;
+        }

@@ -1,0 +1,123 @@
+// Start: reads the table on any bytes, and makes the run area of a check in lent words, whatever they hold. It refuses by the rows 1 to 9
+// of 01, in order, and then leaves every word as it was.
+use areas::places;
+use areas::squares;
+use lenses::records;
+use lenses::sending;
+use steps::Process;
+use tables::Chain;
+use tables::Reading;
+ghost use mathlib.Core.Path.{_≡_};
+ghost use Prim.Native.Nat.{_+_, _*_, _≤_};
+ghost use lib.ListN.{length};
+ghost use Rattle.tables.specs.Table.{fieldOf};
+ghost use Rattle.tables.specs.Waits.{waitsOf};
+ghost use Rattle.checks.specs.Run.{startRun};
+ghost use Rattle.areas.specs.Places.{mostProcesses, headSize};
+ghost use Rattle.areas.specs.Area.{stored, fieldsIn, keeping};
+ghost use Rattle.starting.specs.Starting.{Startable, Unbegun, Cleared, Copied, quiet, startedFrom};
+ghost use Rattle.starting.specs.StartCall.{startAnswer, startArea};
+
+// The answer of a start: the run area is ready, or the number of the refusal.
+pub enum Started {
+    Ready,
+    Refused(u32),
+}
+
+// The first `count` words become 0.
+fn clear(area: &mut [i32], count: usize)
+    requires { ⌜ count ≤ length (now area) ⌝ }
+    ensures { λ _. ⌜ Cleared (now (area .entry)) count (now (area .exit)) ⌝ }
+{
+    for k in 0..count {
+        area[k] = 0;
+    }
+}
+
+// The fields of a table go to the words of the copied one.
+fn copy_fields(table: &[u8], count: usize, area: &mut [i32])
+    requires { ⌜ 2 * count ≤ length (now table) ⌝ }
+    requires { ⌜ headSize + count ≤ length (now area) ⌝ }
+    ensures { λ _. ⌜ Copied (fieldOf (now (table .entry))) (now (area .entry)) count (now (area .exit)) ⌝ }
+{
+    for j in 0..count {
+        let word = table_reader::field(table, j) as i32;
+        area[places::HEAD_SIZE + j] = word;
+    }
+}
+
+// Lays out the area of a run that has not begun: the table copied, the start named, all values 0.
+fn lay_out(table: &[u8], n: usize, m: usize, s: usize, area: &mut [i32])
+    requires { ⌜ Startable (now table) n m s (now area) ⌝ }
+    ensures { λ _. ⌜ now (area .exit) ≡ stored (fieldOf (now (table .entry))) (quiet (fieldOf (now (table .entry))) s) (now (area .entry)) ⌝ }
+{
+    let words = places::area_length(n, m);
+    clear(area, words);
+    let fields = places::field_total(n, m);
+    copy_fields(table, fields, area);
+    area[places::CHECK] = places::KNOT_CHECK;
+    let start = s as i32;
+    area[places::START] = start;
+}
+
+// The start's record: both flags, and the number of probes that it sends.
+fn first_record(square: &[u16; places::SQUARE_SIZE], n: usize, s: usize) -> Process
+    requires { ⌜ (n ≤ mostProcesses) × (s ≤ mostProcesses) ⌝ }
+    ensures { λ r. ⌜ r ≡ startedFrom (now (square .entry)) n s ⌝ }
+{
+    let successors = squares::degree(square, n, Chain::Out, s);
+    let predecessors = squares::degree(square, n, Chain::In, s);
+    Process {
+        succeeding: 1,
+        preceding: 1,
+        subordinate: 0,
+        cs: 0,
+        num: successors + predecessors,
+        father: 0,
+    }
+}
+
+// Begins the run: the start's record, then suc to each successor, then pre to each predecessor.
+fn begin(area: &mut [i32], square: &[u16; places::SQUARE_SIZE], n: usize, m: usize, s: usize)
+    requires { ⌜ Unbegun (now area) (now square) n m s ⌝ }
+    ensures { λ _. ⌜ now (area .exit) ≡ keeping (now (area .entry)) (startRun (waitsOf (fieldsIn (now (area .entry)))) s) ⌝ }
+{
+    let first = first_record(square, n, s);
+    records::put_process(area, square, n, m, s, first);
+    sending::broadcast(area, square, n, m, Chain::Out, s);
+    sending::broadcast(area, square, n, m, Chain::In, s);
+}
+
+// Makes the area of a begun run, for an accepted table and enough words.
+fn set_up(table: &[u8], n: usize, m: usize, s: usize, area: &mut [i32])
+    requires { ⌜ Startable (now table) n m s (now area) ⌝ }
+    ensures { λ _. ⌜ now (area .exit) ≡ stored (fieldOf (now (table .entry))) (startRun (waitsOf (fieldOf (now (table .entry)))) s) (now (area .entry)) ⌝ }
+{
+    let mut square = [0u16; places::SQUARE_SIZE];
+    squares::fill(table, n, m, &mut square);
+    lay_out(table, n, m, s, area);
+    begin(area, &square, n, m, s);
+}
+
+// Starts a check at process s: checks 1 to 9, in order, on any bytes and any words.
+pub fn start(table: &[u8], s: usize, area: &mut [i32]) -> Started
+    ensures answer { λ r. ⌜ r ≡ startAnswer (now (table .entry)) s (now (area .entry)) ⌝ }
+    ensures area { λ _. ⌜ now (area .exit) ≡ startArea (now (table .entry)) s (now (area .entry)) ⌝ }
+{
+    match table_reader::read(table) {
+        Reading::Refused(r) => Started::Refused(r),
+        Reading::Accepted { n, m } => {
+            if s == 0 {
+                return Started::Refused(8);
+            }
+            if s > n {
+                return Started::Refused(8);
+            }
+            if area.len() < places::area_length(n, m) {
+                return Started::Refused(9);
+            }
+            set_up(table, n, m, s, area);
+            Started::Ready
+        }
+    }
+}

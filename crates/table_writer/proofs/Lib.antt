@@ -1,0 +1,3 @@
+-- Laws that the proofs of code share, each over plain numbers and fields.
+pub mod Unlike
+pub mod PuttingLaws
