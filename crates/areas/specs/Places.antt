@@ -1,4 +1,5 @@
--- The numbers of the area's layout (docs/LAYOUT.md). Every address of a word is made of these, here and in src/places.rt, and nowhere else.
+-- The numbers of the area's layout (docs/LAYOUT.md): where its parts begin and how many words they have, for code in src/places.rt too.
+-- The order of the words inside a record is in Area.
 --   mostProcesses, mostArcs   == "N (processes, 1 to 128) and M (arcs, 0 to 512)"
 --   checkPlace, startPlace, countPlace   == the words before the table that are in use
 --   headUsed, headSize        == how many words before the table are in use, and how many there are
