@@ -1,9 +1,10 @@
 #!/usr/bin/env python3
-"""Makes the cases of crates/check_cases: inputs of the check program (stdin), and what it must print for each (stdout).
+"""Makes the cases of crates/check_cases: inputs of the check program (stdin), and what it must print for each (stdout); and the one
+input of each crate that runs the check program itself, with what it must print: knot_check_longest, knot_check_too_long, knot_check_most.
 
-  tools/check_cases.py           write both files
-  tools/check_cases.py --check   write nothing; exit 1 unless both files are what would be written
-  tools/check_cases.py --list    print each case with its label and its lines
+  tools/check_cases.py           write all these files
+  tools/check_cases.py --check   write nothing; exit 1 unless the files are what would be written
+  tools/check_cases.py --list    print each case and each such input with its label and its lines
   tools/check_cases.py --print   read one input of the check program and print what it must print
 
 What is printed comes from the run below, which is written from 01 ("Run and links", "Steps", "The check program") and not from the
@@ -15,8 +16,9 @@ import collections, os, sys
 
 from table_vectors import Draws, Table, fields_of, latest_first, rows_met, shuffled, some_waits, store, words
 
-HERE = os.path.join(os.path.dirname(os.path.abspath(__file__)), "..", "crates", "check_cases")
+CRATES = os.path.join(os.path.dirname(os.path.abspath(__file__)), "..", "crates")
 LONGEST = 20480
+MOST_DELIVERIES = 2048
 
 
 # ---- a run, by 01
@@ -24,6 +26,39 @@ LONGEST = 20480
 class Process:
     def __init__(self):
         self.succeeding = self.preceding = self.subordinate = self.cs = self.num = self.father = 0
+
+
+def other_step(x, p, message, out_degree, in_degree):
+    """The step of a process other than the start, with record x, on a message from p. It gives what is sent, in order."""
+    sent = []
+    if message[0] == "ack":
+        x.cs += message[1]
+        x.num -= 1
+    else:
+        # rule 1
+        if x.num == 0:
+            x.father = p
+        else:
+            sent.append(("ack", p, x.cs))
+            x.cs = 0
+        # rule 2
+        if message[0] == "suc" and not x.succeeding:
+            x.succeeding = 1
+            sent.append(("suc",))
+            x.num += out_degree
+        if message[0] == "pre" and not x.preceding:
+            x.preceding = 1
+            sent.append(("pre",))
+            x.num += in_degree
+        # rule 3
+        new = 1 if x.succeeding and not x.preceding else 0
+        x.cs += new - x.subordinate
+        x.subordinate = new
+    # rule 4
+    if x.num == 0:
+        sent.append(("ack", x.father, x.cs))
+        x.cs = 0
+    return sent
 
 
 class Run:
@@ -57,39 +92,20 @@ class Run:
         assert to != 0 and -128 <= count <= 128
         self.send(p, to, ("ack", count))
 
-    def rule_4(self, i):
-        x = self.process[i]
-        if x.num == 0:
-            self.acknowledge(i, x.father, x.cs)
-            x.cs = 0
-
     def receive(self, i, p, message):
         x = self.process[i]
-        if message[0] == "ack":
+        if i != self.start:
+            for what, *to in other_step(x, p, message, len(self.successors[i]), len(self.predecessors[i])):
+                if what == "ack":
+                    self.acknowledge(i, *to)
+                else:
+                    self.broadcast(i, what)
+        elif message[0] == "ack":
             x.cs += message[1]
             x.num -= 1
-            assert x.num >= 0
-            if i != self.start:
-                self.rule_4(i)
-            return
-        if i == self.start:
-            self.acknowledge(i, p, 0)
-            return
-        if x.num == 0:
-            x.father = p
         else:
-            self.acknowledge(i, p, x.cs)
-            x.cs = 0
-        if message[0] == "suc" and not x.succeeding:
-            x.succeeding = 1
-            x.num += self.broadcast(i, "suc")
-        if message[0] == "pre" and not x.preceding:
-            x.preceding = 1
-            x.num += self.broadcast(i, "pre")
-        new = 1 if x.succeeding and not x.preceding else 0
-        x.cs += new - x.subordinate
-        x.subordinate = new
-        self.rule_4(i)
+            self.acknowledge(i, p, 0)
+        assert x.num >= 0
 
     def deliver(self, a, b):
         message = self.link[a, b].popleft()
@@ -193,12 +209,17 @@ def printed(data):
 cases = []  # label, bytes, lines
 
 
-def add(label, data, *wanted):
-    """A case whose lines must hold these, in this order."""
+def held(label, data, wanted):
+    """What the program must print, which must hold these lines, in this order."""
     lines = printed(data)
     rest = iter(lines)
     assert all(line in rest for line in wanted), (label, wanted, lines)
-    cases.append((label, data, lines))
+    return lines
+
+
+def add(label, data, *wanted):
+    """A case whose lines must hold these, in this order."""
+    cases.append((label, data, held(label, data, wanted)))
 
 
 def refused(label, data, number):
@@ -304,6 +325,62 @@ def large(rng):
     assert len(cases[-1][1]) == 20478
 
 
+# ---- inputs of the check program itself, each with a crate of its own
+
+def longest():
+    """The longest input that is accepted. All deliveries but one by picks, in an order drawn at random; picks of every empty link (24) and
+    of pairs that have no link (25); the last delivery; and then picks of every link, again and again (23), to the last byte."""
+    rng = Draws(20478)
+    n, start = 9, 4
+    waits = some_waits(rng, n, 20)
+    run = Run(n, waits, start)
+    links = sorted(run.link)
+    accepted = []
+    while not run.over():
+        accepted.append(rng.sample([link for link in links if run.link[link]], 1)[0])
+        run.deliver(*accepted[-1])
+    none = [(a, b) for a in range(n + 2) for b in range(n + 2) if (a, b) not in run.link] + [(start + 256, 1), (65535, 65535)]
+    empty = [link for link in links if link != accepted[-1]]
+    picks = accepted[:-1] + empty + none + accepted[-1:]
+    room = (LONGEST - 2 - len(check(start, n, waits))) // 4
+    picks += [links[k % len(links)] for k in range(room - len(picks))]
+    data = check(start, n, waits, picks, shuffled(rng))
+    lines = held("longest", data, ["pick %d %d refused 24" % link for link in empty] + ["pick %d %d refused 25" % pair for pair in none]
+                 + ["pick %d %d refused 23" % picks[-1], "over %d" % len(accepted), "verdict none"])
+    assert len(data) == LONGEST - 2 and sum(line.startswith("pick ") for line in lines) == len(picks)
+    assert sum(line.endswith(" refused 23") for line in lines) > 4000 and not any(line.startswith("own ") for line in lines)
+    return data, lines
+
+
+def too_long():
+    """The input above and one pick more: a whole number of picks, and its first 20,478 bytes are accepted."""
+    data = longest()[0] + words([1, 2])
+    assert len(data) == LONGEST + 2
+    return data, held("too long", data, ["refused 13"])
+
+
+def most():
+    """As many deliveries as a run can count, all of them the program's own: 128 processes in a ring, 512 waits, no picks."""
+    waits = [(p, (p + step - 1) % 128 + 1) for step in (1, 5, 25, 60) for p in range(1, 129)]
+    data = check(77, 128, waits, (), shuffled(Draws(2048)))
+    lines = held("most", data, ["over %d" % MOST_DELIVERIES, "verdict knot", "mark returned"])
+    assert sum(line.startswith("own ") for line in lines) == MOST_DELIVERIES
+    return data, lines
+
+
+def programs():
+    """For each crate its label, its input and its lines."""
+    return {
+        "knot_check_longest": ("20,478 bytes, the longest that is accepted", *longest()),
+        "knot_check_too_long": ("20,482 bytes", *too_long()),
+        "knot_check_most": ("2,048 deliveries", *most()),
+    }
+
+
+def text(lines):
+    return "".join(line + "\n" for line in lines)
+
+
 def make():
     rng = Draws(2002)
     refusals()
@@ -312,26 +389,29 @@ def make():
     random_cases(rng)
     large(rng)
     stdin = b"".join(words([len(data)]) + data for _, data, _ in cases)
-    stdout = "".join("case %d\n%s" % (number, "".join(line + "\n" for line in lines)) for number, (_, _, lines) in enumerate(cases, 1))
+    stdout = "".join("case %d\n%s" % (number, text(lines)) for number, (_, _, lines) in enumerate(cases, 1))
     # and at the end a case that is not whole
     return {"stdin": stdin + words([9]) + bytes(5), "stdout": (stdout + "input ends early\n").encode()}
 
 
 def main():
     if sys.argv[1:] == ["--print"]:
-        sys.stdout.write("".join(line + "\n" for line in printed(sys.stdin.buffer.read())))
+        sys.stdout.write(text(printed(sys.stdin.buffer.read())))
         return
-    files = make()
+    files, alone = make(), programs()
     if sys.argv[1:] == ["--list"]:
-        for number, (label, data, lines) in enumerate(cases, 1):
-            print("%d, %d bytes, %s:" % (number, len(data), label))
+        for name, (label, data, lines) in [*enumerate(cases, 1), *alone.items()]:
+            print("%s, %d bytes, %s:" % (name, len(data), label))
             for line in lines:
                 print("    " + line)
         return
     if sys.argv[1:] not in ([], ["--check"]):
         sys.exit(__doc__)
-    store(HERE, files, sys.argv[1:] == ["--check"])
+    store(os.path.join(CRATES, "check_cases"), files, sys.argv[1:] == ["--check"])
     print("%d cases, %d bytes in, %d bytes out" % (len(cases), len(files["stdin"]), len(files["stdout"])))
+    for name, (label, data, lines) in alone.items():
+        store(os.path.join(CRATES, name), {"stdin": data, "stdout": text(lines).encode()}, sys.argv[1:] == ["--check"])
+        print("%s: %d bytes in, %d lines out" % (name, len(data), len(lines)))
 
 
 if __name__ == "__main__":

@@ -5,9 +5,10 @@
   tools/table_vectors.py --check   write nothing; exit 1 unless both files are what would be written
   tools/table_vectors.py --list    print each case with its label and its lines
 
-What is printed comes from the reader and the writer below, which are written from 01 ("Wait table" and "Refused because of the
+What is printed comes from the reader, the writer and the walks below, which are written from 01 ("Wait table" and "Refused because of the
 input") and not from the crates. A reader here finds every row that the bytes meet, and the lowest is the answer; a writer here
-takes the arcs of a chain as a whole, the latest first. Each case says by hand which number it must give, and which rows it must
+takes the arcs of a chain as a whole, the latest first; a walk here takes the whole chain of an accepted table as a list, and the list must
+hold each arc of its process once and nothing else. Each case says by hand which number it must give, and which rows it must
 meet; the script stops if they do not agree. The format of a case is in the top comment of crates/table_vectors/src/main.rt.
 The cases drawn at random have a fixed seed, so every run makes the same files.
 """
@@ -158,11 +159,69 @@ def rows_met(data):
     return rows
 
 
-def read_lines(data):
+def reading_line(data):
     rows = rows_met(data)
     if rows:
-        return ["read refused %d" % min(rows)]
-    return ["read accepted %d %d" % fields_of(data)[:2]]
+        return "read refused %d" % min(rows)
+    return "read accepted %d %d" % fields_of(data)[:2]
+
+
+# ---- the walk of 01
+
+CHAINS = ((OUT, "out"), (IN, "in"))
+MOST = 513
+
+
+def chain_of(data, c, p):
+    """The arcs of one chain of an accepted table, as a list."""
+    _, _, firsts, arcs = fields_of(data)
+    chain, k = [], firsts[p - 1][c]
+    while k:
+        chain.append(k)
+        k = arcs[k - 1][NEXT + c]
+    assert sorted(chain) == [k for k, arc in enumerate(arcs, 1) if arc[c] == p]
+    return chain
+
+
+def walk_line(data, c, name, p):
+    """The walk along a chain of p: "checks 1 to 7, then 8 for that process, and stands at the chain's first arc, or 0 if it has none"."""
+    rows = rows_met(data)
+    number = min(rows) if rows else 0 if 1 <= p <= fields_of(data)[0] else 8
+    chain = [] if number else chain_of(data, c, p)
+    line = "%s %d:" % (name, p)
+    if number:
+        line += " refused %d" % number
+    for arc, after in zip(chain or [0], chain[1:] + ["end"]):
+        line += " %d>%s" % (arc, after)
+    return line
+
+
+def walk_lines(data):
+    """Of an accepted table every process, 0 and N + 1; of a refused one, which refuses every opening alike, process 1."""
+    some = [1] if rows_met(data) else range(fields_of(data)[0] + 2)
+    return [walk_line(data, c, name, p) for p in some for c, name in CHAINS]
+
+
+def step_from(data, c, k):
+    """On any bytes: "from an arc number that is 0, over M or past the lent bytes it gives the end"."""
+    if len(data) < 4:
+        return "end"
+    n, m = data[0] + 256 * data[1], data[2] + 256 * data[3]
+    record = data[4 + 4 * n + 8 * (k - 1):][:8] if 1 <= k <= m else b""
+    if len(record) < 8:
+        return "end"
+    after = record[4 + 2 * c] + 256 * record[5 + 2 * c]
+    return str(after) if after else "end"
+
+
+def step_lines(data):
+    said = min(data[2] + 256 * data[3], MOST) if len(data) >= 4 else 0
+    numbers = list(range(said + 2)) + [65535, 2**64 - 1]
+    return ["next %s: %s" % (name, " ".join(step_from(data, c, k) for k in numbers)) for c, name in CHAINS]
+
+
+def read_lines(data):
+    return [reading_line(data)] + walk_lines(data) + step_lines(data)
 
 
 # ---- the writer of 01
@@ -202,9 +261,9 @@ def write_lines(n, entries, space):
     waits = list(zip(entries[0::2], entries[1::2]))
     table = Table(n, waits, latest_first).bytes()
     output = table + bytes([MARK]) * (space - len(table))
-    lines = ["write %d kept" % len(table)] + read_lines(table)
+    lines = ["write %d kept" % len(table), reading_line(table)]
     if len(waits) <= FEW:
-        lines += ["arc %d: %d %d" % (k, a, b) for k, (a, b) in enumerate(waits, 1)]
+        lines += ["arc %d: %d %d" % (k, a, b) for k, (a, b) in enumerate(waits, 1)] + walk_lines(table)
     return lines + ["sum %d" % adler(output)]
 
 
@@ -279,6 +338,12 @@ def lengths():
     read("one arc record too many", whole + bytes(8), 3)
     read("M one too small", words([2, 1]) + whole[4:], 3, 5)
     read("N one too small", words([1, 2]) + whole[4:], 3, 4, 6)
+    # four arcs, the last of which has a next arc on both chains: no step may be made from it if it is over M or cut
+    whole = Table(2, [(1, 1), (1, 2), (2, 1), (2, 2)], latest_first).bytes()
+    read("M one too small, four arcs", words([2, 3]) + whole[4:], 3, 5, 6)
+    for length in range(len(whole) - 16, len(whole)):
+        data = whole[:length]
+        read("the first %d of %d bytes" % (length, len(whole)), data, 3, *(rows_met(data) - {3}))
 
 
 def single_rows():
@@ -541,7 +606,7 @@ def store(folder, files, only_check):
         if only_check:
             with open(path, "rb") as f:
                 if f.read() != data:
-                    sys.exit("%s is not what this script makes" % name)
+                    sys.exit("%s is not what this script makes" % os.path.relpath(path))
         else:
             with open(path, "wb") as f:
                 f.write(data)

@@ -15,10 +15,12 @@ use lib.IntN.{ℤ, pos}
 use lib.ListN.{length, getD, set, length-set}
 use lib.Seq.{getD-set-same, getD-set-other}
 use Rattle.base.specs.Choice.{choose}
-use Rattle.base.specs.ChoiceLaws.{Tested, passed, failed, tested, Same, same, apart, same?}
-use Rattle.tables.specs.Table.{fieldOf}
-use Rattle.areas.specs.Places.{fieldTotal, fieldPlace}
-use Rattle.areas.specs.Area.{fieldTotalOf, numberAt, cut, fieldsIn, sameWord}
+use Rattle.base.specs.ChoiceLaws.{tested, same?}
+use Rattle.base.specs.Checks.{Tested, passed, failed, Same, same, apart}
+use Rattle.tables.specs.Table.{fieldOf, fieldTotal}
+use Rattle.areas.specs.Places.{fieldPlace}
+use Rattle.areas.specs.Contained.{cut}
+use Rattle.areas.specs.Area.{fieldTotalOf, numberAt, fieldsIn, sameWord}
 use Rattle.areas.specs.RunInLaws.{fieldsIn-n, fieldsIn-m}
 use Rattle.area_tests.specs.AreaTests.{fieldTest}
 use Rattle.area_tests.specs.Testing.{CopiedTo}

@@ -18,17 +18,20 @@ use native.Mathlib.Omega.{arith}
 use borrow.Author.Tests.{eq-eqb, ne-eqb}
 use lib.IntN.{ℤ, pos}
 use lib.ListN.{getD}
-use Rattle.base.specs.ChoiceLaws.{Tested, passed, failed, tested}
+use Rattle.base.specs.ChoiceLaws.{tested}
+use Rattle.base.specs.Checks.{Tested, passed, failed}
 use Rattle.base.specs.Sums.{allTo}
-use Rattle.tables.specs.Table.{nOf, mOf, arcAt}
+use Rattle.tables.specs.Table.{nOf, mOf, mostProcesses, isProcess, arcAt}
 use Rattle.tables.specs.Layout.{Right}
 use Rattle.tables.specs.Reading.{fieldsNumber}
 use Rattle.tables.specs.Waits.{waitsOf, neighbours}
 use Rattle.tables.specs.WaitsLaws.{waitsOf-sound, neighbours-ends}
 use Rattle.steps.specs.declared.Process.{Process}
 use Rattle.steps.specs.Step.{inRange}
-use Rattle.checks.specs.Run.{fatherRight}
-use Rattle.areas.specs.Places.{mostProcesses, checkPlace, startPlace, countPlace, headUsed, headSize, fieldPlace, recordUsed, recordSize, linkSlots, linkSize}
+use Rattle.checks.specs.Run.{mostDeliveries, fatherRight}
+use Rattle.areas.specs.Places.{startPlace, countPlace, headSize, fieldPlace, flagsPlace, numPlace, fatherPlace, recordSize, linkSize}
+use Rattle.areas.specs.Used.{linkSlots}
+use Rattle.areas.specs.Used.{checkPlace, headUsed, recordUsed}
 use Rattle.areas.specs.Area.{fieldTotalOf, recordPlace, linkPlace, arcOf, knotCheck, flagsOf, hasBack, numberAt, fieldsIn, recordAt, sameWord}
 use Rattle.areas.specs.Squares.{joinedBy, Square}
 use Rattle.areas.specs.Tells.{Tells}
@@ -56,10 +59,9 @@ failing {b} {t} e h p = false≢true (sym (ap not (e ∙ p)) ∙ h)
 pub record HeadParts (w : List ℤ) : Type 0 where
   pub check : sameWord (getD w checkPlace (pos 0)) knotCheck ≡ true
   pub start : counts w startPlace ≡ true
-  pub low : 1 ≤ numberAt w startPlace
-  pub high : numberAt w startPlace ≤ numberAt w (fieldPlace 0)
+  pub start-in : isProcess (numberAt w (fieldPlace 0)) (numberAt w startPlace) ≡ true
   pub count : counts w countPlace ≡ true
-  pub few : numberAt w countPlace ≤ 2048
+  pub few : numberAt w countPlace ≤ mostDeliveries
   pub free : areFree w headUsed headSize ≡ true
 
 pub headTest-parts : (w : List ℤ) → Tells (headTest w) (HeadParts w)
@@ -67,23 +69,21 @@ unfolding headTest
 headTest-parts w =
     tells-map
     (λ s. record {
-      check = s .0 .0 .0 .0 .0 .0;
-      start = s .0 .0 .0 .0 .0 .1;
-      low = s .0 .0 .0 .0 .1;
-      high = s .0 .0 .0 .1;
+      check = s .0 .0 .0 .0 .0;
+      start = s .0 .0 .0 .0 .1;
+      start-in = s .0 .0 .0 .1;
       count = s .0 .0 .1;
       few = s .0 .1;
       free = s .1;
     })
-    (λ s. ((((((s .check, s .start), s .low), s .high), s .count), s .few), s .free))
+    (λ s. (((((s .check, s .start), s .start-in), s .count), s .few), s .free))
     (tells-both
     (tells-both
     (tells-both
-    (tells-both
-    (tells-both (tells-both (tells-id (sameWord (getD w checkPlace (pos 0)) knotCheck)) (tells-id (counts w startPlace))) (tells-le 1 (numberAt w startPlace)))
-    (tells-le (numberAt w startPlace) (numberAt w (fieldPlace 0))))
+    (tells-both (tells-both (tells-id (sameWord (getD w checkPlace (pos 0)) knotCheck)) (tells-id (counts w startPlace)))
+    (tells-id (isProcess (numberAt w (fieldPlace 0)) (numberAt w startPlace))))
     (tells-id (counts w countPlace)))
-    (tells-le (numberAt w countPlace) 2048))
+    (tells-le (numberAt w countPlace) mostDeliveries))
     (tells-id (areFree w headUsed headSize)))
 
 -- ---- a record
@@ -95,17 +95,22 @@ bits n h =
     let r : n / 4 % 2 ≡ n / 4 = omega arith in
     omega arith
 
-flags-parts : (w : List ℤ) (k : ℕ) → Tells (sameWord (getD w k (pos 0)) (pos (flagsOf (recordAt w k)))) ((counts w k ≡ true) × (numberAt w k ≤ 7))
+flags-parts : (w : List ℤ) (k : ℕ)
+    → Tells (sameWord (getD w (k + flagsPlace) (pos 0)) (pos (flagsOf (recordAt w k))))
+    ((counts w (k + flagsPlace) ≡ true) × (numberAt w (k + flagsPlace) ≤ 7))
 unfolding flagsOf
-flags-parts w k = tells-map to from (sameWord-P (getD w k (pos 0)) (pos (flagsOf (recordAt w k))))
+flags-parts w k = tells-map to from (sameWord-P (getD w i (pos 0)) (pos (flagsOf (recordAt w k))))
   where
-    to : getD w k (pos 0) ≡ pos (flagsOf (recordAt w k)) → (counts w k ≡ true) × (numberAt w k ≤ 7)
-    to e =
-        let n : numberAt w k ≡ flagsOf (recordAt w k) = ap lib.IntN.natAbs e in
-        (sameWord-P (getD w k (pos 0)) (pos (numberAt w k)) .1 (counts-of w k (flagsOf (recordAt w k)) e), omega arith)
+    i : ℕ
+    i = k + flagsPlace
 
-    from : (counts w k ≡ true) × (numberAt w k ≤ 7) → getD w k (pos 0) ≡ pos (flagsOf (recordAt w k))
-    from s = sameWord-P (getD w k (pos 0)) (pos (numberAt w k)) .0 (s .0) ∙ ap pos (bits (numberAt w k) (s .1))
+    to : getD w i (pos 0) ≡ pos (flagsOf (recordAt w k)) → (counts w i ≡ true) × (numberAt w i ≤ 7)
+    to e =
+        let n : numberAt w i ≡ flagsOf (recordAt w k) = ap lib.IntN.natAbs e in
+        (sameWord-P (getD w i (pos 0)) (pos (numberAt w i)) .1 (counts-of w i (flagsOf (recordAt w k)) e), omega arith)
+
+    from : (counts w i ≡ true) × (numberAt w i ≤ 7) → getD w i (pos 0) ≡ pos (flagsOf (recordAt w k))
+    from s = sameWord-P (getD w i (pos 0)) (pos (numberAt w i)) .0 (s .0) ∙ ap pos (bits (numberAt w i) (s .1))
 
 -- the father of p, by the square
 module _ (w : List ℤ) (sq : List ℕ) (right : Right (fieldsIn w)) (square : Square (fieldsIn w) sq) (p : ℕ) (x : Process) where
@@ -129,10 +134,10 @@ module _ (w : List ℤ) (sq : List ℕ) (right : Right (fieldsIn w)) (square : S
 pub record RecordParts (w : List ℤ) (p k : ℕ) (x : Process) : Type 0 where
   pub values : inRange x ≡ true
   pub father : fatherRight (waitsOf (fieldsIn w)) p x ≡ true
-  pub flags : counts w k ≡ true
-  pub bits : numberAt w k ≤ 7
-  pub num-word : counts w (k + 2) ≡ true
-  pub father-word : counts w (k + 3) ≡ true
+  pub flags : counts w (k + flagsPlace) ≡ true
+  pub bits : numberAt w (k + flagsPlace) ≤ 7
+  pub num-word : counts w (k + numPlace) ≡ true
+  pub father-word : counts w (k + fatherPlace) ≡ true
   pub free : areFree w (k + recordUsed) (k + recordSize) ≡ true
 
 recordTest-at : (w : List ℤ) (p : ℕ) → Tells (recordTest w p) (RecordParts w p (recordPlace (fieldsIn w) p) (recordAt w (recordPlace (fieldsIn w) p)))
@@ -153,8 +158,8 @@ recordTest-at w p =
     (tells-both
     (tells-both
     (tells-both (tells-both (tells-id (inRange x)) (tells-id (fatherRight (waitsOf (fieldsIn w)) p x))) (flags-parts w k))
-    (tells-id (counts w (k + 2))))
-    (tells-id (counts w (k + 3))))
+    (tells-id (counts w (k + numPlace))))
+    (tells-id (counts w (k + fatherPlace))))
     (tells-id (areFree w (k + recordUsed) (k + recordSize))))
   where
     k : ℕ

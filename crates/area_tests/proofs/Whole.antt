@@ -14,9 +14,9 @@ use mathlib.Core.Path.{_≡_, refl, sym, _∙_}
 use native.Mathlib.Omega.{arith}
 use lib.IntN.{ℤ}
 use lib.ListN.{length, getD, replicate}
-use Rattle.tables.specs.Table.{nOf, mOf}
+use Rattle.tables.specs.Table.{nOf, mOf, mostProcesses, mostArcs, fieldTotal}
 use Rattle.area_tests.specs.declared.testing.Sizes.{Sizes}
-use Rattle.areas.specs.Places.{mostProcesses, mostArcs, fieldTotal, fieldPlace, areaLength}
+use Rattle.areas.specs.Places.{fieldPlace, areaLength}
 use Rattle.areas.specs.Area.{fieldTotalOf, numberAt, fieldsIn, areaRight}
 use Rattle.areas.specs.RunInLaws.{fieldsIn-n, fieldsIn-m}
 use Rattle.area_tests.specs.AreaTests.{sizesTest}

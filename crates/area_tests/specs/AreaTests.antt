@@ -18,14 +18,15 @@ use lib.ListN.{length, getD}
 use lib.IntN.{ℤ, pos}
 use Rattle.base.specs.Choice.{choose}
 use Rattle.base.specs.Sums.{allTo}
-use Rattle.tables.specs.Table.{nOf, mOf}
+use Rattle.tables.specs.Table.{nOf, mOf, mostProcesses, mostArcs, fieldTotal, isProcess}
 use Rattle.tables.specs.Reading.{fieldsNumber}
 use Rattle.tables.specs.Waits.{waitsOf}
 use Rattle.steps.specs.declared.Process.{Process}
 use Rattle.steps.specs.Step.{inRange, countSmall}
-use Rattle.checks.specs.Run.{fatherRight, countsSmall}
-use Rattle.areas.specs.Places.{mostProcesses, mostArcs, checkPlace, startPlace, countPlace, headUsed, headSize, fieldTotal, fieldPlace}
-use Rattle.areas.specs.Places.{recordUsed, recordSize, linkSlots, linkSize, areaLength}
+use Rattle.checks.specs.Run.{mostDeliveries, fatherRight, countsSmall}
+use Rattle.areas.specs.Places.{startPlace, countPlace, headSize, fieldPlace, flagsPlace, numPlace, fatherPlace, recordSize, linkSize, areaLength}
+use Rattle.areas.specs.Used.{linkSlots}
+use Rattle.areas.specs.Used.{checkPlace, headUsed, recordUsed}
 use Rattle.areas.specs.Area.{fieldTotalOf, recordPlace, linkPlace, knotCheck, recordWord, codeOf, slotWord, hasBack, numberAt, fieldsIn, recordAt}
 use Rattle.areas.specs.Area.{messageOf, messagesAt, sameWord}
 
@@ -54,16 +55,15 @@ areFree w i e = allTo (e - i) (λ j. isFree w (i + (j - 1)))
 
 unfoldable pub headTest : List ℤ → Bool
 headTest w =
-    sameWord (getD w checkPlace (pos 0)) knotCheck && counts w startPlace && leb 1 (numberAt w startPlace) &&
-    leb (numberAt w startPlace) (numberAt w (fieldPlace 0)) && counts w countPlace && leb (numberAt w countPlace) 2048 &&
-    areFree w headUsed headSize
+    sameWord (getD w checkPlace (pos 0)) knotCheck && counts w startPlace && isProcess (numberAt w (fieldPlace 0)) (numberAt w startPlace) &&
+    counts w countPlace && leb (numberAt w countPlace) mostDeliveries && areFree w headUsed headSize
 
 unfoldable pub recordTest : List ℤ → ℕ → Bool
 recordTest w p =
     let k : ℕ = recordPlace (fieldsIn w) p in
     let x : Process = recordAt w k in
-    inRange x && fatherRight (waitsOf (fieldsIn w)) p x && sameWord (getD w k (pos 0)) (recordWord x 0) && counts w (k + 2) &&
-    counts w (k + 3) && areFree w (k + recordUsed) (k + recordSize)
+    inRange x && fatherRight (waitsOf (fieldsIn w)) p x && sameWord (getD w (k + flagsPlace) (pos 0)) (recordWord x flagsPlace) &&
+    counts w (k + numPlace) && counts w (k + fatherPlace) && areFree w (k + recordUsed) (k + recordSize)
 
 -- "messages of the three kinds with counts in range"
 abbrev pub messageWord : ℤ → Bool

@@ -10,8 +10,9 @@ use lib.ListN.{length, getD}
 use lib.IntN.{ℤ, pos}
 use native.Mathlib.Omega.{arith}
 use Rattle.machine.specs.Machine as Machines
-use Rattle.base.specs.ChoiceLaws.{Tested, passed, failed, tested}
-use Rattle.tables.specs.Table.{Fields, nOf, mOf, arcAt, IsProcess}
+use Rattle.base.specs.ChoiceLaws.{tested}
+use Rattle.base.specs.Checks.{Tested, passed, failed}
+use Rattle.tables.specs.Table.{Fields, nOf, mOf, mostProcesses, mostArcs, IsProcess, arcAt}
 use Rattle.tables.specs.Layout.{IsArc, Right}
 use Rattle.tables.specs.LayoutLaws.{fieldsNumber-P}
 use Rattle.tables.specs.Reading.{fieldsNumber}
@@ -19,7 +20,7 @@ use Rattle.tables.specs.Waits.{waitsOf, neighbours}
 use Rattle.machine.specs.Formed.{Formed}
 use Rattle.machine.specs.FormedLaws.{wellFormed-P, linkRight-P}
 use Rattle.checks.specs.Run.{knot, linkRight}
-use Rattle.areas.specs.Places.{mostProcesses, mostArcs, fieldPlace, areaLength}
+use Rattle.areas.specs.Places.{fieldPlace, areaLength}
 use Rattle.areas.specs.Area.{fieldTotalOf, numberAt, fieldsIn, runIn, areaRight}
 use Rattle.areas.specs.Arcs.{LinkAt, forth, back}
 use Rattle.areas.specs.AreaFacts.{AreaRight}
@@ -27,6 +28,7 @@ use Rattle.areas.specs.Tells.{Tells}
 use Rattle.areas.specs.TellsLaws.{tells-map, tells-le, tells-eq, tells-id, tells-both, tells-all, tells-below, tells-same}
 use Rattle.areas.specs.ArcLaws.{linkOf-at}
 use Rattle.areas.specs.WordTestLaws.{counts-of}
+use Rattle.areas.specs.ContainedLaws.{contained-joined}
 use Rattle.areas.specs.RunInLaws.{fieldsIn-n, fieldsIn-m, fieldsIn-at, runIn-n, runIn-contained}
 use Rattle.areas.specs.AreaLaws.{areaRight-P}
 use Rattle.area_tests.specs.AreaTests.{sizesTest, fieldTest, recordTest, arcTest, areaTests}
@@ -101,10 +103,11 @@ areaTests-right w =
               wellFormed-P knot (runIn w) .1
               (record {
                 room = refl;
-                start-in = (s .0 .0 .1 .low, rw (runIn-n w) (s .0 .0 .1 .high));
+                start-in = rw (runIn-n w) (s .0 .0 .1 .start-in);
                 count = s .0 .0 .1 .few;
                 records = λ p i. s .0 .1 p (i .0, omega (arith, runIn-n w)) .values;
                 short = λ a b _ _. linkRight-P knot (runIn w .link a b) .0 (links-right w (arcs s) a b) .0;
+                joined = λ a b _ _. contained-joined (fieldsIn w) (runIn w) (runIn-contained w) a b;
                 messages = λ a b _ _. linkRight-P knot (runIn w .link a b) .0 (links-right w (arcs s) a b) .1;
               });
           words =
@@ -144,7 +147,7 @@ areaTests-right w =
     field f j u = (counts-of w (fieldPlace j) (t j) (placed f .fields j u), omega (arith, fieldsIn-at w j u, f .fields j u))
 
     head : AreaRight w → HeadRight w
-    head f = record { low = run f .start-in .0; high = rw (runIn-n w) at (run f .start-in .1); few = run f .count; words = placed f .head }
+    head f = record { start-in = rw (runIn-n w) at (run f .start-in); few = run f .count; words = placed f .head }
 
     one : AreaRight w → (p : ℕ) → IsProcess (nOf t) p → RecordRight w p
     one f p r = record { values = run f .records p (r .0, omega (arith, runIn-n w)); words = placed f .records p r }

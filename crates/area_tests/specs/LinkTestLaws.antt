@@ -8,7 +8,8 @@ use mathlib.Core.Path.{_≡_, sym, ap, _∙_}
 use native.Mathlib.Omega.{arith}
 use lib.IntN.{ℤ, pos}
 use lib.ListN.{length, getD}
-use Rattle.base.specs.ChoiceLaws.{Below, below, beyond, below?}
+use Rattle.base.specs.ChoiceLaws.{below?}
+use Rattle.base.specs.Checks.{Below, below, beyond}
 use Rattle.base.specs.Sums.{allTo}
 use Rattle.steps.specs.declared.Message.{Message}
 use Rattle.steps.specs.declared.Message.the-variants.{Suc}

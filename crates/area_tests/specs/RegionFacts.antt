@@ -14,7 +14,7 @@ use lib.IntN.{ℤ, pos}
 use Rattle.tables.specs.Table.{nOf, arcAt, Fields, IsProcess}
 use Rattle.tables.specs.Layout.{IsArc, Sizes}
 use Rattle.steps.specs.Step.{inRange}
-use Rattle.checks.specs.Run.{linkRight, fatherRight, Run}
+use Rattle.checks.specs.Run.{Run, mostDeliveries, linkRight, fatherRight}
 use Rattle.areas.specs.Places.{headSize, fieldPlace, recordSize, arcSize}
 use Rattle.areas.specs.Area.{fieldTotalOf, areaOf, recordPlace, linkPlace, headWord, recordWord, hasBack, arcWord, fieldsIn, runIn}
 
@@ -24,9 +24,8 @@ pub record SizesFacts (w : List ℤ) : Type 0 where
   pub enough : areaOf (fieldsIn w) ≤ length w
 
 pub record HeadRight (w : List ℤ) : Type 0 where
-  pub low : 1 ≤ runIn w .start
-  pub high : runIn w .start ≤ nOf (fieldsIn w)
-  pub few : runIn w .count ≤ 2048
+  pub start-in : IsProcess (nOf (fieldsIn w)) (runIn w .start)
+  pub few : runIn w .count ≤ mostDeliveries
   pub words : (k : ℕ) → k < headSize → getD w k (pos 0) ≡ headWord (runIn w) k
 
 pub record RecordRight (w : List ℤ) (p : ℕ) : Type 0 where

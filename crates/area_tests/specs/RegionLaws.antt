@@ -17,9 +17,12 @@ use borrow.Author.Tests.{le-leb, ltb-true, ltb-false}
 use native.Mathlib.Omega.{arith}
 use Rattle.machine.specs.Machine as Machines
 use Rattle.tables.specs.Table.{Fields, arcAt, nOf, IsProcess}
+use Rattle.tables.specs.TableLaws.{isProcess-P}
 use Rattle.tables.specs.Layout.{IsArc, Right}
-use Rattle.checks.specs.Run.{Run, linkRight, countsSmall, fatherRight}
-use Rattle.areas.specs.Places.{checkPlace, startPlace, countPlace, headUsed, headSize, fieldPlace, recordUsed, recordSize, linkSlots, linkSize, arcSize}
+use Rattle.checks.specs.Run.{Run, mostDeliveries, linkRight, countsSmall, fatherRight}
+use Rattle.areas.specs.Places.{startPlace, countPlace, headSize, fieldPlace, flagsPlace, numPlace, fatherPlace, recordSize, linkSize, arcSize}
+use Rattle.areas.specs.Used.{linkSlots}
+use Rattle.areas.specs.Used.{checkPlace, headUsed, recordUsed}
 use Rattle.areas.specs.Area.{areaOf, recordPlace, linkPlace, knotCheck, headWord, recordWord, slotWord, linkWord, hasBack, arcWord, wordOf, numberAt}
 use Rattle.areas.specs.Area.{fieldsIn, recordAt, messagesAt, runIn, sameWord}
 use Rattle.areas.specs.Regions.{Place, in-head, in-table, in-record, in-links}
@@ -33,9 +36,9 @@ use Rattle.areas.specs.LinkLaws.{messagesAt-length, linkWord-slots}
 use Rattle.area_tests.specs.AreaTests.{fieldTest, counts, isFree, areFree, headTest, recordTest, linkTest, arcTest}
 use Rattle.area_tests.specs.RegionFacts.{HeadRight, RecordRight, ArcRight, Placed}
 use lib.Dec.{leb, ltb}
-use native.Mathlib.Nat.{add-zero}
 use Rattle.base.specs.Choice.{choose}
-use Rattle.base.specs.ChoiceLaws.{and-both, and-right, Tested, passed, failed, tested}
+use Rattle.base.specs.ChoiceLaws.{and-both, and-right, tested}
+use Rattle.base.specs.Checks.{Tested, passed, failed}
 use Rattle.tables.specs.Waits.{waitsOf}
 use Rattle.steps.specs.declared.Message.{Message}
 use Rattle.steps.specs.declared.Process.{Process}
@@ -70,38 +73,38 @@ headTest-P w =
     (tells-both
     (tells-both
     (tells-both
-    (tells-both
-    (tells-both (tells-both (sameWord-P (word w checkPlace) knotCheck) (tells-counts w startPlace)) (tells-le 1 (numberAt w startPlace)))
-    (tells-le (numberAt w startPlace) (numberAt w (fieldPlace 0))))
+    (tells-both (tells-both (sameWord-P (word w checkPlace) knotCheck) (tells-counts w startPlace))
+    (isProcess-P (numberAt w (fieldPlace 0)) (numberAt w startPlace)))
     (tells-counts w countPlace))
-    (tells-le (numberAt w countPlace) 2048))
+    (tells-le (numberAt w countPlace) mostDeliveries))
     (tells-areFree w headUsed headSize))
   where
     Values : Type 0
     Values =
-        (((((word w checkPlace ≡ knotCheck) × (word w startPlace ≡ pos (numberAt w startPlace))) × (1 ≤ numberAt w startPlace))
-        × (numberAt w startPlace ≤ numberAt w (fieldPlace 0)))
+        ((((word w checkPlace ≡ knotCheck) × (word w startPlace ≡ pos (numberAt w startPlace)))
+        × IsProcess (numberAt w (fieldPlace 0)) (numberAt w startPlace))
         × (word w countPlace ≡ pos (numberAt w countPlace)))
-        × (numberAt w countPlace ≤ 2048)
+        × (numberAt w countPlace ≤ mostDeliveries)
 
     Said : Type 0
     Said = Values × ((j : ℕ) → j < headSize - headUsed → word w (headUsed + j) ≡ pos 0)
 
     words : Said → (k : ℕ) → k < headSize → word w k ≡ headWord (runIn w) k
-    words s zero u = s .0 .0 .0 .0 .0 .0
-    words s (suc zero) u = s .0 .0 .0 .0 .0 .1
+    words s zero u = s .0 .0 .0 .0 .0
+    words s (suc zero) u = s .0 .0 .0 .0 .1
     words s (suc (suc zero)) u = s .0 .0 .1
     words s (suc (suc (suc k))) u = subst (λ (i : ℕ). word w i ≡ pos 0) (omega arith) (s .1 k (omega arith))
 
     to : Said → HeadRight w
-    to s = record { low = s .0 .0 .0 .0 .1; high = omega (arith, s .0 .0 .0 .1, fieldsIn-n w); few = s .0 .1; words = words s }
+    to s = record { start-in = rw (fieldsIn-n w) (s .0 .0 .0 .1); few = s .0 .1; words = words s }
 
     free : HeadRight w → (j : ℕ) → j < headSize - headUsed → word w (headUsed + j) ≡ pos 0
     free h j u = subst (λ (i : ℕ). word w i ≡ pos 0) (omega arith) (h .words (suc (suc (suc j))) (omega arith))
 
     from : HeadRight w → Said
     from h =
-        ((((((h .words 0 (omega arith), h .words 1 (omega arith)), h .low), omega (arith, h .high, fieldsIn-n w)), h .words 2 (omega arith)), h .few), free h)
+        let p : IsProcess (numberAt w (fieldPlace 0)) (numberAt w startPlace) = rw (fieldsIn-n w) at (h .start-in) in
+        (((((h .words checkPlace (omega arith), h .words startPlace (omega arith)), p), h .words countPlace (omega arith)), h .few), free h)
 
 -- ---- a record
 
@@ -117,9 +120,9 @@ record-as w p =
     (tells-both
     (tells-both
     (tells-both
-    (tells-both (tells-id (inRange x && fatherRight (waitsOf (fieldsIn w)) p x)) (sameWord-P (word w k) (recordWord x 0)))
-    (tells-counts w (k + 2)))
-    (tells-counts w (k + 3)))
+    (tells-both (tells-id (inRange x && fatherRight (waitsOf (fieldsIn w)) p x)) (sameWord-P (word w (k + flagsPlace)) (recordWord x flagsPlace)))
+    (tells-counts w (k + numPlace)))
+    (tells-counts w (k + fatherPlace)))
     (tells-areFree w (k + recordUsed) (k + recordSize)))
   where
     k : ℕ
@@ -130,13 +133,13 @@ record-as w p =
 
     Said : Type 0
     Said =
-        (((((inRange x && fatherRight (waitsOf (fieldsIn w)) p x) ≡ true) × (word w k ≡ recordWord x 0))
-        × (word w (k + 2) ≡ pos (numberAt w (k + 2))))
-        × (word w (k + 3) ≡ pos (numberAt w (k + 3))))
+        (((((inRange x && fatherRight (waitsOf (fieldsIn w)) p x) ≡ true) × (word w (k + flagsPlace) ≡ recordWord x flagsPlace))
+        × (word w (k + numPlace) ≡ pos (numberAt w (k + numPlace))))
+        × (word w (k + fatherPlace) ≡ pos (numberAt w (k + fatherPlace))))
         × ((j : ℕ) → j < k + recordSize - (k + recordUsed) → word w (k + recordUsed + j) ≡ pos 0)
 
     words : Said → (j : ℕ) → j < recordSize → word w (k + j) ≡ recordWord x j
-    words s zero u = rw (add-zero k) (s .0 .0 .0 .1)
+    words s zero u = s .0 .0 .0 .1
     words s (suc zero) u = refl
     words s (suc (suc zero)) u = s .0 .0 .1
     words s (suc (suc (suc zero))) u = s .0 .1
@@ -150,7 +153,7 @@ record-as w p =
 
     from : RecordAs w p x → Said
     from h =
-        ((((h .values, rw (add-zero k) at (h .words 0 (omega arith))), h .words 2 (omega arith)), h .words 3 (omega arith)), free h)
+        ((((h .values, h .words flagsPlace (omega arith)), h .words numPlace (omega arith)), h .words fatherPlace (omega arith)), free h)
 
 pub recordTest-P : (w : List ℤ) (p : ℕ) → IsProcess (nOf (fieldsIn w)) p → Tells (recordTest w p) (RecordRight w p)
 recordTest-P w p h = tells-map to from (record-as w p)

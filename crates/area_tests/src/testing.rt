@@ -3,16 +3,18 @@ use crate::word_tests;
 use areas::places;
 use areas::squares;
 use areas::words;
+use tables::is_process;
 ghost use mathlib.Core.Path.{_≡_};
 ghost use mathlib.Core.Bool.{true};
 ghost use Prim.Native.Nat.{ℕ, _+_, _-_, _*_, _≤_, _<_};
 ghost use lib.ListN.{length, getD};
 ghost use Rattle.base.specs.Sums.{allTo};
-ghost use Rattle.tables.specs.Table.{fieldOf, nOf, mOf};
+ghost use Rattle.tables.specs.Table.{fieldOf, nOf, mOf, mostProcesses, mostArcs, fieldTotal};
 ghost use Rattle.tables.specs.Layout.{Right};
-ghost use Rattle.areas.specs.Places.{mostProcesses, mostArcs, fieldTotal, fieldPlace};
+ghost use Rattle.tables.specs.Pairs.{squareSize};
+ghost use Rattle.areas.specs.Places.{fieldPlace};
 ghost use Rattle.areas.specs.Area.{numberAt, fieldsIn, areaRight};
-ghost use Rattle.areas.specs.Squares.{squareSize, Square};
+ghost use Rattle.areas.specs.Squares.{Square};
 ghost use Rattle.area_tests.specs.AreaTests.{mostBytes, sizesTest, fieldTest, headTest, recordTest, arcTest};
 ghost use Rattle.area_tests.specs.Testing.{sizesOf, CopiedTo};
 
@@ -34,10 +36,10 @@ fn sizes_of(area: &[i32]) -> Sizes
     if n == 0 {
         return Sizes::Wrong;
     }
-    if n > places::MOST_PROCESSES {
+    if n > tables::MOST_PROCESSES {
         return Sizes::Wrong;
     }
-    if m > places::MOST_ARCS {
+    if m > tables::MOST_ARCS {
         return Sizes::Wrong;
     }
     if area.len() < places::area_length(n, m) {
@@ -85,16 +87,13 @@ fn is_head(area: &[i32], n: usize) -> bool
         return false;
     }
     let start = words::number(area[places::START]) as usize;
-    if start == 0 {
-        return false;
-    }
-    if start > n {
+    if !is_process(start, n) {
         return false;
     }
     if !word_tests::is_number(area[places::COUNT]) {
         return false;
     }
-    if words::number(area[places::COUNT]) > 2048 {
+    if words::number(area[places::COUNT]) > checks::MOST_DELIVERIES {
         return false;
     }
     word_tests::is_free(area, places::HEAD_USED, places::HEAD_SIZE)
@@ -103,7 +102,7 @@ fn is_head(area: &[i32], n: usize) -> bool
 // The record of p: values in range, father 0 or a neighbour, zeros in the free words.
 fn is_record(
     area: &[i32],
-    square: &[u16; places::SQUARE_SIZE],
+    square: &[u16; tables::SQUARE_SIZE],
     n: usize,
     m: usize,
     p: usize,
@@ -129,22 +128,22 @@ fn is_record(
             return false;
         }
     }
-    if !word_tests::is_number(area[k]) {
+    if !word_tests::is_number(area[k + places::FLAGS]) {
         return false;
     }
-    if words::number(area[k]) > 7 {
+    if words::number(area[k + places::FLAGS]) > 7 {
         return false;
     }
-    if !word_tests::is_number(area[k + 2]) {
+    if !word_tests::is_number(area[k + places::NUM]) {
         return false;
     }
-    if !word_tests::is_number(area[k + 3]) {
+    if !word_tests::is_number(area[k + places::FATHER]) {
         return false;
     }
     word_tests::is_free(area, k + places::RECORD_USED, k + places::RECORD_SIZE)
 }
 
-fn are_records(area: &[i32], square: &[u16; places::SQUARE_SIZE], n: usize, m: usize) -> bool
+fn are_records(area: &[i32], square: &[u16; tables::SQUARE_SIZE], n: usize, m: usize) -> bool
     requires { ⌜ sizesTest (now area) ≡ true ⌝ }
     requires { ⌜ Square (fieldsIn (now area)) (now square) ⌝ }
     requires { ⌜ Right (fieldsIn (now area)) ⌝ }
@@ -164,7 +163,7 @@ fn are_records(area: &[i32], square: &[u16; places::SQUARE_SIZE], n: usize, m: u
 fn is_arc(
     area: &[i32],
     table: &[u8; places::MOST_BYTES],
-    square: &[u16; places::SQUARE_SIZE],
+    square: &[u16; tables::SQUARE_SIZE],
     n: usize,
     m: usize,
     k: usize,
@@ -192,7 +191,7 @@ fn is_arc(
 fn are_arcs(
     area: &[i32],
     table: &[u8; places::MOST_BYTES],
-    square: &[u16; places::SQUARE_SIZE],
+    square: &[u16; tables::SQUARE_SIZE],
     n: usize,
     m: usize,
 ) -> bool
@@ -213,7 +212,7 @@ fn are_arcs(
 }
 
 // The whole test. The square, which is 0 before, holds the arcs of a well-formed area afterwards.
-pub fn test(area: &[i32], square: &mut [u16; places::SQUARE_SIZE]) -> Sizes
+pub fn test(area: &[i32], square: &mut [u16; tables::SQUARE_SIZE]) -> Sizes
     requires { ⌜ length (now square) ≡ squareSize ⌝ }
     requires { ⌜ ((k : ℕ) → getD (now square) k 0 ≡ 0) ⌝ }
     ensures { λ r. ⌜ r ≡ sizesOf (areaRight (now (area .entry))) (now (area .entry)) ⌝ }

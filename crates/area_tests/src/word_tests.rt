@@ -1,4 +1,5 @@
 // Tests of words: what one word, a run of free words and one link may hold.
+use areas::places;
 use areas::words;
 ghost use mathlib.Core.Path.{_≡_};
 ghost use mathlib.Core.Bool.{true};
@@ -23,6 +24,11 @@ pub fn is_same(word: i32, other: i32) -> bool
     word == other
 }
 
+// The words of the acknowledgements whose count is in range.
+const FIRST_ACK: i32 = places::ACK_CODE + steps::LEAST_COUNT;
+
+const LAST_ACK: i32 = places::ACK_CODE + steps::MOST_COUNT;
+
 // A word that is not 0 is a message of the three kinds, with its count in range.
 fn is_message(word: i32) -> bool
     ensures { λ r. ⌜ r ≡ messageWord word ⌝ }
@@ -33,10 +39,10 @@ fn is_message(word: i32) -> bool
     if word == 2 {
         return true;
     }
-    if word < 128 {
+    if word < FIRST_ACK {
         return false;
     }
-    word <= 384
+    word <= LAST_ACK
 }
 
 // The words from `from` up to `to` are 0.

@@ -8,18 +8,20 @@
 --   word-high, word-low, word-low-number   == a word that is not below 0, and one that is
 -- Assumes nothing.
 use Prim.Native.Nat.{ℕ, suc, _+_, _-_, _^_, _<_}
-use mathlib.Core.Bool.{true, false, false≢true}
+use mathlib.Core.Bool.{true, false, _&&_, false≢true}
 use mathlib.Core.Path.{_≡_, refl, sym, ap, _∙_}
 use native.Mathlib.Omega.{arith}
-use lib.Dec.{T, eqb, leb·zero}
+use lib.Dec.{T, eqb, leb, leb·zero}
 use lib.IntN.{ℤ, pos, negsuc, _-ℤ_, natAbs}
 use lib.Signed.{mag, leZ, nonNeg}
 use mir.Syntax.{w32}
 use mir.Val.{toZ, ofZ}
 use borrow.Author.Tests.{eq-eqb, ne-eqb, le-ltb}
-use Rattle.base.specs.ChoiceLaws.{Same, same, apart, same?}
+use Rattle.base.specs.ChoiceLaws.{same?}
+use Rattle.base.specs.Checks.{Same, same, apart}
 use Rattle.steps.proofs.Counts.{signed-back}
 use Rattle.areas.specs.Area.{sameWord}
+use Rattle.areas.specs.WordTestLaws.{both-leb}
 
 pub word-read : {A : Type 0} {r : A} (f : ℤ → A) (z : ℤ) → mag z < 2 ^ 31 → r ≡ f (toZ w32 (ofZ w32 z)) → r ≡ f z
 word-read f z h e = e ∙ ap f (signed-back z h)
@@ -37,19 +39,19 @@ word-zero (negsuc n) e = absurd (omega arith)
 
 pub word-not : (z : ℤ) (n : ℕ) → (ofZ w32 z ≡ n → ⊥) → sameWord z (pos n) ≡ false
 unfolding sameWord
-word-not (pos a) n h = ne-eqb a n h
+word-not (pos a) n h = both-leb a n ∙ ne-eqb a n h
 word-not (negsuc a) n h = refl
 
 pub word-same : (x y : ℤ) → mag x < 2 ^ 31 → mag y < 2 ^ 31 → eqb (ofZ w32 x) (ofZ w32 y) ≡ sameWord x y
 unfolding sameWord
-word-same (pos a) (pos b) h k = refl
+word-same (pos a) (pos b) h k = sym (both-leb a b)
 word-same (pos a) (negsuc b) h k = ne-eqb a (2 ^ 32 - suc b) (λ e. omega arith)
 word-same (negsuc a) (pos b) h k = ne-eqb (2 ^ 32 - suc a) b (λ e. omega arith)
 word-same (negsuc a) (negsuc b) h k = at (same? a b)
   where
-    at : Same a b → eqb (2 ^ 32 - suc a) (2 ^ 32 - suc b) ≡ eqb a b
-    at (same e q) = rw e (eq-eqb (2 ^ 32 - suc b) (2 ^ 32 - suc b) refl ∙ sym (eq-eqb b b refl))
-    at (apart e q) = rw q (ne-eqb (2 ^ 32 - suc a) (2 ^ 32 - suc b) (λ p. e (omega arith)))
+    at : Same a b → eqb (2 ^ 32 - suc a) (2 ^ 32 - suc b) ≡ (leb b a && leb a b)
+    at (same e q) = rw e (eq-eqb (2 ^ 32 - suc b) (2 ^ 32 - suc b) refl ∙ sym (both-leb b b ∙ eq-eqb b b refl))
+    at (apart e q) = ne-eqb (2 ^ 32 - suc a) (2 ^ 32 - suc b) (λ p. e (omega arith)) ∙ sym (both-leb b a ∙ ne-eqb b a (λ p. e (sym p)))
 
 pub word-high : (z : ℤ) → leZ (pos 0) z ≡ true → T (nonNeg z)
 word-high (pos n) e = tt

@@ -12,7 +12,8 @@ use lib.Dec.{eqb, eqb·suc-zero}
 use borrow.Author.Tests.{eqb-true, eq-eqb}
 use native.Mathlib.Omega.{arith}
 use Rattle.base.specs.Choice.{choose}
-use Rattle.base.specs.ChoiceLaws.{Tested, passed, failed, tested, Same, same, apart, same?, or-left}
+use Rattle.base.specs.ChoiceLaws.{tested, same?, or-left}
+use Rattle.base.specs.Checks.{Tested, passed, failed, Same, same, apart}
 use Rattle.base.specs.Sums.{anyTo}
 use Rattle.tables.specs.Table.{Fields, mOf, arcAt, saysWait}
 use Rattle.tables.specs.Layout.{IsArc, Alike, Right}

@@ -9,23 +9,16 @@
 --   areaRight w          == the area is *well formed* (01's term)
 -- Assumes nothing.
 use Prim.Native.Nat.{ℕ, zero, suc, _+_, _-_, _*_, _/_, _%_}
-use mathlib.Core.Bool.{Bool, false, _&&_}
-use mathlib.Core.List.{List, [], _∷_, _++_}
-use lib.Dec.{eqb, leb, ltb}
-use lib.ListN.{length, getD, drop}
-use lib.IntN.{ℤ, pos, negsuc, _+ℤ_, _-ℤ_, natAbs}
-use Rattle.base.specs.Choice.{choose}
-use Rattle.base.specs.Sums.{allTo}
-use Rattle.tables.specs.Table.{Fields, nOf, mOf, arcAt, saysWait, isProcess}
-use Rattle.tables.specs.Reading.{sizesRight, fieldsNumber}
-use Rattle.tables.specs.Waits.{waitsOf, neighbours}
-use Rattle.steps.specs.declared.Message.{Message}
-use Rattle.steps.specs.declared.Message.the-variants.{Suc, Pre, Ack}
-use Rattle.steps.specs.declared.Process.{Process}
+use mathlib.Core.{Bool.Bool, Bool._&&_, List.List, List.[], List._∷_, List._++_}
+use lib.{Dec.eqb, Dec.leb, Dec.ltb, ListN.length, ListN.getD, ListN.drop, IntN.ℤ, IntN.pos, IntN._+ℤ_, IntN._-ℤ_, IntN.natAbs, Signed.leZ}
+use Rattle.base.specs.{Choice.choose, Sums.allTo}
+use Rattle.tables.specs.Table.{Fields, nOf, mOf, fieldTotal, isProcess, arcAt, saysWait}
+use Rattle.tables.specs.{Reading.sizesRight, Reading.fieldsNumber, Waits.waitsOf, Waits.neighbours}
+use Rattle.steps.specs.declared.{Message.Message, Message.the-variants.Suc, Message.the-variants.Pre, Message.the-variants.Ack, Process.Process}
 use Rattle.steps.specs.Step.{idle}
-use Rattle.checks.specs.Run.{Run, wellFormed}
-use Rattle.areas.specs.Places.{startPlace, countPlace, headSize, fieldTotal, fieldPlace, recordSize, recordStart, linkSlots, linkSize, arcSize}
-use Rattle.areas.specs.Places.{linkStart, areaLength}
+use Rattle.checks.specs.Run.{Run, mostWaiting, wellFormed}
+use Rattle.areas.specs.Places.{startPlace, countPlace, headSize, fieldPlace, flagsPlace, csPlace, numPlace, fatherPlace, recordSize, recordStart}
+use Rattle.areas.specs.Places.{linkSize, arcSize, linkStart, areaLength}
 
 -- ---- where things stand
 
@@ -98,7 +91,7 @@ slotWord (m ∷ ms) zero = codeOf m
 slotWord (m ∷ ms) (suc j) = slotWord ms j
 
 unfoldable pub linkWord : List Message → ℕ → ℤ
-linkWord ms j = choose (ltb j linkSlots) (slotWord ms j) (pos 0)
+linkWord ms j = choose (ltb j mostWaiting) (slotWord ms j) (pos 0)
 
 -- the arc k has the link back from its to to its from, unless that link stands with another arc or is the first link itself (a loop)
 unfoldable pub hasBack : Fields → ℕ → Bool
@@ -133,24 +126,20 @@ stored t r w = wordsTo (areaOf t) (wordOf t r) ++ drop (areaOf t) w
 abbrev pub numberAt : List ℤ → ℕ → ℕ
 numberAt w k = natAbs (getD w k (pos 0))
 
--- fields up to the table's last, 0 past it
-unfoldable pub cut : Fields → Fields
-cut t j = choose (ltb j (fieldTotalOf t)) (t j) 0
-
--- the fields of the copied table
+-- the fields of the copied table: 0 past its last, by its own N and M
 unfoldable pub fieldsIn : List ℤ → Fields
-fieldsIn w = cut (λ j. numberAt w (fieldPlace j))
+fieldsIn w j = choose (ltb j (fieldTotal (numberAt w (fieldPlace 0)) (numberAt w (fieldPlace 1)))) (numberAt w (fieldPlace j)) 0
 
--- the record at word k: the three flags of its first word, then cs, num and father
+-- the record at word k: the three flags of one word, then cs, num and father
 abbrev pub recordAt : List ℤ → ℕ → Process
 recordAt w k =
     record {
-      succeeding = numberAt w k % 2;
-      preceding = numberAt w k / 2 % 2;
-      subordinate = numberAt w k / 4 % 2;
-      cs = getD w (k + 1) (pos 0);
-      num = numberAt w (k + 2);
-      father = numberAt w (k + 3);
+      succeeding = numberAt w (k + flagsPlace) % 2;
+      preceding = numberAt w (k + flagsPlace) / 2 % 2;
+      subordinate = numberAt w (k + flagsPlace) / 4 % 2;
+      cs = getD w (k + csPlace) (pos 0);
+      num = numberAt w (k + numPlace);
+      father = numberAt w (k + fatherPlace);
     }
 
 -- the message of a word that is not 0
@@ -170,7 +159,7 @@ runIn w =
       start = numberAt w startPlace;
       count = numberAt w countPlace;
       process = λ p. choose (isProcess (nOf (fieldsIn w)) p) (recordAt w (recordPlace (fieldsIn w) p)) idle;
-      link = λ a b. choose (neighbours (waitsOf (fieldsIn w)) a b) (messagesAt w (linkOf (fieldsIn w) a b) linkSlots) [];
+      link = λ a b. choose (neighbours (waitsOf (fieldsIn w)) a b) (messagesAt w (linkOf (fieldsIn w) a b) mostWaiting) [];
     }
 
 -- the area with another run of the same table in it
@@ -179,20 +168,13 @@ keeping w r = stored (fieldsIn w) r w
 
 -- ---- well formed
 
--- two words are the same
+-- two words are the same: neither is above the other
 unfoldable pub sameWord : ℤ → ℤ → Bool
-sameWord (pos a) (pos b) = eqb a b
-sameWord (pos a) (negsuc b) = false
-sameWord (negsuc a) (pos b) = false
-sameWord (negsuc a) (negsuc b) = eqb a b
+sameWord a b = leZ a b && leZ b a
 
 -- the words 0 to n − 1 of an area are those of f
 unfoldable pub holdsWords : List ℤ → (ℕ → ℤ) → ℕ → Bool
 holdsWords w f n = allTo n (λ k. sameWord (getD w (k - 1) (pos 0)) (f (k - 1)))
-
--- "Each field is 16 bits"
-unfoldable pub fieldsFit : Fields → Bool
-fieldsFit t = allTo (fieldTotalOf t) (λ j. leb (t (j - 1)) 65535)
 
 -- "It is *well formed* if it has the words that start needs for its N and M, N and M are in range, the copied table meets the section above,
 -- every value is in the range just given, the start is 1 to N, every father is 0 or a neighbour, and every link holds at most 4 messages
@@ -200,5 +182,5 @@ fieldsFit t = allTo (fieldTotalOf t) (λ j. leb (t (j - 1)) 65535)
 unfoldable pub areaRight : List ℤ → Bool
 areaRight w =
     leb (fieldPlace 2) (length w) && sizesRight (fieldsIn w) && leb (areaOf (fieldsIn w)) (length w) &&
-    fieldsFit (fieldsIn w) && eqb (fieldsNumber (fieldsIn w)) 0 && wellFormed (runIn w) &&
+    eqb (fieldsNumber (fieldsIn w)) 0 && wellFormed (runIn w) &&
     holdsWords w (wordOf (fieldsIn w) (runIn w)) (areaOf (fieldsIn w))

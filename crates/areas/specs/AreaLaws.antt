@@ -13,15 +13,16 @@ use native.Mathlib.Omega.{arith}
 use lib.Dec.{leb}
 use lib.ListN.{length}
 use lib.IntN.{ℤ, pos}
-use Rattle.base.specs.ChoiceLaws.{Same, same, apart, same?, Below, below, beyond, below?}
+use Rattle.base.specs.ChoiceLaws.{same?, below?}
+use Rattle.base.specs.Checks.{Same, same, apart, Below, below, beyond}
 use Rattle.tables.specs.declared.Chain.the-variants.{Out, In}
-use Rattle.tables.specs.Table.{Fields, nOf, mOf, first, arcAt, next}
+use Rattle.tables.specs.Table.{Fields, nOf, mOf, mostProcesses, mostArcs, first, arcAt, next}
 use Rattle.tables.specs.Reading.{fieldsNumber}
 use Rattle.tables.specs.Layout.{Right}
 use Rattle.tables.specs.LayoutLaws.{sizesRight-P, fieldsNumber-P}
 use Rattle.checks.specs.Run.{Run, wellFormed}
 use Rattle.areas.specs.Places.{fieldPlace}
-use Rattle.areas.specs.Area.{fieldTotalOf, areaOf, wordOf, stored, fieldsIn, runIn, fieldsFit, areaRight}
+use Rattle.areas.specs.Area.{fieldTotalOf, areaOf, wordOf, stored, fieldsIn, runIn, areaRight}
 use Rattle.areas.specs.Contained.{Contained}
 use Rattle.areas.specs.AreaFacts.{AreaRight, RightTable}
 use Rattle.areas.specs.Tells.{Tells}
@@ -32,49 +33,6 @@ use Rattle.areas.specs.WordTestLaws.{holdsWords-P}
 use Rattle.areas.specs.RunInLaws.{fieldsIn-shut}
 
 -- ---- the fields of a right table
-
-fieldsFit-P : (t : Fields) → Tells (fieldsFit t) ((j : ℕ) → j < fieldTotalOf t → t j ≤ 65535)
-unfolding fieldsFit
-fieldsFit-P t = tells-below (fieldTotalOf t) (λ j. leb (t j) 65535) (λ j. t j ≤ 65535) (λ j. tells-le (t j) 65535)
-
--- ---- an area part by part
-
-pub areaRight-P : (w : List ℤ) → Tells (areaRight w) (AreaRight w)
-unfolding areaRight
-areaRight-P w =
-    tells-map
-    (λ s. record {
-      right = fieldsNumber-P t (s .0 .0 .0 .0 .0 .1) .0 (s .0 .0 .1);
-      long = s .0 .0 .0 .0 .1;
-      fields = s .0 .0 .0 .1;
-      run = s .0 .1;
-      words = s .1;
-    })
-    (λ s. ((((((enough s, s .right .sizes), s .long), s .fields), fieldsNumber-P t (s .right .sizes) .1 (s .right)), s .run), s .words))
-    (tells-both
-    (tells-both
-    (tells-both (tells-both (tells-both (tells-both (tells-le (fieldPlace 2) (length w)) (sizesRight-P t)) (tells-le (areaOf t) (length w))) (fieldsFit-P t))
-    (tells-eq (fieldsNumber t) 0))
-    (tells-id (wellFormed (runIn w))))
-    (holdsWords-P w (wordOf t (runIn w)) (areaOf t)))
-  where
-    t : Fields
-    t = fieldsIn w
-
-    enough : AreaRight w → fieldPlace 2 ≤ length w
-    enough s = omega (arith, s .long)
-
--- ---- an area and what it holds
-
--- a well-formed area is the area with its own table and run in it
-pub stored-same : (w : List ℤ) → areaRight w ≡ true → stored (fieldsIn w) (runIn w) w ≡ w
-stored-same w e =
-    let r = areaRight-P w .0 e in
-    sym (stored-of (fieldsIn w) (runIn w) w w (pos 0) (r .long) refl (r .words) (λ k u. refl))
-
--- the table of a well-formed area
-pub areaRight-table : (w : List ℤ) → areaRight w ≡ true → RightTable (fieldsIn w)
-areaRight-table w e = record { right = areaRight-P w .0 e .right; shut = fieldsIn-shut w }
 
 -- one of two neighbouring numbers
 oneOf : (x y : ℕ) → y ≤ x → x ≤ y + 1 → (x ≡ y) ⊎ (x ≡ y + 1)
@@ -104,18 +62,18 @@ fieldAt? t j h = at (below? j 2) (below? j (2 + 2 * nOf t)) (below? ((j - (2 + 2
         let k : ℕ = (j - (2 + 2 * nOf t)) / 4 + 1 in
         a-next k (omega arith) (omega arith) (oneOf j (2 * nOf t + 4 * k) (omega arith) (omega arith))
 
--- no field of a right table is over 512: sizes and ends are at most 128 and 512, first and next fields at most M
-right-fields : (t : Fields) → Right t → (j : ℕ) → j < fieldTotalOf t → t j ≤ 512
+-- no field of a right table is over the largest M: sizes and ends are at most the largest N and M, first and next fields at most M
+right-fields : (t : Fields) → Right t → (j : ℕ) → j < fieldTotalOf t → t j ≤ mostArcs
 unfolding first arcAt next
 right-fields t r j h = at (fieldAt? t j h)
   where
-    n : nOf t ≤ 128
+    n : nOf t ≤ mostProcesses
     n = r .sizes .1
 
-    m : mOf t ≤ 512
+    m : mOf t ≤ mostArcs
     m = r .sizes .2
 
-    at : FieldAt t j → t j ≤ 512
+    at : FieldAt t j → t j ≤ mostArcs
     at (a-size (inl e)) = rw e (omega (arith, n))
     at (a-size (inr e)) = rw e m
     at (a-first p l u (inl e)) = rw e (omega (arith, m, r .firsts Out p (l, u)))
@@ -126,6 +84,45 @@ right-fields t r j h = at (fieldAt? t j h)
         rw (e, s) (omega (arith, n, r .ends k (l, u)))
     at (a-next k l u (inl e)) = rw e (omega (arith, m, r .nexts Out k (l, u)))
     at (a-next k l u (inr e)) = rw e (omega (arith, m, r .nexts In k (l, u)))
+
+-- ---- an area part by part
+
+pub areaRight-P : (w : List ℤ) → Tells (areaRight w) (AreaRight w)
+unfolding areaRight
+areaRight-P w =
+    tells-map
+    (λ s. record {
+      right = fieldsNumber-P t (s .0 .0 .0 .0 .1) .0 (s .0 .0 .1);
+      long = s .0 .0 .0 .1;
+      fields = λ j u. omega (arith, right-fields t (fieldsNumber-P t (s .0 .0 .0 .0 .1) .0 (s .0 .0 .1)) j u);
+      run = s .0 .1;
+      words = s .1;
+    })
+    (λ s. (((((enough s, s .right .sizes), s .long), fieldsNumber-P t (s .right .sizes) .1 (s .right)), s .run), s .words))
+    (tells-both
+    (tells-both
+    (tells-both (tells-both (tells-both (tells-le (fieldPlace 2) (length w)) (sizesRight-P t)) (tells-le (areaOf t) (length w)))
+    (tells-eq (fieldsNumber t) 0))
+    (tells-id (wellFormed (runIn w))))
+    (holdsWords-P w (wordOf t (runIn w)) (areaOf t)))
+  where
+    t : Fields
+    t = fieldsIn w
+
+    enough : AreaRight w → fieldPlace 2 ≤ length w
+    enough s = omega (arith, s .long)
+
+-- ---- an area and what it holds
+
+-- a well-formed area is the area with its own table and run in it
+pub stored-same : (w : List ℤ) → areaRight w ≡ true → stored (fieldsIn w) (runIn w) w ≡ w
+stored-same w e =
+    let r = areaRight-P w .0 e in
+    sym (stored-of (fieldsIn w) (runIn w) w w (pos 0) (r .long) refl (r .words) (λ k u. refl))
+
+-- the table of a well-formed area
+pub areaRight-table : (w : List ℤ) → areaRight w ≡ true → RightTable (fieldsIn w)
+areaRight-table w e = record { right = areaRight-P w .0 e .right; shut = fieldsIn-shut w }
 
 -- an area with a right table and a well-formed run of it is well formed
 pub areaRight-stored : (t : Fields) (r : Run) (w : List ℤ) → RightTable t → Contained t r → wellFormed r ≡ true → areaOf t ≤ length w

@@ -12,8 +12,8 @@ use lib.ListN.{length}
 use lib.IntN.{ℤ, pos, negsuc, _+ℤ_, _-ℤ_, natAbs, +ℤ-comm, +ℤ-negℤ-cancel}
 use Rattle.steps.specs.declared.Message.{Message}
 use Rattle.steps.specs.declared.Message.the-variants.{Suc, Pre, Ack}
-use Rattle.steps.specs.Step.{small, countSmall}
-use Rattle.areas.specs.Places.{linkSlots}
+use Rattle.steps.specs.Step.{mostCount, small, countSmall}
+use Rattle.areas.specs.Used.{linkSlots}
 use Rattle.areas.specs.Area.{codeOf, slotWord, linkWord, messageOf}
 
 -- ---- messages as words
@@ -23,7 +23,7 @@ codeOf-large : (c : ℤ) → small c ≡ true → 128 ≤ natAbs (pos 256 +ℤ c
 unfolding small
 codeOf-large (pos n) e = omega arith
 codeOf-large (negsuc n) e =
-    let l : suc n ≤ 128 = leb-true (suc n) 128 e in
+    let l : suc n ≤ mostCount = leb-true (suc n) mostCount e in
     rw (le-ltb 256 (suc n) (omega arith)) (omega arith)
 
 pub codeOf-some : (m : Message) → countSmall m ≡ true → natAbs (codeOf m) ≡ 0 → ⊥

@@ -1,17 +1,19 @@
 -- The small changes of a run, and that they keep it one that the table's area holds.
 --   putProcess-at, putProcess-off, putLink-at, putLink-off   == the changed record or link, and the others
+--   contained-joined   == between processes that are no neighbours nothing waits
 --   contained-process, contained-link, contained-count   == these changes keep Contained
 -- Assumes nothing.
 use Prim.Native.Nat.{ℕ, _≤_}
 use mathlib.Core.Bool.{true, false, _&&_, false≢true}
 use mathlib.Core.List.{List, []}
-use mathlib.Core.Path.{_≡_, refl, sym, ap, ap₂, _∙_}
+use mathlib.Core.Path.{_≡_, refl, sym, ap, ap₂, _∙_, subst}
 use borrow.Author.Tests.{eq-eqb, ne-eqb, eqb-true}
 use lib.Dec.{eqb}
 use Rattle.tables.specs.TableLaws.{isProcess-P}
-use Rattle.base.specs.ChoiceLaws.{Same, same, apart, same?, Tested, passed, failed, tested, and-left, and-right}
+use Rattle.base.specs.ChoiceLaws.{same?, tested, and-left, and-right}
+use Rattle.base.specs.Checks.{Same, same, apart, Tested, passed, failed}
 use Rattle.tables.specs.Table.{Fields, nOf, isProcess}
-use Rattle.tables.specs.Waits.{waitsOf, neighbours}
+use Rattle.tables.specs.Waits.{Waits, waitsOf, neighbours}
 use Rattle.steps.specs.declared.Message.{Message}
 use Rattle.steps.specs.declared.Process.{Process}
 use Rattle.steps.specs.Step.{idle}
@@ -34,6 +36,10 @@ putLink-at r a b ms = rw (eq-eqb a a refl, eq-eqb b b refl)
 pub putLink-off : (r : Run) (a b : ℕ) (ms : List Message) (x y : ℕ) → (eqb x a && eqb y b) ≡ false → putLink r a b ms .link x y ≡ r .link x y
 unfolding putLink
 putLink-off r a b ms x y n = rw n
+
+-- between processes that are no neighbours nothing waits
+pub contained-joined : (t : Fields) (r : Run) → Contained t r → (a b : ℕ) → neighbours (r .waits) a b ≡ false → r .link a b ≡ []
+contained-joined t r g a b n = g .links a b (subst (λ (w : Waits). neighbours w a b ≡ false) (g .waits) n)
 
 -- ---- these changes keep Contained
 

@@ -1,8 +1,9 @@
 -- The run area in words. What a reader must believe: Places (the numbers of its layout, docs/LAYOUT.md) and Area (what each word holds, and which
--- areas are well formed). Contained, Replaced, Arcs, Squares, Writes, AreaFacts, Regions, Overlaid and Tells name what laws and leaves speak of; the
--- laws stand in the modules named after them.
+-- areas are well formed). Used, Contained, Replaced, Arcs, Squares, Writes, AreaFacts, Regions, Overlaid and Tells name what laws and leaves speak
+-- of; the laws stand in the modules named after them.
 pub mod Places
 pub mod Area
+pub mod Used
 pub mod Contained
 pub mod Replaced
 pub mod Arcs

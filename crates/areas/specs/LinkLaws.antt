@@ -15,12 +15,13 @@ use borrow.Author.Tests.{eq-eqb, ne-eqb}
 use lib.IntN.{ℤ, pos, natAbs, _-ℤ_, +ℤ-comm, -ℤ-+ℤ-cancel}
 use lib.ListN.{length, getD}
 use Rattle.machine.specs.Machine as Machines
-use Rattle.base.specs.ChoiceLaws.{Same, same, apart, same?, Below, below, beyond, below?, and-left, and-right, and-both}
+use Rattle.base.specs.ChoiceLaws.{same?, below?, and-left, and-right, and-both}
+use Rattle.base.specs.Checks.{Same, same, apart, Below, below, beyond}
 use Rattle.steps.specs.declared.Message.{Message}
 use Rattle.steps.specs.declared.Message.the-variants.{Suc, Pre, Ack}
 use Rattle.steps.specs.Step.{countSmall}
 use Rattle.checks.specs.Run.{countsSmall}
-use Rattle.areas.specs.Places.{linkSlots}
+use Rattle.areas.specs.Used.{linkSlots}
 use Rattle.areas.specs.Area.{codeOf, slotWord, linkWord, numberAt, messageOf, messagesAt}
 use Rattle.areas.specs.CodeLaws.{linkWord-slot, linkWord-free, slotWord-past}
 

@@ -13,7 +13,8 @@ use lib.IntN.{ℤ, pos, natAbs}
 use Rattle.machine.specs.Machine as Machines
 use Rattle.tables.specs.TableLaws.{isProcess-P}
 use Rattle.base.specs.Choice.{choose}
-use Rattle.base.specs.ChoiceLaws.{Tested, passed, failed, tested, Below, below, beyond, below?, and-left, and-right}
+use Rattle.base.specs.ChoiceLaws.{tested, below?, and-left, and-right}
+use Rattle.base.specs.Checks.{Tested, passed, failed, Below, below, beyond}
 use Rattle.tables.specs.Table.{Fields, nOf, IsProcess, isProcess}
 use Rattle.tables.specs.Waits.{Waits, waitsOf, neighbours}
 use Rattle.tables.specs.Layout.{Right}
@@ -27,10 +28,12 @@ use Rattle.steps.specs.Effect.{RecordInRange}
 use Rattle.steps.specs.StepLaws.{inRange-P}
 use Rattle.checks.specs.Run.{Run, knot, countsSmall, wellFormed}
 use Rattle.checks.specs.RunLaws.{formed-range}
-use Rattle.areas.specs.Places.{startPlace, countPlace, fieldPlace, recordUsed, linkSlots}
-use Rattle.areas.specs.Area.{fieldTotalOf, recordPlace, linkOf, flagsOf, recordWord, codeOf, slotWord, linkWord, stored, numberAt, cut}
+use Rattle.areas.specs.Places.{startPlace, countPlace, fieldPlace, flagsPlace, csPlace, numPlace, fatherPlace}
+use Rattle.areas.specs.Used.{linkSlots}
+use Rattle.areas.specs.Used.{recordUsed}
+use Rattle.areas.specs.Area.{fieldTotalOf, recordPlace, linkOf, flagsOf, recordWord, codeOf, slotWord, linkWord, stored, numberAt}
 use Rattle.areas.specs.Area.{fieldsIn, recordAt, messagesAt, runIn}
-use Rattle.areas.specs.Contained.{Shut, Contained}
+use Rattle.areas.specs.Contained.{cut, Shut, Contained}
 use Rattle.areas.specs.CodeLaws.{codeOf-some, messageOf-codeOf, linkWord-slot}
 use Rattle.areas.specs.StoredLaws.{stored-start-word, stored-count-word, stored-field-word, stored-record-word, stored-link-word}
 
@@ -49,7 +52,7 @@ cut-same u t s h = fun-ext (λ j. at j (below? j (fieldTotalOf t)))
     at j (beyond l _) = rw (le-ltb j (fieldTotalOf u) (omega (arith, count))) (sym (s j l))
 
 pub fieldsIn-stored : (t : Fields) (r : Run) (w : List ℤ) → Shut t → fieldsIn (stored t r w) ≡ t
-unfolding fieldsIn
+unfolding fieldsIn cut
 fieldsIn-stored t r w s =
     cut-same (λ j. numberAt (stored t r w) (fieldPlace j)) t s (λ j h. ap natAbs (stored-field-word t r w j (pos 0) h))
 
@@ -84,16 +87,15 @@ flags-subordinate s p u f a b c e = omega arith
 recordAt-of : (w : List ℤ) (k : ℕ) (x : Process) → RecordInRange x → ((j : ℕ) → j < recordUsed → getD w (k + j) (pos 0) ≡ recordWord x j) → recordAt w k ≡ x
 unfolding flagsOf
 recordAt-of w k x g h =
-    let z : k + 0 ≡ k = omega arith in
-    let f : numberAt w k ≡ x .succeeding + 2 * x .preceding + 4 * x .subordinate = ap natAbs (rw z at (h 0 (omega arith))) in
-    let s : numberAt w k % 2 ≡ x .succeeding = flags-succeeding (x .succeeding) (x .preceding) (x .subordinate) (numberAt w k) (g .succeeding) f in
-    let p : numberAt w k / 2 % 2 ≡ x .preceding = flags-preceding (x .succeeding) (x .preceding) (x .subordinate) (numberAt w k) (g .succeeding)
-    (g .preceding) f in
-    let u : numberAt w k / 4 % 2 ≡ x .subordinate = flags-subordinate (x .succeeding) (x .preceding) (x .subordinate) (numberAt w k) (g .succeeding)
-    (g .preceding) (g .subordinate) f in
-    let c : getD w (k + 1) (pos 0) ≡ x .cs = h 1 (omega arith) in
-    let n : numberAt w (k + 2) ≡ x .num = ap natAbs (h 2 (omega arith)) in
-    let d : numberAt w (k + 3) ≡ x .father = ap natAbs (h 3 (omega arith)) in
+    let v : ℕ = numberAt w (k + flagsPlace) in
+    let f : v ≡ x .succeeding + 2 * x .preceding + 4 * x .subordinate = ap natAbs (h flagsPlace (omega arith)) in
+    let s : v % 2 ≡ x .succeeding = flags-succeeding (x .succeeding) (x .preceding) (x .subordinate) v (g .succeeding) f in
+    let p : v / 2 % 2 ≡ x .preceding = flags-preceding (x .succeeding) (x .preceding) (x .subordinate) v (g .succeeding) (g .preceding) f in
+    let u : v / 4 % 2 ≡ x .subordinate = flags-subordinate (x .succeeding) (x .preceding) (x .subordinate) v (g .succeeding) (g .preceding)
+    (g .subordinate) f in
+    let c : getD w (k + csPlace) (pos 0) ≡ x .cs = h csPlace (omega arith) in
+    let n : numberAt w (k + numPlace) ≡ x .num = ap natAbs (h numPlace (omega arith)) in
+    let d : numberAt w (k + fatherPlace) ≡ x .father = ap natAbs (h fatherPlace (omega arith)) in
     λ i. record { succeeding = s i; preceding = p i; subordinate = u i; cs = c i; num = n i; father = d i }
 
 -- ---- a link is read back

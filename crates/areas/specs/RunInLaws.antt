@@ -15,9 +15,10 @@ use Rattle.tables.specs.Table.{Fields, nOf, mOf, arcAt, IsProcess}
 use Rattle.tables.specs.Layout.{IsArc, Right}
 use Rattle.tables.specs.Waits.{waitsOf, neighbours}
 use Rattle.tables.specs.WaitsLaws.{neighbours-swap}
-use Rattle.areas.specs.Places.{fieldPlace, linkSlots, linkSize}
-use Rattle.areas.specs.Area.{fieldTotalOf, recordPlace, linkPlace, linkOf, hasBack, numberAt, cut, fieldsIn, recordAt, messagesAt, runIn}
-use Rattle.areas.specs.Contained.{Shut, Contained}
+use Rattle.areas.specs.Places.{fieldPlace, linkSize}
+use Rattle.areas.specs.Used.{linkSlots}
+use Rattle.areas.specs.Area.{fieldTotalOf, recordPlace, linkPlace, linkOf, hasBack, numberAt, fieldsIn, recordAt, messagesAt, runIn}
+use Rattle.areas.specs.Contained.{cut, Shut, Contained}
 use Rattle.areas.specs.ArcLaws.{linkOf-arc, linkOf-back, neighbours-arc}
 
 -- ---- cut
@@ -41,19 +42,19 @@ cut-past t j h = rw (le-ltb j (fieldTotalOf t) h)
 -- ---- fieldsIn
 
 pub fieldsIn-n : (w : List ℤ) → nOf (fieldsIn w) ≡ numberAt w (fieldPlace 0)
-unfolding fieldsIn
+unfolding fieldsIn cut
 fieldsIn-n w = cut-n (λ j. numberAt w (fieldPlace j))
 
 pub fieldsIn-m : (w : List ℤ) → mOf (fieldsIn w) ≡ numberAt w (fieldPlace 1)
-unfolding fieldsIn
+unfolding fieldsIn cut
 fieldsIn-m w = cut-m (λ j. numberAt w (fieldPlace j))
 
 pub fieldsIn-at : (w : List ℤ) (j : ℕ) → j < fieldTotalOf (fieldsIn w) → fieldsIn w j ≡ numberAt w (fieldPlace j)
-unfolding fieldsIn
+unfolding fieldsIn cut
 fieldsIn-at w j h = cut-at (λ i. numberAt w (fieldPlace i)) j (omega (arith, cut-n (λ i. numberAt w (fieldPlace i)), cut-m (λ i. numberAt w (fieldPlace i))))
 
 pub fieldsIn-shut : (w : List ℤ) → Shut (fieldsIn w)
-unfolding fieldsIn
+unfolding fieldsIn cut
 fieldsIn-shut w j h =
     cut-past (λ i. numberAt w (fieldPlace i)) j (omega (arith, cut-n (λ i. numberAt w (fieldPlace i)), cut-m (λ i. numberAt w (fieldPlace i))))
 

@@ -14,10 +14,9 @@ use Rattle.base.specs.Sums.{countTo}
 use Rattle.base.specs.SumLaws.{sumTo-cong}
 use Rattle.tables.specs.declared.Chain.{Chain}
 use Rattle.tables.specs.declared.Chain.the-variants.{Out, In}
-use Rattle.tables.specs.Table.{Fields, nOf, mOf}
+use Rattle.tables.specs.Table.{Fields, nOf, mOf, mostProcesses}
 use Rattle.tables.specs.Waits.{waitsOf, neighbours, outDegree, inDegree}
 use Rattle.tables.specs.Chains.{joins, degree}
-use Rattle.areas.specs.Places.{mostProcesses}
 use Rattle.areas.specs.Area.{linkPlace, linkOf}
 use Rattle.areas.specs.Squares.{cell, joinsBy, joinedBy, placeBy, Square}
 use Rattle.areas.specs.ArcLaws.{arcOf-waits}

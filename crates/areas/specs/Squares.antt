@@ -1,5 +1,4 @@
--- The square of arcs: for each pair of processes the arc from the first to the second, in a local array.
---   side, squareSize   == the square has a row and a column for each process, and one for 0
+-- The square of arcs: for each pair of processes the arc from the first to the second, in a local array (tables, Pairs, says how large).
 --   cell sq a b        == the number at (a, b)
 --   joinsBy sq c b q   == by the square, b waits for q (on the out-chain), or q for b (on the in-chain)
 --   joinedBy sq a b    == by the square, a and b are neighbours
@@ -15,18 +14,13 @@ use lib.ListN.{getD}
 use Rattle.base.specs.Choice.{choose}
 use Rattle.tables.specs.declared.Chain.{Chain}
 use Rattle.tables.specs.declared.Chain.the-variants.{Out, In}
-use Rattle.tables.specs.Table.{Fields}
-use Rattle.areas.specs.Places.{mostProcesses, linkSize, linkStart}
+use Rattle.tables.specs.Table.{Fields, mostProcesses}
+use Rattle.tables.specs.Pairs.{squareSide}
+use Rattle.areas.specs.Places.{linkSize, linkStart}
 use Rattle.areas.specs.Area.{arcOf}
 
-abbrev pub side : ℕ
-side = mostProcesses + 1
-
-abbrev pub squareSize : ℕ
-squareSize = side * side
-
 abbrev pub cell : List ℕ → ℕ → ℕ → ℕ
-cell sq a b = getD sq (a * side + b) 0
+cell sq a b = getD sq (a * squareSide + b) 0
 
 abbrev pub joinsBy : List ℕ → Chain → ℕ → ℕ → Bool
 joinsBy sq Out b q = not (eqb (cell sq b q) 0)

@@ -10,7 +10,8 @@ use mathlib.Core.Path.{_≡_, ap₂, _∙_}
 use native.Mathlib.Omega.{arith}
 use borrow.Author.Tests.{lt-ltb, le-ltb}
 use lib.IntN.{pos}
-use Rattle.base.specs.ChoiceLaws.{Below, below, beyond, below?}
+use Rattle.base.specs.ChoiceLaws.{below?}
+use Rattle.base.specs.Checks.{Below, below, beyond}
 use Rattle.tables.specs.Table.{Fields, nOf, mOf, arcAt}
 use Rattle.tables.specs.Waits.{waitsOf, neighbours}
 use Rattle.checks.specs.Run.{Run}

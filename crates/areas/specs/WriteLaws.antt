@@ -18,14 +18,17 @@ use lib.ListN.{length, getD, set, List·getD-eq-default}
 use lib.Seq.{sets}
 use lib.IntN.{ℤ, pos}
 use Rattle.base.specs.Choice.{choose}
-use Rattle.base.specs.ChoiceLaws.{Same, same, apart, same?, Below, below, beyond, below?, Tested, passed, failed, tested, and-left, and-right}
+use Rattle.base.specs.ChoiceLaws.{same?, below?, tested, and-left, and-right}
+use Rattle.base.specs.Checks.{Same, same, apart, Below, below, beyond, Tested, passed, failed}
 use Rattle.tables.specs.Table.{Fields, nOf, mOf, arcAt}
 use Rattle.tables.specs.Waits.{waitsOf, neighbours}
 use Rattle.tables.specs.Layout.{Right}
 use Rattle.steps.specs.declared.Message.{Message}
 use Rattle.steps.specs.declared.Process.{Process}
 use Rattle.checks.specs.Run.{Run}
-use Rattle.areas.specs.Places.{countPlace, headSize, recordUsed, recordSize, linkSlots, linkSize, arcSize}
+use Rattle.areas.specs.Places.{countPlace, headSize, recordSize, linkSize, arcSize}
+use Rattle.areas.specs.Used.{linkSlots}
+use Rattle.areas.specs.Used.{recordUsed}
 use Rattle.areas.specs.Area.{areaOf, recordPlace, linkPlace, linkOf, headWord, recordWord, codeOf, slotWord, linkWord, hasBack, arcWord, wordOf, stored}
 use Rattle.areas.specs.Replaced.{putProcess, putLink, putCount}
 use Rattle.areas.specs.Writes.{recordWords, movedWord, movedDown}

@@ -11,7 +11,7 @@ use lib.ListN.{length, getD}
 use lib.IntN.{ℤ, pos}
 use Rattle.base.specs.Choice.{choose}
 use Rattle.steps.specs.declared.Process.{Process}
-use Rattle.areas.specs.Places.{recordUsed}
+use Rattle.areas.specs.Used.{recordUsed}
 use Rattle.areas.specs.Area.{recordWord, wordsTo}
 
 unfoldable pub recordWords : Process → List ℤ

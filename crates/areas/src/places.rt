@@ -1,11 +1,8 @@
-// The numbers of the area's layout (docs/LAYOUT.md), and the addresses made of them: specs/Places in code.
+// The numbers of the area's layout (docs/LAYOUT.md), and the addresses made of them: specs/Places and specs/Used in code.
 ghost use mathlib.Core.Path.{_≡_};
 ghost use Prim.Native.Nat.{_+_, _*_, _≤_};
-ghost use Rattle.areas.specs.Places.{mostProcesses, mostArcs, fieldTotal, fieldPlace, recordStart, linkStart, areaLength};
-
-pub const MOST_PROCESSES: usize = 128;
-
-pub const MOST_ARCS: usize = 512;
+ghost use Rattle.tables.specs.Table.{mostProcesses, mostArcs, fieldTotal};
+ghost use Rattle.areas.specs.Places.{fieldPlace, recordStart, linkStart, areaLength};
 
 // The words before the table that are in use: which check, the start, the accepted deliveries.
 pub const CHECK: usize = 0;
@@ -16,7 +13,7 @@ pub const START: usize = 1;
 
 pub const COUNT: usize = 2;
 
-pub const HEAD_USED: usize = 3;
+pub const HEAD_USED: usize = COUNT + 1;
 
 pub const HEAD_SIZE: usize = 14;
 
@@ -27,25 +24,34 @@ pub const M_PLACE: usize = HEAD_SIZE + 1;
 
 pub const SIZES_END: usize = HEAD_SIZE + 2;
 
-// A record of a process.
-pub const RECORD_USED: usize = 4;
+// A record of a process: its words that are in use, from its first on, how many these are, and all its words.
+pub const FLAGS: usize = 0;
+
+pub const CS: usize = 1;
+
+pub const NUM: usize = 2;
+
+pub const FATHER: usize = 3;
+
+pub const RECORD_USED: usize = FATHER + 1;
 
 pub const RECORD_SIZE: usize = 6;
 
 // A link: words for messages, and all its words; an arc has two.
-pub const LINK_SLOTS: usize = 4;
+pub const LINK_SLOTS: usize = checks::MOST_WAITING;
 
 pub const LINK_SIZE: usize = 8;
 
 pub const ARC_SIZE: usize = LINK_SIZE + LINK_SIZE;
 
-// The square of arcs: a row and a column for each process, and one for 0.
-pub const SIDE: usize = MOST_PROCESSES + 1;
-
-pub const SQUARE_SIZE: usize = SIDE * SIDE;
+// The word of an acknowledgement is so much more than its count.
+pub const ACK_CODE: i32 = 256;
 
 // The bytes of the largest table.
-pub const MOST_BYTES: usize = 2 * (2 + 2 * MOST_PROCESSES + 4 * MOST_ARCS);
+pub const MOST_BYTES: usize = 2 * (2 + 2 * tables::MOST_PROCESSES + 4 * tables::MOST_ARCS);
+
+// The words of the largest area.
+pub const MOST_WORDS: usize = 16 + 8 * tables::MOST_PROCESSES + 20 * tables::MOST_ARCS;
 
 // How many fields a table has.
 pub fn field_total(n: usize, m: usize) -> usize

@@ -6,10 +6,10 @@ ghost use mathlib.Core.Bool.{true};
 ghost use Prim.Native.Nat.{ℕ, _+_, _*_, _≤_};
 ghost use lib.ListN.{length};
 ghost use Rattle.base.specs.Sums.{countTo};
-ghost use Rattle.tables.specs.Table.{fieldOf, nOf, mOf, tableLength};
+ghost use Rattle.tables.specs.Table.{fieldOf, nOf, mOf, mostProcesses, mostArcs, tableLength};
 ghost use Rattle.tables.specs.Layout.{Right};
-ghost use Rattle.areas.specs.Places.{mostProcesses, mostArcs};
-ghost use Rattle.areas.specs.Squares.{squareSize, cell, joinsBy, joinedBy, placeBy, Square};
+ghost use Rattle.tables.specs.Pairs.{squareSize};
+ghost use Rattle.areas.specs.Squares.{cell, joinsBy, joinedBy, placeBy, Square};
 
 // A number of 16 bits.
 fn wide(number: u16) -> usize
@@ -20,16 +20,16 @@ fn wide(number: u16) -> usize
 }
 
 // The number at (a, b), which has 16 bits.
-fn number_at(square: &[u16; places::SQUARE_SIZE], a: usize, b: usize) -> usize
+fn number_at(square: &[u16; tables::SQUARE_SIZE], a: usize, b: usize) -> usize
     requires { ⌜ (a ≤ mostProcesses) × (b ≤ mostProcesses) ⌝ }
     ensures is { λ r. ⌜ r ≡ cell (now (square .entry)) a b ⌝ }
     ensures small { λ r. ⌜ r ≤ 65535 ⌝ }
 {
-    wide(square[a * places::SIDE + b])
+    wide(square[a * tables::SIDE + b])
 }
 
 // The arc from a to b, 0 if there is none.
-pub fn arc(square: &[u16; places::SQUARE_SIZE], a: usize, b: usize) -> usize
+pub fn arc(square: &[u16; tables::SQUARE_SIZE], a: usize, b: usize) -> usize
     requires { ⌜ (a ≤ mostProcesses) × (b ≤ mostProcesses) ⌝ }
     ensures { λ r. ⌜ r ≡ cell (now (square .entry)) a b ⌝ }
 {
@@ -37,7 +37,7 @@ pub fn arc(square: &[u16; places::SQUARE_SIZE], a: usize, b: usize) -> usize
 }
 
 // b waits for q, or q for b.
-pub fn joins(square: &[u16; places::SQUARE_SIZE], c: Chain, b: usize, q: usize) -> bool
+pub fn joins(square: &[u16; tables::SQUARE_SIZE], c: Chain, b: usize, q: usize) -> bool
     requires { ⌜ (b ≤ mostProcesses) × (q ≤ mostProcesses) ⌝ }
     ensures { λ r. ⌜ r ≡ joinsBy (now (square .entry)) c b q ⌝ }
 {
@@ -48,7 +48,7 @@ pub fn joins(square: &[u16; places::SQUARE_SIZE], c: Chain, b: usize, q: usize) 
 }
 
 // a and b are neighbours.
-pub fn joined(square: &[u16; places::SQUARE_SIZE], a: usize, b: usize) -> bool
+pub fn joined(square: &[u16; tables::SQUARE_SIZE], a: usize, b: usize) -> bool
     requires { ⌜ (a ≤ mostProcesses) × (b ≤ mostProcesses) ⌝ }
     ensures { λ r. ⌜ r ≡ joinedBy (now (square .entry)) a b ⌝ }
 {
@@ -59,7 +59,7 @@ pub fn joined(square: &[u16; places::SQUARE_SIZE], a: usize, b: usize) -> bool
 }
 
 // The first word of the link from a to b, which are neighbours.
-pub fn place(square: &[u16; places::SQUARE_SIZE], n: usize, m: usize, a: usize, b: usize) -> usize
+pub fn place(square: &[u16; tables::SQUARE_SIZE], n: usize, m: usize, a: usize, b: usize) -> usize
     requires { ⌜ (a ≤ mostProcesses) × (b ≤ mostProcesses) ⌝ }
     requires { ⌜ (n ≤ mostProcesses) × (m ≤ mostArcs) ⌝ }
     requires { ⌜ joinedBy (now square) a b ≡ true ⌝ }
@@ -74,7 +74,7 @@ pub fn place(square: &[u16; places::SQUARE_SIZE], n: usize, m: usize, a: usize, 
 }
 
 // How many processes b waits for, or how many wait for b.
-pub fn degree(square: &[u16; places::SQUARE_SIZE], n: usize, c: Chain, b: usize) -> u32
+pub fn degree(square: &[u16; tables::SQUARE_SIZE], n: usize, c: Chain, b: usize) -> u32
     requires { ⌜ (n ≤ mostProcesses) × (b ≤ mostProcesses) ⌝ }
     ensures { λ r. ⌜ r ≡ countTo n (λ q. joinsBy (now (square .entry)) c b q) ⌝ }
 {
@@ -89,7 +89,7 @@ pub fn degree(square: &[u16; places::SQUARE_SIZE], n: usize, c: Chain, b: usize)
 }
 
 // Fills an empty square with the arcs of a table that meets the layout.
-pub fn fill(table: &[u8], n: usize, m: usize, square: &mut [u16; places::SQUARE_SIZE])
+pub fn fill(table: &[u8], n: usize, m: usize, square: &mut [u16; tables::SQUARE_SIZE])
     requires { ⌜ Right (fieldOf (now table)) ⌝ }
     requires { ⌜ (n ≡ nOf (fieldOf (now table))) × (m ≡ mOf (fieldOf (now table))) ⌝ }
     requires { ⌜ tableLength n m ≤ length (now table) ⌝ }
@@ -100,7 +100,7 @@ pub fn fill(table: &[u8], n: usize, m: usize, square: &mut [u16; places::SQUARE_
     let end = m + 1;
     for k in 1..end {
         let a = table_reader::arc_at(table, n, k);
-        let at = a.from * places::SIDE + a.to;
+        let at = a.from * tables::SIDE + a.to;
         square[at] = k as u16;
     }
 }

@@ -1,4 +1,5 @@
 // Leaves: what one word, one record and one link of an area hold. Everything above reads and writes words through these.
+use crate::places;
 use steps::Message;
 use steps::Process;
 ghost use mathlib.Core.Path.{_≡_};
@@ -7,8 +8,9 @@ ghost use Prim.Native.Nat.{_+_, _-_, _≤_, _<_};
 ghost use lib.ListN.{length, set};
 ghost use lib.Seq.{sets};
 ghost use lib.IntN.{natAbs};
+ghost use Rattle.tables.specs.Table.{mostProcesses};
 ghost use Rattle.steps.specs.Step.{inRange, countSmall};
-ghost use Rattle.areas.specs.Places.{mostProcesses, recordUsed};
+ghost use Rattle.areas.specs.Used.{recordUsed};
 ghost use Rattle.areas.specs.Area.{recordWord, codeOf, recordAt, messageOf, messagesAt};
 ghost use Rattle.areas.specs.Writes.{recordWords, movedDown};
 
@@ -34,7 +36,7 @@ pub fn message_of(word: i32) -> Message
     if number(word) == 2 {
         return Message::Pre;
     }
-    Message::Ack(word - 256)
+    Message::Ack(word - places::ACK_CODE)
 }
 
 // The word of a message whose count is in range.
@@ -45,7 +47,7 @@ pub fn code_of(message: Message) -> i32
     match message {
         Message::Suc => 1,
         Message::Pre => 2,
-        Message::Ack(count) => 256 + count,
+        Message::Ack(count) => places::ACK_CODE + count,
     }
 }
 
@@ -69,14 +71,14 @@ pub fn record_at(area: &[i32], k: usize) -> Process
     requires { ⌜ k + recordUsed ≤ length (now area) ⌝ }
     ensures { λ r. ⌜ r ≡ recordAt (now (area .entry)) k ⌝ }
 {
-    let flags = number(area[k]);
+    let flags = number(area[k + places::FLAGS]);
     Process {
         succeeding: flags % 2,
         preceding: flags / 2 % 2,
         subordinate: flags / 4 % 2,
-        cs: area[k + 1],
-        num: number(area[k + 2]),
-        father: number(area[k + 3]),
+        cs: area[k + places::CS],
+        num: number(area[k + places::NUM]),
+        father: number(area[k + places::FATHER]),
     }
 }
 
@@ -99,10 +101,10 @@ pub fn put_record(area: &mut [i32], k: usize, x: Process)
     let cs = x.cs;
     let num = x.num as i32;
     let father = x.father as i32;
-    area[k] = flags;
-    area[k + 1] = cs;
-    area[k + 2] = num;
-    area[k + 3] = father;
+    area[k + places::FLAGS] = flags;
+    area[k + places::CS] = cs;
+    area[k + places::NUM] = num;
+    area[k + places::FATHER] = father;
 }
 
 // Takes out the word at i: the words behind it, up to `end`, move down by one, and the last becomes 0.

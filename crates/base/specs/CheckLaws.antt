@@ -12,7 +12,8 @@ use borrow.Author.Tests.{leb-true, leb-false}
 use native.Mathlib.Omega.{arith}
 use Rattle.base.specs.Sums.{allTo}
 use Rattle.base.specs.Checks.{Check, holds, fails}
-use Rattle.base.specs.ChoiceLaws.{Tested, passed, failed, tested, Same, same, apart, same?}
+use Rattle.base.specs.ChoiceLaws.{tested, same?}
+use Rattle.base.specs.Checks.{Tested, passed, failed, Same, same, apart}
 use Rattle.base.specs.SumLaws.{allTo-at}
 
 pub check-of : (b : Bool) (P R : Type 0) → (b ≡ true → P) → (b ≡ false → R) → Check b P R

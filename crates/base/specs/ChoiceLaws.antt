@@ -1,12 +1,10 @@
 -- Laws of tests and of choice by a test.
---   Tested b, tested b    == a test and its value, to be split by clauses in a helper
---   Same m n, same? m n   == two numbers are equal or apart, with the test's value
---   Below m n, below? m n   == one number is below another or not, with the test's value
+--   tested b, same? m n, below? m n   == Tested, Same and Below (Checks), computed
 --   bit-≤1, bit-some, bit-same, bit-apart   == a bit is at most 1; which tests have 1 and which 0
 --   value-not, value-yes  == what a branch on a negated test says, where a callee's promise gives the test's value
 --   and-left, and-right, and-both, and-three, or-cases, or-left, or-right, or-none   == both of two tests, or one of them
 -- Assumes nothing.
-use Prim.Native.Nat.{ℕ, _≤_, _<_}
+use Prim.Native.Nat.{ℕ, _≤_}
 use mathlib.Core.Bool.{Bool, true, false, not, _&&_, _||_, false≢true}
 use mathlib.Core.Path.{_≡_, refl, sym, ap, _∙_}
 use mathlib.Core.Logic.{_⊎_, inl, inr}
@@ -14,6 +12,7 @@ use lib.Dec.{eqb, ltb}
 use borrow.Author.Tests.{eqb-true, eqb-false, ltb-true, ltb-false, eq-eqb, ne-eqb, not-true, not-false}
 use native.Mathlib.Omega.{arith}
 use Rattle.base.specs.Choice.{bit}
+use Rattle.base.specs.Checks.{Tested, passed, failed, Same, same, apart, Below, below, beyond}
 
 pub bit-≤1 : (b : Bool) → bit b ≤ 1
 bit-≤1 true = omega arith
@@ -29,19 +28,9 @@ bit-same x k e = ap bit (eq-eqb x k e)
 pub bit-apart : (x k : ℕ) → (x ≡ k → ⊥) → bit (eqb x k) ≡ 0
 bit-apart x k h = ap bit (ne-eqb x k h)
 
--- a test and its value, to be split by clauses in a helper
-pub data Tested (b : Bool) : Type 0 where
-  passed : b ≡ true → Tested b
-  failed : b ≡ false → Tested b
-
 pub tested : (b : Bool) → Tested b
 tested true = passed refl
 tested false = failed refl
-
--- two numbers are equal or apart, with the test's value
-pub data Same (m n : ℕ) : Type 0 where
-  same : m ≡ n → eqb m n ≡ true → Same m n
-  apart : (m ≡ n → ⊥) → eqb m n ≡ false → Same m n
 
 sameBy : (m n : ℕ) (b : Bool) → eqb m n ≡ b → Same m n
 sameBy m n true e = same (eqb-true m n e) e
@@ -49,11 +38,6 @@ sameBy m n false e = apart (eqb-false m n e) e
 
 pub same? : (m n : ℕ) → Same m n
 same? m n = sameBy m n (eqb m n) refl
-
--- one number is below another or not, with the test's value
-pub data Below (m n : ℕ) : Type 0 where
-  below : m < n → ltb m n ≡ true → Below m n
-  beyond : n ≤ m → ltb m n ≡ false → Below m n
 
 belowBy : (m n : ℕ) (b : Bool) → ltb m n ≡ b → Below m n
 belowBy m n true e = below (ltb-true m n e) e

@@ -2,7 +2,7 @@
 --   occ-of, occ-found, occ-twice, occ-once    == what is counted stands in the list, and where
 --   sumOver-occ, sumOver-length, occ-length   == a sum over a list is a sum over 1 to m, each number as often as it occurs
 -- Assumes nothing.
-use Prim.Native.Nat.{ℕ, zero, suc, _+_, _*_, _≤_, _<_}
+use Prim.Native.Nat.{ℕ, zero, suc, _+_, _*_, _≤_}
 use mathlib.Core.List.{List, [], _∷_}
 use mathlib.Core.Path.{_≡_, refl, sym, ap, _∙_, subst}
 use lib.Dec.{eqb}
@@ -11,8 +11,9 @@ use native.Mathlib.Nat.{zero-mul, mul-one, add-mul}
 use native.Mathlib.Omega.{arith}
 use Rattle.base.specs.Choice.{bit}
 use Rattle.base.specs.Sums.{sumTo}
-use Rattle.base.specs.Counts.{occ, sumOver, InRange}
-use Rattle.base.specs.ChoiceLaws.{bit-same, bit-apart, Same, same, apart, same?}
+use Rattle.base.specs.Counts.{occ, sumOver, InRange, Standing, StandingTwice}
+use Rattle.base.specs.ChoiceLaws.{bit-same, bit-apart, same?}
+use Rattle.base.specs.Checks.{Same, same, apart}
 use Rattle.base.specs.SumLaws.{sumTo-cong, sumTo-add, sumTo-zero, sumTo-pick}
 
 -- ---- occ
@@ -32,11 +33,6 @@ occ-of (x ∷ xs) zero k e l = subst (λ (y : ℕ). 1 ≤ occ y (x ∷ xs)) e (o
 occ-of (x ∷ xs) (suc i) k e l = omega (arith, occ-of xs i k e l, occ-tail k x xs)
 
 -- what is counted stands in the list
-pub record Standing (k : ℕ) (ks : List ℕ) : Type 0 where
-  pub at : ℕ
-  pub high : at < length ks
-  pub is : getD ks at 0 ≡ k
-
 pub occ-found : (ks : List ℕ) (k : ℕ) → 1 ≤ occ k ks → Standing k ks
 unfolding occ
 occ-found [] k h = absurd (omega arith)
@@ -49,14 +45,6 @@ occ-found (x ∷ xs) k h = at (same? x k) (λ u. occ-found xs k u)
         record { at = suc (s .at); high = omega arith; is = s .is }
 
 -- what is counted twice stands at two places
-pub record StandingTwice (k : ℕ) (ks : List ℕ) : Type 0 where
-  pub at : ℕ
-  pub later : ℕ
-  pub order : at < later
-  pub high : later < length ks
-  pub is : getD ks at 0 ≡ k
-  pub again : getD ks later 0 ≡ k
-
 pub occ-twice : (ks : List ℕ) (k : ℕ) → 2 ≤ occ k ks → StandingTwice k ks
 unfolding occ
 occ-twice [] k h = absurd (omega arith)

@@ -11,7 +11,8 @@ use mathlib.Core.Path.{_≡_, refl, sym, ap, _∙_}
 use native.Mathlib.Numerals.{add-one}
 use native.Mathlib.Omega.{arith}
 use Rattle.base.specs.Sums.{allTo, anyTo}
-use Rattle.base.specs.ChoiceLaws.{Tested, passed, failed, tested, and-both}
+use Rattle.base.specs.ChoiceLaws.{tested, and-both}
+use Rattle.base.specs.Checks.{Tested, passed, failed}
 use Rattle.base.specs.SumLaws.{allTo-at}
 
 pub allTo-none : (p : ℕ → Bool) → allTo 0 p ≡ true

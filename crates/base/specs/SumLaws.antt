@@ -3,17 +3,19 @@
 --   allTo-at, allTo-of, anyTo-of, anyTo-found   == what a test of all, or of some, says of one
 --   sumTo-some, sumTo-one, sumTo-full, sumTo-least   == sums whose parts are 0 or 1, or at least 1
 --   countTo-most, countTo-one, sumTo-pick, sumTo-pick-two   == a test that at most one number passes, and one part picked out of a sum
+--   countTo-P   == countTo counts what HowMany counts
 -- Assumes nothing.
 use Prim.Native.Nat.{ℕ, zero, suc, _+_, _*_, _≤_}
 use mathlib.Core.Bool.{Bool, true, false, _&&_, _||_, false≢true}
 use mathlib.Core.Path.{_≡_, refl, sym, ap, _∙_, subst}
-use mathlib.Core.Logic.{⊎-elim}
+use mathlib.Core.Logic.{_↔_, ⊎-elim}
 use lib.Dec.{eqb}
 use native.Mathlib.Nat.{zero-mul, one-mul, mul-zero, mul-add, mul-suc, add-mul}
 use native.Mathlib.Omega.{arith}
 use Rattle.base.specs.Choice.{choose, bit}
-use Rattle.base.specs.Sums.{sumTo, countTo, allTo, anyTo, spot}
-use Rattle.base.specs.ChoiceLaws.{bit-≤1, bit-some, Tested, passed, failed, tested, Same, same, apart, same?, and-left, and-right, and-both}
+use Rattle.base.specs.Sums.{sumTo, countTo, allTo, anyTo, spot, HowMany, none, one-more, no-more, Found, Part}
+use Rattle.base.specs.ChoiceLaws.{bit-≤1, bit-some, tested, same?, and-left, and-right, and-both}
+use Rattle.base.specs.Checks.{Tested, passed, failed, Same, same, apart}
 use Rattle.base.specs.ChoiceLaws.{or-cases, or-left, or-right}
 
 -- ---- spot
@@ -169,12 +171,6 @@ anyTo-of (suc n) p k l u h = at (same? k (suc n)) (λ v. anyTo-of n p k l v h)
     at (same q _) below = or-right (anyTo n p) (p (suc n)) (rw q at h)
     at (apart q _) below = or-left (anyTo n p) (p (suc n)) (below (omega arith))
 
-pub record Found (n : ℕ) (p : ℕ → Bool) : Type 0 where
-  pub at : ℕ
-  pub low : 1 ≤ at
-  pub high : at ≤ n
-  pub passes : p at ≡ true
-
 pub anyTo-found : (n : ℕ) (p : ℕ → Bool) → anyTo n p ≡ true → Found n p
 unfolding anyTo
 anyTo-found zero p e = absurd (false≢true e)
@@ -189,12 +185,6 @@ anyTo-found (suc n) p e = ⊎-elim (λ q. more (anyTo-found n p q)) here (or-cas
 -- ---- sums whose parts are 0 or 1
 
 -- a sum above 0 has a part above 0
-pub record Part (n : ℕ) (f : ℕ → ℕ) : Type 0 where
-  pub at : ℕ
-  pub low : 1 ≤ at
-  pub high : at ≤ n
-  pub some : 1 ≤ f at
-
 pub sumTo-some : (n : ℕ) (f : ℕ → ℕ) → 1 ≤ sumTo n f → Part n f
 unfolding sumTo
 sumTo-some zero f h = absurd (omega arith)
@@ -305,3 +295,18 @@ sumTo-pick-two n x y g l u l′ u′ =
         sumTo-cong n (λ b. bit (eqb x a && eqb y b) * g a b) (λ b. bit (eqb x a) * (bit (eqb y b) * g a b))
         (λ b h h′. bit-and (eqb x a) (eqb y b) (g a b)) ∙ sumTo-scale n (bit (eqb x a)) (λ b. bit (eqb y b) * g a b)
         ∙ ap (λ (v : ℕ). bit (eqb x a) * v) (sumTo-pick n y (g a) l′ u′)
+
+-- ---- countTo and HowMany
+
+pub countTo-P : (n : ℕ) (p : ℕ → Bool) (P : ℕ → Type 0) → ((k : ℕ) → 1 ≤ k → k ≤ n → (p k ≡ true) ↔ P k) → HowMany P n (countTo n p)
+unfolding countTo sumTo
+countTo-P zero p P h = none
+countTo-P (suc n) p P h = at (countTo-P n p P (λ k l u. h k l (omega arith))) (tested (p (suc n)))
+  where
+    at : HowMany P n (countTo n p) → Tested (p (suc n)) → HowMany P (suc n) (sumTo n (λ k. bit (p k)) + bit (p (suc n)))
+    at b (passed e) =
+        let up : sumTo n (λ k. bit (p k)) + 1 ≡ suc (sumTo n (λ k. bit (p k))) = omega arith in
+        rw (e, up) (one-more b (h (suc n) (omega arith) (omega arith) .0 e))
+    at b (failed e) =
+        let up : sumTo n (λ k. bit (p k)) + 0 ≡ sumTo n (λ k. bit (p k)) = omega arith in
+        rw (e, up) (no-more b (λ x. false≢true (sym e ∙ h (suc n) (omega arith) (omega arith) .1 x)))

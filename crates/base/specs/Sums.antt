@@ -4,9 +4,12 @@
 --   allTo n p      == each of 1 to n passes the test p
 --   anyTo n p      == some of 1 to n passes the test p
 --   spot i v k     == v at the index i, and 0 at every other
+--   Found n p, Part n f   == one of 1 to n that passes the test p, or where f is above 0
+--   HowMany P n k  == k of the numbers 1 to n have P: countTo for what is no test
 -- Assumes nothing.
-use Prim.Native.Nat.{ℕ, zero, suc, _+_}
+use Prim.Native.Nat.{ℕ, zero, suc, _+_, _≤_}
 use mathlib.Core.Bool.{Bool, true, false, _&&_, _||_}
+use mathlib.Core.Path.{_≡_}
 use lib.Dec.{eqb}
 use Rattle.base.specs.Choice.{choose, bit}
 
@@ -27,3 +30,20 @@ anyTo (suc n) p = anyTo n p || p (suc n)
 
 unfoldable pub spot : ℕ → ℕ → ℕ → ℕ
 spot i v k = choose (eqb k i) v 0
+
+pub data HowMany (P : ℕ → Type 0) : ℕ → ℕ → Type 0 where
+  none : HowMany P 0 0
+  one-more : {n k : ℕ} → HowMany P n k → P (suc n) → HowMany P (suc n) (suc k)
+  no-more : {n k : ℕ} → HowMany P n k → (P (suc n) → ⊥) → HowMany P (suc n) k
+
+pub record Found (n : ℕ) (p : ℕ → Bool) : Type 0 where
+  pub at : ℕ
+  pub low : 1 ≤ at
+  pub high : at ≤ n
+  pub passes : p at ≡ true
+
+pub record Part (n : ℕ) (f : ℕ → ℕ) : Type 0 where
+  pub at : ℕ
+  pub low : 1 ≤ at
+  pub high : at ≤ n
+  pub some : 1 ≤ f at

@@ -1,16 +1,23 @@
--- The answer of a delivery as the code gives it, and as the machine does.
+-- Laws of the calls' answers: a delivery's answer as the code gives it and as the machine does, and what comes first.
 --   deliveryOf-refused, deliveryOf-delivered   == what an answer of the code says of the machine's
 --   deliveryOf-number, deliveryOf-accepted     == the same number, and the same count of accepted picks
+--   pick-21, runOn-21, report-21, readRecord-21   == 21 comes first
 -- Assumes nothing.
 use Prim.Native.Nat.{ℕ}
+use mathlib.Core.Bool.{false}
 use mathlib.Core.Path.{_≡_, refl, ap}
 use native.Mathlib.Omega.{arith}
+use Rattle.machine.specs.declared.Ran.{Ran}
 use Rattle.machine.specs.Calls.{Answer, given, refusal}
+use Rattle.machine.specs.Calls as Machines
 use Rattle.machine.specs.Lists.{acceptedPick, answerNumber}
 use Rattle.steps.specs.declared.Message.{Message}
 use Rattle.checks.specs.declared.Delivery.{Delivery}
 use Rattle.checks.specs.declared.Delivery.the-variants.{Delivered}
-use Rattle.checks.specs.Calls.{deliveryOf, deliveryNumber, deliveryMade}
+use Rattle.checks.specs.declared.Report.{Report}
+use Rattle.checks.specs.declared.Reading.{Reading}
+use Rattle.checks.specs.Run.{Run, wellFormed}
+use Rattle.checks.specs.Calls.{refused, deliveryOf, pick, runOn, report, readRecord, deliveryNumber, deliveryMade}
 
 pub deliveryOf-refused : (x : Answer Message) {n : ℕ} → deliveryOf x ≡ Delivery.Refused n → x ≡ refusal n
 deliveryOf-refused (refusal k) {n} e = let f : k ≡ n = cc in ap refusal f
@@ -27,3 +34,22 @@ deliveryOf-number (refusal n) = refl
 pub deliveryOf-accepted : (x : Answer Message) → deliveryMade (deliveryOf x) ≡ acceptedPick x
 deliveryOf-accepted (given m) = refl
 deliveryOf-accepted (refusal n) = refl
+
+-- ---- 21 first: a run that is not well formed is refused before anything else is looked at, and left as it was
+
+module _ (r : Run) (bad : wellFormed r ≡ false) where
+  pub pick-21 : (a b : ℕ) → pick r a b ≡ refused 21 r
+  unfolding Machines.pick
+  pick-21 a b = rw bad
+
+  pub runOn-21 : (k : ℕ) → runOn k r ≡ record { answer = Ran.Refused 21 0; run = r }
+  unfolding Machines.runOn
+  runOn-21 k = rw bad
+
+  pub report-21 : (e : ℕ) → report r e ≡ Report.Refused 21
+  unfolding report
+  report-21 e = rw bad
+
+  pub readRecord-21 : (p : ℕ) → readRecord r p ≡ Reading.Refused 21
+  unfolding readRecord
+  readRecord-21 p = rw bad

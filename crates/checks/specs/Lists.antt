@@ -6,7 +6,7 @@
 -- Assumes nothing.
 use Prim.Native.Nat.{ℕ, _≤_}
 use mathlib.Core.Bool.{true, false}
-use mathlib.Core.List.{List, [], List·Memᴰ}
+use mathlib.Core.List.{List, [], _∷_, List·Memᴰ}
 use mathlib.Core.Path.{_≡_}
 use mathlib.Core.Logic.{_↔_}
 use lib.Dec.{eqb}
@@ -20,9 +20,10 @@ use Rattle.machine.specs.Lists.{Call, Passed, inTurn, Reads, passedBy, Waiting}
 use Rattle.steps.specs.declared.Message.{Message}
 use Rattle.steps.specs.declared.Process.{Process}
 use Rattle.checks.specs.declared.Verdict.the-variants.{Knot, Free}
+use Rattle.checks.specs.declared.Mark.the-variants.{Returned, Held}
 use Rattle.checks.specs.declared.Report.{Report}
-use Rattle.checks.specs.Run.{Run, knot, over}
-use Rattle.checks.specs.Calls.{Escape, report, readRecord, reportNumber, readingNumber, markOf}
+use Rattle.checks.specs.Run.{Run, mostWaiting, knot, over}
+use Rattle.checks.specs.Calls.{Escape, report, readRecord, reportNumber, readingNumber}
 use Rattle.checks.specs.Reach.{reaches, inKnot, outsider, outsiders, dOf}
 
 -- which process a report names as escape changes neither its number nor the run
@@ -43,7 +44,7 @@ pub record Ended (w : Waits) (s : ℕ) (r : Run) : Type 0 where
   pub none-waits : (a b : ℕ) → IsProcess (w .n) a → IsProcess (w .n) b → r .link a b ≡ []
   -- "a report gives D, knot exactly if .., as outside the number of those that do not, and as escape one of them, 0 if none"
   pub reports : (e : ℕ) → Escape r e
-      → report r e ≡ Report.Over (dOf w s) (choose (inKnot w s) Knot Free) (pos (outsiders w s)) e (markOf (choose (inKnot w s) Knot Free))
+      → report r e ≡ Report.Over (dOf w s) (choose (inKnot w s) Knot Free) (pos (outsiders w s)) e (choose (inKnot w s) Returned Held)
   pub escape : (e : ℕ) → 1 ≤ e → Escape r e → IsProcess (w .n) e × (outsider w s e ≡ true)
   pub no-escape : Escape r 0 ↔ (outsiders w s ≡ 0)
   -- "Each process then has .."
@@ -65,7 +66,7 @@ pub record Promise (w : Waits) (s : ℕ) (p : Passed Run) : Type 0 where
   pub goes-on : over (p .left) ≡ false → Waiting knot (p .left)
   -- "When it is over .."
   pub ended : over (p .left) ≡ true → Ended w s (p .left)
-  -- "22 never occurs in a run made by start and deliveries"
-  pub never-22 : (n : ℕ) → List·Memᴰ n (p .numbers) → n ≡ 22 → ⊥
+  -- the numbers that occur: "22 never occurs in a run made by start and deliveries", nor does 21
+  pub answers : (n : ℕ) → List·Memᴰ n (p .numbers) → List·Memᴰ n (0 ∷ 23 ∷ 24 ∷ 25 ∷ 26 ∷ [])
   -- "with at most 4 messages waiting"
-  pub at-most-4 : (a b : ℕ) → IsProcess (w .n) a → IsProcess (w .n) b → length (p .left .link a b) ≤ 4
+  pub at-most-4 : (a b : ℕ) → IsProcess (w .n) a → IsProcess (w .n) b → length (p .left .link a b) ≤ mostWaiting

@@ -2,22 +2,27 @@
 --   from-in, to-in      == both ends of a wait are processes
 --   reaches-forward, reaches-backward   == what passes along every wait (or back along it) passes along a path
 --   reaches-trans       == paths join
---   reaches-P           == the test and the relation agree
+--   reaches-P           == the test and the relation agree; so with inKnot-P, outsider-P, outsiders-P, each named after its test
+--   reaches-in          == whoever is reached from a process is a process
 -- Assumes nothing.
 use Prim.Native.Nat.{ℕ, zero, suc, _+_, _≤_}
-use mathlib.Core.Bool.{Bool, true, false, not, _&&_, false≢true}
+use mathlib.Core.Bool.{Bool, true, false, not, _&&_, _||_, false≢true}
 use mathlib.Core.Path.{_≡_, refl, sym, _∙_}
 use mathlib.Core.Logic.{_⊎_, inl, inr, _↔_, ⊎-elim}
 use native.Mathlib.Omega.{arith}
 use borrow.Author.Tests.{eqb-true, eq-eqb, not-true}
 use Rattle.base.specs.Choice.{bit}
-use Rattle.base.specs.ChoiceLaws.{bit-≤1, Tested, passed, failed, tested, Same, same, apart, same?, and-left, and-right, and-both, or-cases, or-left, or-right}
-use Rattle.base.specs.Sums.{sumTo, countTo, anyTo, spot}
-use Rattle.base.specs.SumLaws.{spot-at, spot-off, sumTo-add, sumTo-le, sumTo-part, sumTo-spot, sumTo-most, anyTo-of, Found, anyTo-found}
+use Rattle.base.specs.ChoiceLaws.{bit-≤1, tested, same?, and-left, and-right, and-both, or-cases, or-left, or-right}
+use Rattle.base.specs.Checks.{Tested, passed, failed, Same, same, apart}
+use Rattle.base.specs.Sums.{sumTo, countTo, anyTo, spot, HowMany}
+use Rattle.base.specs.SumLaws.{spot-at, spot-off, sumTo-add, sumTo-le, sumTo-part, sumTo-spot, sumTo-most, allTo-at, allTo-of, anyTo-of}
+use Rattle.base.specs.Sums.{Found}
+use Rattle.base.specs.SumLaws.{anyTo-found, countTo-P}
 use Rattle.tables.specs.Waits.{Waits}
 use Rattle.tables.specs.Sound.{Sound}
 use Rattle.tables.specs.Table.{IsProcess}
-use Rattle.checks.specs.Reach.{Reaches, here, along, within, reaches}
+use Rattle.checks.specs.Reach.{Reaches, here, along, within, reaches, inKnot, outsider, outsiders}
+use Rattle.checks.specs.InWords.{Outside}
 
 -- both ends of a wait are processes
 pub from-in : {w : Waits} → Sound w → (a b : ℕ) → w .waits a b ≡ true → IsProcess (w .n) a
@@ -160,3 +165,40 @@ reaches-P w ok p q pIn = (
   λ t. reaches-forward (λ x. within w (w .n) p x ≡ true) (λ a b e i. within-closed w ok p pIn a b i e) t
       (within-own w ok p (w .n)),
 )
+
+module _ (w : Waits) (ok : Sound w) (s : ℕ) (sIn : IsProcess (w .n) s) where
+  -- whoever is reached from a process is a process
+  pub reaches-in : {p : ℕ} → Reaches w s p → IsProcess (w .n) p
+  reaches-in t = reaches-forward (λ x. IsProcess (w .n) x) (λ a b e _. to-in ok a b e) t sIn
+
+  pub inKnot-P : (inKnot w s ≡ true) ↔ ((p : ℕ) → Reaches w s p → Reaches w p s)
+  unfolding inKnot
+  inKnot-P = (
+    λ e p t. let i = reaches-in t in back p i (allTo-at (w .n) (λ q. not (reaches w s q) || reaches w q s) e p (i .0) (i .1)) t,
+    λ h. allTo-of (w .n) (λ q. not (reaches w s q) || reaches w q s) (λ p l u. test p (l, u) h (tested (reaches w s p))),
+  )
+    where
+      back : (p : ℕ) → IsProcess (w .n) p → (not (reaches w s p) || reaches w p s) ≡ true → Reaches w s p → Reaches w p s
+      back p i e t = reaches-P w ok p s i .0 (rw (reaches-P w ok s p sIn .1 t) at e)
+
+      test : (p : ℕ) → IsProcess (w .n) p → ((q : ℕ) → Reaches w s q → Reaches w q s) → Tested (reaches w s p) → (not (reaches w s p) || reaches w p s) ≡ true
+      test p i h (passed e) = rw e (reaches-P w ok p s i .1 (h p (reaches-P w ok s p sIn .0 e)))
+      test p i h (failed e) = rw e
+
+  pub outsider-P : (p : ℕ) → IsProcess (w .n) p → (outsider w s p ≡ true) ↔ Outside w s p
+  unfolding outsider
+  outsider-P p i = (
+    λ e. (
+      reaches-P w ok s p sIn .0 (and-left (reaches w s p) (not (reaches w p s)) e),
+      λ t. false≢true (sym (not-true (reaches w p s) (and-right (reaches w s p) (not (reaches w p s)) e)) ∙ reaches-P w ok p s i .1 t),
+    ),
+    λ h. test h (tested (reaches w p s)),
+  )
+    where
+      test : Outside w s p → Tested (reaches w p s) → (reaches w s p && not (reaches w p s)) ≡ true
+      test h (passed e) = absurd (h .1 (reaches-P w ok p s i .0 e))
+      test h (failed e) = rw (e, reaches-P w ok s p sIn .1 (h .0))
+
+  pub outsiders-P : HowMany (Outside w s) (w .n) (outsiders w s)
+  unfolding outsiders
+  outsiders-P = countTo-P (w .n) (outsider w s) (Outside w s) (λ p l u. outsider-P p (l, u))

@@ -1,5 +1,6 @@
 -- The knot check as a machine (crate machine): its records and messages are those of the crate steps (01, "Run and links" and "Steps").
 --   Run                 == the state of a check
+--   mostWaiting, mostDeliveries   == "at most 4 messages waiting" on a link; "accepted deliveries, 0 to 2048"
 --   knot                == the knot check's rules: what it hands to the machine
 --   fatherRight w p x   == "every father is 0 or a neighbour"
 --   started w s         == the start's first record
@@ -16,13 +17,8 @@ use Rattle.base.specs.Choice.{choose}
 use Rattle.tables.specs.Waits.{Waits, outDegree, inDegree, neighbours}
 use Rattle.machine.specs.Machine.{Machine, Left, Rules}
 use Rattle.machine.specs.Machine as Machines
-use Rattle.steps.specs.declared.Message.{Message}
-use Rattle.steps.specs.declared.Message.the-variants.{Suc, Pre, Ack}
-use Rattle.steps.specs.declared.Process.{Process}
-use Rattle.steps.specs.declared.Probes.{Probes}
-use Rattle.steps.specs.declared.Probes.the-variants.{Sucs, Pres}
-use Rattle.steps.specs.declared.Reply.{Reply}
-use Rattle.steps.specs.declared.Reply.the-variants.{To}
+use Rattle.steps.specs.declared.{Message.Message, Message.the-variants.Suc, Message.the-variants.Pre, Message.the-variants.Ack, Process.Process}
+use Rattle.steps.specs.declared.{Probes.Probes, Probes.the-variants.Sucs, Probes.the-variants.Pres, Reply.Reply, Reply.the-variants.To}
 use Rattle.steps.specs.Effect.{isProbe}
 use Rattle.steps.specs.Step.{inRange, countSmall, idle, Turn, turn, startTurn, fitting}
 
@@ -70,7 +66,14 @@ leaving w b t = record { process = t .process; sent = sentTo w b t }
 
 -- ---- the rules
 
--- "s sends suc to each successor, then pre to each predecessor"; "at most 4 messages waiting"; "accepted deliveries, 0 to 2048"
+-- "at most 4 messages waiting"; "accepted deliveries, 0 to 2048"
+abbrev pub mostWaiting : ℕ
+mostWaiting = 4
+
+abbrev pub mostDeliveries : ℕ
+mostDeliveries = 2048
+
+-- "s sends suc to each successor, then pre to each predecessor"
 abbrev pub knot : Rules Process Message
 knot =
     record {
@@ -85,8 +88,8 @@ knot =
       recordRight = λ w p x. inRange x && fatherRight w p x;
       messageRight = countSmall;
       room = λ r. true;
-      capacity = 4;
-      most = 2048;
+      capacity = mostWaiting;
+      most = mostDeliveries;
     }
 
 abbrev pub turnAt : Run → ℕ → ℕ → Message → Turn

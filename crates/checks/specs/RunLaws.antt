@@ -2,19 +2,21 @@
 --   formed-range, formed-father   == the record of a process in a well-formed run: in range, its father 0 or a neighbour
 --   turnAt-effect, turnAt-named, turnAt-sucs, turnAt-pres   == the laws of the step, of the receiver's step in a run
 --   new-range, new-reply      == the record and the acknowledgement that an accepted delivery makes are in range
+--   nothing-sent              == the receiver's step sends to its neighbours alone
 --   new-father, replied       == the father that a step leaves is right, and whom it acknowledges is a neighbour
 --   knot-after                == an accepted delivery keeps a run well formed, whether start made it or not
 -- Assumes nothing.
 use Prim.Native.Nat.{ℕ, _+_}
-use mathlib.Core.Bool.{true}
-use mathlib.Core.List.{List, _∷_}
-use mathlib.Core.Path.{_≡_, _∙_}
+use mathlib.Core.Bool.{true, false, false≢true}
+use mathlib.Core.List.{List, [], _∷_}
+use mathlib.Core.Path.{_≡_, refl, sym, _∙_}
 use mathlib.Core.Logic.{⊎-elim}
 use native.Mathlib.Omega.{arith}
 use borrow.Author.Tests.{eqb-true, leb-true}
 use lib.Dec.{eqb, leb}
 use lib.IntN.{ℤ}
-use Rattle.base.specs.ChoiceLaws.{and-both, and-left, and-right, and-three, or-right, or-cases, Tested, passed, failed, tested}
+use Rattle.base.specs.ChoiceLaws.{and-both, and-left, and-right, and-three, or-right, or-none, or-cases, same?, tested}
+use Rattle.base.specs.Checks.{Same, same, apart, Tested, passed, failed}
 use Rattle.tables.specs.Waits.{outDegree, inDegree, neighbours}
 use Rattle.tables.specs.Sound.{Sound}
 use Rattle.tables.specs.Table.{IsProcess}
@@ -22,12 +24,15 @@ use Rattle.tables.specs.WaitsLaws.{neighbours-swap, neighbours-ends}
 use Rattle.machine.specs.Formed.{Formed}
 use Rattle.machine.specs.FormedLaws.{accepts-P, formed-after}
 use Rattle.steps.specs.declared.Message.{Message}
+use Rattle.steps.specs.declared.Message.the-variants.{Ack}
+use Rattle.steps.specs.declared.Probes.{Probes}
 use Rattle.steps.specs.declared.Probes.the-variants.{Sucs, Pres}
+use Rattle.steps.specs.declared.Reply.{Reply}
 use Rattle.steps.specs.declared.Reply.the-variants.{To}
 use Rattle.steps.specs.Step.{inRange, small, numSuffices, replyFits, fitting}
 use Rattle.steps.specs.Effect.{Known, Effect, Named, Grown}
 use Rattle.steps.specs.StepLaws.{turn-effect, startTurn-effect, turn-named, startTurn-named, turn-grown, startTurn-grown, grown-sucs, grown-pres}
-use Rattle.checks.specs.Run.{Run, knot, fatherRight, turnOf, turnAt, after, accepts}
+use Rattle.checks.specs.Run.{Run, knot, fatherRight, one, turnOf, turnAt, replyTo, probesTo, sentTo, after, accepts}
 use Rattle.checks.specs.SentLaws.{sent-right}
 
 -- ---- the receiver's step
@@ -132,10 +137,32 @@ module _ (r : Run) (a b : ℕ) (m : Message) (rest : List Message) (ok : accepts
   pub new-reply : replyFits (turnAt r a b m .reply) ≡ true
   new-reply = fits .2
 
+  -- the step sends to neighbours alone
+  module _ (f : Formed knot r) (sd : Sound (r .waits)) (j : neighbours (r .waits) a b ≡ true) (y : ℕ) (n : neighbours (r .waits) b y ≡ false) where
+    no-replies : (z : Reply) → turnAt r a b m .reply ≡ z → replyTo z y ≡ []
+    unfolding replyTo
+    no-replies Reply.Nothing e = refl
+    no-replies (To q c) e = at (same? y q)
+      where
+        at : Same y q → one (eqb y q) (Ack c) ≡ []
+        at (same g h) = absurd (false≢true (sym n ∙ rw g (replied f sd a b j m new-reply q c e)))
+        at (apart g h) = rw h
+
+    no-probes : (z : Probes) → probesTo (r .waits) b z y ≡ []
+    unfolding probesTo neighbours
+    no-probes Probes.Nothing = refl
+    no-probes Sucs = rw (or-none (r .waits .waits b y) (r .waits .waits y b) n .0)
+    no-probes Pres = rw (or-none (r .waits .waits b y) (r .waits .waits y b) n .1)
+
+    pub nothing-sent : sentTo (r .waits) b (turnAt r a b m) y ≡ []
+    unfolding sentTo
+    nothing-sent = rw (no-replies (turnAt r a b m .reply) refl, no-probes (turnAt r a b m .probes))
+
   pub knot-after :
       Formed knot r → Sound (r .waits) → neighbours (r .waits) a b ≡ true → r .link a b ≡ m ∷ rest → Formed knot (after r a b m rest)
   knot-after f sd j l =
       let i = neighbours-ends (r .waits) sd a b j in
       formed-after knot r f a b (i .0, i .1) (i .2, i .3) m rest l ok
       (and-both _ _ new-range (new-father f sd a b j m))
+      (λ y _ n. nothing-sent f sd j y n)
       (λ y _. sent-right (r .waits) b (turnAt r a b m) y new-reply)

@@ -3,6 +3,11 @@
 use steps::Message;
 use steps::Process;
 
+// "at most 4 messages waiting", on each link; "accepted deliveries, 0 to 2048"
+pub const MOST_WAITING: usize = 4;
+
+pub const MOST_DELIVERIES: u32 = 2048;
+
 // The answer of a pick: the delivered message, or the number of the refusal.
 pub enum Delivery {
     Delivered(Message),

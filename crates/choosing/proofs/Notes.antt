@@ -13,9 +13,10 @@ use borrow.Author.Tests.{eq-eqb, ne-eqb}
 use lib.ListN.{length, getD, set, length-set}
 use lib.Seq.{getD-set-other}
 use lib.IntN.{ℤ}
+use Rattle.tables.specs.Table.{mostProcesses}
 use Rattle.steps.specs.declared.Reply.{Reply}
 use Rattle.steps.specs.declared.Reply.the-variants.{To}
-use Rattle.choosing.specs.Memory.{memorySize, backlogAt, boundAt, nearestAt}
+use Rattle.choosing.specs.Memory.{mostBacklog, memorySize, backlogAt, boundAt, nearestAt}
 use Rattle.choosing.specs.Noting.{renewed, notedTaken, notedReply, notedProbes, noted}
 use Rattle.choosing.specs.MemoryLaws.{renewed-here, renewed-backlog}
 
@@ -58,8 +59,8 @@ module _ (l : List ℕ) (b : ℕ) {k : ℕ} where
 
 pub reply-asks
     : (l : List ℕ) {u : List ℕ} (a b : ℕ) → length l ≡ memorySize → u ≡ notedTaken l a b
-    → a ≤ 128 → b ≤ 128 → getD l (backlogAt b) 0 ≤ 512
-    → (length u ≡ memorySize) × ((b ≤ 128) × (getD u (backlogAt b) 0 ≤ 512))
+    → a ≤ mostProcesses → b ≤ mostProcesses → getD l (backlogAt b) 0 ≤ mostBacklog
+    → (length u ≡ memorySize) × ((b ≤ mostProcesses) × (getD u (backlogAt b) 0 ≤ mostBacklog))
 unfolding notedTaken
 reply-asks l {u} a b g e ua ub m =
     (ap length e ∙ simp length-set g, (ub, omega (arith, ap (λ (o : List ℕ). getD o (backlogAt b) 0) e, least, less)))
@@ -75,8 +76,8 @@ reply-asks l {u} a b g e ua ub m =
 
 pub probes-asks
     : (l : List ℕ) {u : List ℕ} (b : ℕ) (z : Reply) {k : ℕ} → length l ≡ memorySize → u ≡ notedReply l b z
-    → b ≤ 128 → getD l (backlogAt b) 0 ≤ 512 → k ≤ 128
-    → (b ≤ 128) × (getD u (backlogAt b) 0 ≤ 513) × (k ≤ 128)
+    → b ≤ mostProcesses → getD l (backlogAt b) 0 ≤ mostBacklog → k ≤ mostProcesses
+    → (b ≤ mostProcesses) × (getD u (backlogAt b) 0 ≤ mostBacklog + 1) × (k ≤ mostProcesses)
 unfolding notedReply
 probes-asks l b Reply.Nothing g e ub m h = (ub, rw e (omega arith), h)
 probes-asks l b (To p c) g e ub m h =

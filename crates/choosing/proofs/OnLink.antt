@@ -1,7 +1,8 @@
 -- One delivery in the fixed order, in a ready area.
 --   holding-next-of           == the area after it holds the run after it
 --   Left w sq n m x v l       == what it leaves of the area w: the answer x, the area v, and what is remembered of that, l
---   left-small                == the ends of the link of a delivered message are processes, and so at most 128
+--   left-small                == the ends of the link of a delivered message are processes, and so at most the largest N
+--   left-refusal, left-message   == what the answer says of the delivery: its refusal, or its message
 --   left-none                 == no link is chosen
 --   link-asks, note-asks, carry-asks   == what preparing the delivery on the chosen link asks, then noting it, then carrying it out
 --   left-refused, left-delivered       == the delivery is refused, or a message is delivered
@@ -15,6 +16,7 @@ use lib.ListN.{length, getD}
 use lib.IntN.{ℤ}
 use Rattle.tables.specs.Sound.{Sound}
 use Rattle.tables.specs.Waits.{neighbours}
+use Rattle.tables.specs.Table.{mostProcesses}
 use Rattle.steps.specs.declared.Message.{Message}
 use Rattle.steps.specs.declared.Process.{Process}
 use Rattle.steps.specs.declared.Probes.{Probes}
@@ -38,13 +40,13 @@ use Rattle.lenses.proofs.Holding.{Holding, holding-first, holding-run, holding-
 use Rattle.choosing.specs.declared.Chosen.{Chosen}
 use Rattle.choosing.specs.declared.Chosen.the-variants.{Nobody, Link}
 use Rattle.choosing.specs.declared.ChosenDelivery.{ChosenDelivery}
-use Rattle.choosing.specs.Memory.{memorySize, backlogAt, Remembers}
+use Rattle.choosing.specs.Memory.{mostBacklog, memorySize, backlogAt, Remembers}
 use Rattle.choosing.specs.Noting.{noted}
 use Rattle.choosing.specs.Answers.{chosenOf, chosenAnswer, nextOf}
 use Rattle.choosing.specs.SpreadLaws.{probesSent-few}
 use Rattle.choosing.specs.MemoryLaws.{remembers-few, remembers-some}
 use Rattle.choosing.specs.NotedLaws.{remembers-noted}
-use Rattle.choosing.specs.AnswerLaws.{chosenOf-nobody, chosenOf-link, deliverOn-nobody, deliverOn-pair, chosenAnswer-delivered}
+use Rattle.choosing.specs.AnswerLaws.{chosenOf-nobody, chosenOf-link, deliverOn-nobody, deliverOn-pair, chosenAnswer-refused, chosenAnswer-delivered}
 
 pub holding-next-of
     : {w : List ℤ} {sq : List ℕ} {n m : ℕ} (y : Ready w sq n m) {v u : List ℤ} {r : Run}
@@ -61,10 +63,22 @@ module _ {w : List ℤ} {sq : List ℕ} {n m : ℕ} (y : Ready w sq n m) where
   pub left-small
       : {x : ChosenDelivery} {v : List ℤ} {l : List ℕ} → Left w sq n m x v l
       → {a b : ℕ} {k : Message} → x ≡ ChosenDelivery.Delivered a b k
-      → (a ≤ 128) × (b ≤ 128)
+      → (a ≤ mostProcesses) × (b ≤ mostProcesses)
   left-small d {a} {b} {k} e =
       let p = lowest-pair (runIn w) (chosenAnswer-delivered (runIn w) a b k (lowest (runIn w)) (sym (d .0) ∙ e) .0) in
       (omega (arith, p .0 .1, ready-n y, ready-sizes y .0), omega (arith, p .1 .1, ready-n y, ready-sizes y .0))
+
+  pub left-refusal
+      : {x : ChosenDelivery} {v : List ℤ} {l : List ℕ} → Left w sq n m x v l
+      → {i : ℕ} → x ≡ ChosenDelivery.Refused i
+      → nextOf (runIn w) .answer ≡ Delivery.Refused i
+  left-refusal d {i} e = chosenAnswer-refused (runIn w) (lowest (runIn w)) i (sym (d .0) ∙ e)
+
+  pub left-message
+      : {x : ChosenDelivery} {v : List ℤ} {l : List ℕ} → Left w sq n m x v l
+      → {a b : ℕ} {z : Message} → x ≡ ChosenDelivery.Delivered a b z
+      → nextOf (runIn w) .answer ≡ Delivered z
+  left-message d {a} {b} {z} e = chosenAnswer-delivered (runIn w) a b z (lowest (runIn w)) (sym (d .0) ∙ e) .1
 
 module _ {w : List ℤ} {sq : List ℕ} {n m : ℕ} (y : Ready w sq n m) {l : List ℕ} (h : Remembers (runIn w) l) {c : Chosen}
     (g : c ≡ chosenOf (lowest (runIn w))) where
@@ -124,12 +138,14 @@ module _ {w : List ℤ} {sq : List ℕ} {n m : ℕ} (y : Ready w sq n m) {l : Li
         going : Going (runIn w) n a b s x p z k
         going = going-of y a b joined (sym f ∙ e)
 
-        pub note-asks : (length l ≡ memorySize) × (((a ≤ 128) × (1 ≤ getD l (backlogAt a) 0)) × ((b ≤ 128) × (getD l (backlogAt b) 0 ≤ 512) × (k ≤ 128)))
+        pub note-asks
+            : (length l ≡ memorySize)
+            × (((a ≤ mostProcesses) × (1 ≤ getD l (backlogAt a) 0)) × ((b ≤ mostProcesses) × (getD l (backlogAt b) 0 ≤ mostBacklog) × (k ≤ mostProcesses)))
         note-asks =
             let q = lowest-pair (runIn w) chosen in
-            let few : runIn w .waits .n ≤ 128 = sound .few in
-            let put : k ≤ 128 = omega (arith, going .sent, probesSent-few (runIn w .waits) b p) in
-            let small : getD l (backlogAt b) 0 ≤ 512 = omega (arith, remembers-few w h b (q .1 .0) (q .1 .1)) in
+            let few : runIn w .waits .n ≤ mostProcesses = sound .few in
+            let put : k ≤ mostProcesses = omega (arith, going .sent, probesSent-few (runIn w .waits) b p) in
+            let small : getD l (backlogAt b) 0 ≤ mostBacklog = omega (arith, remembers-few w h b (q .1 .0) (q .1 .1)) in
             (h .long, ((omega (arith, q .0), remembers-some h a b (q .0) (q .1) (q .2)), (omega (arith, q .1), small, put)))
 
         pub carry-asks : Ready w sq n m × Carried (runIn w) a b x p z

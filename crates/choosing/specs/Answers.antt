@@ -15,7 +15,8 @@ abbrev pub chosenOf : Selection → Chosen
 chosenOf nobody = Nobody
 chosenOf (pair a b) = Link a b
 
--- with no link chosen the delivery is refused by 24, so the first line is never met
+-- 01's number and the values for each case of the answer: 0 with the link and its message. With no link chosen the delivery is refused by
+-- 24, so the first line is never met
 abbrev pub chosenAnswer : Selection → Delivery → ChosenDelivery
 chosenAnswer nobody (Delivery.Delivered m) = ChosenDelivery.Refused 24
 chosenAnswer nobody (Delivery.Refused n) = ChosenDelivery.Refused n

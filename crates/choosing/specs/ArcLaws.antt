@@ -22,23 +22,24 @@ use Rattle.steps.specs.declared.Message.{Message}
 use Rattle.checks.specs.Run.{Run}
 use Rattle.areas.specs.Area.{runIn}
 use Rattle.areas.specs.Contained.{Contained}
+use Rattle.areas.specs.Used.{linkSlots}
 use Rattle.lenses.specs.ReadyLaws.{runIn-few}
 use Rattle.choosing.specs.Memory.{backlogOf}
 use Rattle.choosing.specs.Filling.{backLoad, arcLoad}
 
 -- ---- what an arc adds
 
-bits-small : (i j : Bool) (x y : ℕ) → x ≤ 4 → y ≤ 4 → bit i * x + bit j * y ≤ 8
+bits-small : (i j : Bool) (x y : ℕ) → x ≤ linkSlots → y ≤ linkSlots → bit i * x + bit j * y ≤ 2 * linkSlots
 bits-small true true x y h g = omega arith
 bits-small true false x y h g = omega arith
 bits-small false true x y h g = omega arith
 bits-small false false x y h g = omega arith
 
-chosen-small : (i : Bool) (x : ℕ) → x ≤ 4 → choose i 0 x ≤ 4
+chosen-small : (i : Bool) (x : ℕ) → x ≤ linkSlots → choose i 0 x ≤ linkSlots
 chosen-small true x h = omega arith
 chosen-small false x h = h
 
-pub arcLoad-small : (w : List ℤ) (p : ℕ) (x : Arc) → arcLoad (runIn w) p x ≤ 8
+pub arcLoad-small : (w : List ℤ) (p : ℕ) (x : Arc) → arcLoad (runIn w) p x ≤ 2 * linkSlots
 unfolding arcLoad backLoad
 arcLoad-small w p x =
     let back = chosen-small (runIn w .waits .waits (x .to) (x .from)) _ (runIn-few w (x .to) (x .from)) in

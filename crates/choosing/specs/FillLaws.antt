@@ -14,17 +14,20 @@ use lib.ListN.{length, getD, set, length-set}
 use lib.Seq.{getD-set-same, getD-set-other}
 use lib.IntN.{ℤ}
 use Rattle.base.specs.Choice.{bit}
-use Rattle.base.specs.ChoiceLaws.{Same, same, apart, same?, or-cases}
+use Rattle.base.specs.ChoiceLaws.{same?, or-cases}
+use Rattle.base.specs.Checks.{Same, same, apart}
 use Rattle.base.specs.Sums.{sumTo}
 use Rattle.base.specs.SumLaws.{sumTo-most}
 use Rattle.tables.specs.declared.Arc.{Arc}
-use Rattle.tables.specs.Table.{Fields, nOf, mOf, arcAt}
+use Rattle.tables.specs.Table.{Fields, nOf, mOf, mostProcesses, arcAt}
 use Rattle.tables.specs.Layout.{IsArc, Ends, Right}
 use Rattle.tables.specs.Waits.{Waits, waitsOf, neighbours}
 use Rattle.tables.specs.WaitsLaws.{waitsOf-P}
+use Rattle.tables.specs.Pairs.{squareSide}
 use Rattle.checks.specs.Run.{Run}
 use Rattle.areas.specs.Area.{runIn}
 use Rattle.areas.specs.Contained.{Contained}
+use Rattle.areas.specs.Used.{linkSlots}
 use Rattle.choosing.specs.Memory.{memorySize, backlogAt, boundAt, nearestAt, Remembers}
 use Rattle.choosing.specs.Filling.{backLoad, arcLoad, Cleared, added, neared, withArc, FilledTo}
 use Rattle.choosing.specs.ArcLaws.{arcLoad-small, backlogOf-arcs}
@@ -35,7 +38,7 @@ pub cleared-none : {l : List ℕ} → length l ≡ memorySize → Cleared 0 l
 cleared-none e = record { long = e; none = λ p h. absurd (omega arith) }
 
 -- the three numbers of the process k
-module _ {k : ℕ} {l : List ℕ} (h : Cleared k l) (few : k ≤ 128) where
+module _ {k : ℕ} {l : List ℕ} (h : Cleared k l) (few : k ≤ mostProcesses) where
   abbrev once : List ℕ
   once = set l (backlogAt k) 0
 
@@ -43,30 +46,30 @@ module _ {k : ℕ} {l : List ℕ} (h : Cleared k l) (few : k ≤ 128) where
   twice = set once (boundAt k) 1
 
   abbrev thrice : List ℕ
-  thrice = set twice (nearestAt k) 129
+  thrice = set twice (nearestAt k) squareSide
 
   others : (i : ℕ) → (i ≡ backlogAt k → ⊥) → (i ≡ boundAt k → ⊥) → (i ≡ nearestAt k → ⊥) → getD thrice i 0 ≡ getD l i 0
   others i e f g =
-      getD-set-other twice (nearestAt k) i 129 0 g ∙ getD-set-other once (boundAt k) i 1 0 f ∙ getD-set-other l (backlogAt k) i 0 0 e
+      getD-set-other twice (nearestAt k) i squareSide 0 g ∙ getD-set-other once (boundAt k) i 1 0 f ∙ getD-set-other l (backlogAt k) i 0 0 e
 
   backlog-none : getD thrice (backlogAt k) 0 ≡ 0
   backlog-none =
-      getD-set-other twice (nearestAt k) (backlogAt k) 129 0 (λ e. absurd (omega arith))
+      getD-set-other twice (nearestAt k) (backlogAt k) squareSide 0 (λ e. absurd (omega arith))
       ∙ getD-set-other once (boundAt k) (backlogAt k) 1 0 (λ e. absurd (omega arith))
       ∙ getD-set-same l (backlogAt k) 0 0 (omega (arith, h .long))
 
   bound-one : getD thrice (boundAt k) 0 ≡ 1
   bound-one =
-      getD-set-other twice (nearestAt k) (boundAt k) 129 0 (λ e. absurd (omega arith))
+      getD-set-other twice (nearestAt k) (boundAt k) squareSide 0 (λ e. absurd (omega arith))
       ∙ getD-set-same once (boundAt k) 1 0 (simp length-set (omega (arith, h .long)))
 
-  nearest-none : getD thrice (nearestAt k) 0 ≡ 129
-  nearest-none = getD-set-same twice (nearestAt k) 129 0 (simp length-set (omega (arith, h .long)))
+  nearest-none : getD thrice (nearestAt k) 0 ≡ squareSide
+  nearest-none = getD-set-same twice (nearestAt k) squareSide 0 (simp length-set (omega (arith, h .long)))
 
   pub cleared-next : Cleared (k + 1) thrice
   cleared-next = record { long = simp length-set (h .long); none = λ p u. at p u (same? p k) }
     where
-      at : (p : ℕ) → p < k + 1 → Same p k → (getD thrice (backlogAt p) 0 ≡ 0) × (getD thrice (boundAt p) 0 ≡ 1) × (getD thrice (nearestAt p) 0 ≡ 129)
+      at : (p : ℕ) → p < k + 1 → Same p k → (getD thrice (backlogAt p) 0 ≡ 0) × (getD thrice (boundAt p) 0 ≡ 1) × (getD thrice (nearestAt p) 0 ≡ squareSide)
       at p u (same e _) = rw e (backlog-none, bound-one, nearest-none)
       at p u (apart e _) =
           let o = h .none p (omega arith) in
@@ -107,7 +110,7 @@ module _ (l : List ℕ) (i v : ℕ) (s : i < length l) where
 
 -- ---- arc by arc
 
-pub filled-first : (t : Fields) (r : Run) {l : List ℕ} → Cleared 129 l → FilledTo t r 1 l
+pub filled-first : (t : Fields) (r : Run) {l : List ℕ} → Cleared squareSide l → FilledTo t r 1 l
 unfolding sumTo
 filled-first t r h =
     record {
@@ -118,9 +121,10 @@ filled-first t r h =
       arcs = λ j lo hi. absurd (omega arith);
     }
 
-pub filled-few : (w : List ℤ) {t : Fields} {k : ℕ} {l : List ℕ} → FilledTo t (runIn w) k l → (p : ℕ) → p ≤ 128 → getD l (backlogAt p) 0 ≤ 8 * (k - 1)
+pub filled-few : (w : List ℤ) {t : Fields} {k : ℕ} {l : List ℕ} → FilledTo t (runIn w) k l → (p : ℕ) → p ≤ mostProcesses
+    → getD l (backlogAt p) 0 ≤ 2 * linkSlots * (k - 1)
 filled-few w {t} {k} h p u =
-    rw (h .backlogs p u) (sumTo-most (k - 1) 8 (λ j. arcLoad (runIn w) p (arcAt t j)) (λ j _ _. arcLoad-small w p (arcAt t j)))
+    rw (h .backlogs p u) (sumTo-most (k - 1) (2 * linkSlots) (λ j. arcLoad (runIn w) p (arcAt t j)) (λ j _ _. arcLoad-small w p (arcAt t j)))
 
 sumTo-next : (f : ℕ → ℕ) (k : ℕ) → 1 ≤ k → sumTo (k + 1 - 1) f ≡ sumTo (k - 1) f + f k
 unfolding sumTo
@@ -130,7 +134,7 @@ sumTo-next f k l =
     rw q (ap (λ (j : ℕ). sumTo (k - 1) f + f j) s)
 
 -- the arc k from a to b, of whose links x and z messages wait
-module _ (l : List ℕ) (long : length l ≡ memorySize) (a b x z : ℕ) (ua : a ≤ 128) (ub : b ≤ 128) where
+module _ (l : List ℕ) (long : length l ≡ memorySize) (a b x z : ℕ) (ua : a ≤ mostProcesses) (ub : b ≤ mostProcesses) where
   abbrev more : List ℕ
   more = added (added l a x) b z
 
@@ -144,24 +148,24 @@ module _ (l : List ℕ) (long : length l ≡ memorySize) (a b x z : ℕ) (ua : a
   whole-long = simp length-set long
 
   -- the places of the bounds of neighbours are past the others
-  whole-early : (i : ℕ) → i < 258 → getD whole i 0 ≡ getD more i 0
+  whole-early : (i : ℕ) → i < 2 * squareSide → getD whole i 0 ≡ getD more i 0
   whole-early i u =
       getD-set-other near (nearestAt b) i (min (getD near (nearestAt b) 0) a) 0 (λ e. absurd (omega arith))
       ∙ getD-set-other more (nearestAt a) i (min (getD more (nearestAt a) 0) b) 0 (λ e. absurd (omega arith))
 
   -- .. and those of the backlogs before them
-  more-late : (i : ℕ) → 129 ≤ i → getD more i 0 ≡ getD l i 0
+  more-late : (i : ℕ) → squareSide ≤ i → getD more i 0 ≡ getD l i 0
   more-late i u =
       getD-set-other (added l a x) (backlogAt b) i (getD (added l a x) (backlogAt b) 0 + z) 0 (λ e. absurd (omega arith))
       ∙ getD-set-other l (backlogAt a) i (getD l (backlogAt a) 0 + x) 0 (λ e. absurd (omega arith))
 
-  whole-backlog : (p : ℕ) → p ≤ 128 → getD whole (backlogAt p) 0 ≡ getD l (backlogAt p) 0 + (bit (eqb p a) * x + bit (eqb p b) * z)
+  whole-backlog : (p : ℕ) → p ≤ mostProcesses → getD whole (backlogAt p) 0 ≡ getD l (backlogAt p) 0 + (bit (eqb p a) * x + bit (eqb p b) * z)
   whole-backlog p u =
       let first = added-at l (backlogAt a) x (backlogAt p) (omega (arith, long)) in
       let second = added-at (added l a x) (backlogAt b) z (backlogAt p) (simp length-set (omega (arith, long))) in
       omega (arith, whole-early (backlogAt p) (omega arith))
 
-  whole-bound : (p : ℕ) → p ≤ 128 → getD whole (boundAt p) 0 ≡ getD l (boundAt p) 0
+  whole-bound : (p : ℕ) → p ≤ mostProcesses → getD whole (boundAt p) 0 ≡ getD l (boundAt p) 0
   whole-bound p u = whole-early (boundAt p) (omega arith) ∙ more-late (boundAt p) (omega arith)
 
   fits-a : nearestAt a < length more
@@ -191,7 +195,7 @@ module _ {t : Fields} (g : Right t) (r : Run) {k : ℕ} (a : IsArc t k) {l : Lis
   ends : Ends t k
   ends = g .ends k a
 
-  few : nOf t ≤ 128
+  few : nOf t ≤ mostProcesses
   few = g .sizes .1
 
   abbrev arc : Arc
@@ -200,10 +204,10 @@ module _ {t : Fields} (g : Right t) (r : Run) {k : ℕ} (a : IsArc t k) {l : Lis
   abbrev after : List ℕ
   after = withArc r arc l
 
-  ua : arc .from ≤ 128
+  ua : arc .from ≤ mostProcesses
   ua = omega (arith, ends .0, few)
 
-  ub : arc .to ≤ 128
+  ub : arc .to ≤ mostProcesses
   ub = omega (arith, ends .1, few)
 
   abbrev forth : ℕ
@@ -212,7 +216,7 @@ module _ {t : Fields} (g : Right t) (r : Run) {k : ℕ} (a : IsArc t k) {l : Lis
   abbrev back : ℕ
   back = backLoad r (arc .to) (arc .from)
 
-  backlog : (p : ℕ) → p ≤ 128 → getD after (backlogAt p) 0 ≡ sumTo (k + 1 - 1) (λ j. arcLoad r p (arcAt t j))
+  backlog : (p : ℕ) → p ≤ mostProcesses → getD after (backlogAt p) 0 ≡ sumTo (k + 1 - 1) (λ j. arcLoad r p (arcAt t j))
   unfolding arcLoad
   backlog p u =
       let o = whole-backlog l (h .long) (arc .from) (arc .to) forth back ua ub p u in
@@ -254,7 +258,7 @@ filled-last {t} g {r} held {k} q {l} h =
     n-is : r .waits .n ≡ nOf t
     n-is = ap (λ (v : Waits). v .n) (held .waits)
 
-    few : r .waits .n ≤ 128
+    few : r .waits .n ≤ mostProcesses
     few = omega (arith, n-is, g .sizes .1)
 
     sized : (a : ℕ) → sumTo (k - 1) (λ j. arcLoad r a (arcAt t j)) ≡ sumTo (mOf t) (λ j. arcLoad r a (arcAt t j))

@@ -1,6 +1,7 @@
 -- What the fixed order remembers of a run from one delivery to the next: an array of numbers, three for each process. Index 0 stands for
 -- no process: its bound is one of senders.
 --   backlogOf r a     == how many messages wait on all links from a
+--   mostBacklog       == how many these may be: as many as a link holds, for each receiver
 --   memorySize        == how many numbers: three for each process, and for 0
 --   backlogAt a       == where the array holds a's backlog
 --   boundAt a         == .. the bound of a's receivers: nothing waits from a for a process below it; at 0, nothing waits from one below it
@@ -14,24 +15,29 @@ use mathlib.Core.Path.{_≡_}
 use lib.ListN.{length, getD}
 use Rattle.base.specs.Sums.{sumTo}
 use Rattle.tables.specs.Waits.{neighbours}
+use Rattle.tables.specs.Table.{mostProcesses}
+use Rattle.tables.specs.Pairs.{squareSide}
 use Rattle.checks.specs.Run.{Run}
-use Rattle.areas.specs.Squares.{side}
+use Rattle.areas.specs.Used.{linkSlots}
 
 -- the messages that a sender has waiting, link by link
 unfoldable pub backlogOf : Run → ℕ → ℕ
 backlogOf r a = sumTo (r .waits .n) (λ b. length (r .link a b))
 
+abbrev pub mostBacklog : ℕ
+mostBacklog = linkSlots * mostProcesses
+
 abbrev pub memorySize : ℕ
-memorySize = 3 * side
+memorySize = 3 * squareSide
 
 abbrev pub backlogAt : ℕ → ℕ
 backlogAt a = a
 
 abbrev pub boundAt : ℕ → ℕ
-boundAt a = side + a
+boundAt a = squareSide + a
 
 abbrev pub nearestAt : ℕ → ℕ
-nearestAt a = 2 * side + a
+nearestAt a = 2 * squareSide + a
 
 -- a bound may stand one past the last process, where nothing waits
 pub record Remembers (r : Run) (l : List ℕ) : Type 0 where

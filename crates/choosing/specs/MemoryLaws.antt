@@ -12,14 +12,16 @@ use native.Mathlib.Omega.{arith}
 use lib.ListN.{length, getD, set, length-set}
 use lib.Seq.{getD-set-same, getD-set-other}
 use lib.IntN.{ℤ}
-use Rattle.base.specs.ChoiceLaws.{Same, same, apart, same?}
+use Rattle.base.specs.ChoiceLaws.{same?}
+use Rattle.base.specs.Checks.{Same, same, apart}
 use Rattle.base.specs.SumLaws.{sumTo-part, sumTo-most}
 use Rattle.tables.specs.Waits.{Waits}
 use Rattle.steps.specs.declared.Message.{Message}
 use Rattle.checks.specs.Run.{Run}
-use Rattle.tables.specs.Table.{IsProcess}
+use Rattle.tables.specs.Table.{mostProcesses, IsProcess}
 use Rattle.machine.specs.Calls.{nobody, waiting, lowestReceiver, lowestSender}
 use Rattle.areas.specs.Area.{runIn}
+use Rattle.areas.specs.Used.{linkSlots}
 use Rattle.lenses.specs.ReadyLaws.{runIn-few}
 use Rattle.choosing.specs.Memory.{memorySize, backlogOf, backlogAt, boundAt, nearestAt, Remembers}
 use Rattle.choosing.specs.Noting.{renewed, LinksFrom}
@@ -34,10 +36,10 @@ waiting-length (m ∷ ms) e = omega arith
 
 pub remembers-few
     : (w : List ℤ) {l : List ℕ} → Remembers (runIn w) l
-    → (a : ℕ) → 1 ≤ a → a ≤ runIn w .waits .n → getD l (backlogAt a) 0 ≤ 4 * (runIn w .waits .n)
+    → (a : ℕ) → 1 ≤ a → a ≤ runIn w .waits .n → getD l (backlogAt a) 0 ≤ linkSlots * runIn w .waits .n
 unfolding backlogOf
 remembers-few w h a lo hi =
-    rw (h .backlogs a lo hi) (sumTo-most (runIn w .waits .n) 4 (λ b. length (runIn w .link a b)) (λ b _ _. runIn-few w a b))
+    rw (h .backlogs a lo hi) (sumTo-most (runIn w .waits .n) linkSlots (λ b. length (runIn w .link a b)) (λ b _ _. runIn-few w a b))
 
 module _ {r : Run} {l : List ℕ} (h : Remembers r l) where
   pub remembers-some : (a b : ℕ) → IsProcess (r .waits .n) a → IsProcess (r .waits .n) b → waiting (r .link a b) ≡ true → 1 ≤ getD l (backlogAt a) 0
@@ -61,7 +63,7 @@ module _ {r : Run} {l : List ℕ} (h : Remembers r l) where
 
 -- ---- the backlog and the bound of one process put anew
 
-module _ (l : List ℕ) (long : length l ≡ memorySize) (p v u : ℕ) (few : p ≤ 128) where
+module _ (l : List ℕ) (long : length l ≡ memorySize) (p v u : ℕ) (few : p ≤ mostProcesses) where
   pub renewed-here : (getD (renewed l p v u) (backlogAt p) 0 ≡ v) × (getD (renewed l p v u) (boundAt p) 0 ≡ u)
   renewed-here = (
     getD-set-other (set l (backlogAt p) v) (boundAt p) (backlogAt p) u 0 (λ e. absurd (omega arith)) ∙ getD-set-same l (backlogAt p) v 0 (omega arith),
@@ -75,7 +77,7 @@ module _ (l : List ℕ) (long : length l ≡ memorySize) (p v u : ℕ) (few : p 
   pub renewed-least : 1 ≤ p → getD (renewed l p v u) (boundAt 0) 0 ≡ getD l (boundAt 0) 0
   renewed-least lo = renewed-other (boundAt 0) (λ e. absurd (omega arith)) (λ e. absurd (omega arith))
 
-  pub renewed-backlog : (x : ℕ) → x ≤ 128 → (x ≡ p → v ≤ getD l (backlogAt x) 0) → getD (renewed l p v u) (backlogAt x) 0 ≤ getD l (backlogAt x) 0
+  pub renewed-backlog : (x : ℕ) → x ≤ mostProcesses → (x ≡ p → v ≤ getD l (backlogAt x) 0) → getD (renewed l p v u) (backlogAt x) 0 ≤ getD l (backlogAt x) 0
   renewed-backlog x hi g = at (same? x p)
     where
       at : Same x p → getD (renewed l p v u) (backlogAt x) 0 ≤ getD l (backlogAt x) 0
@@ -86,7 +88,8 @@ module _ (l : List ℕ) (long : length l ≡ memorySize) (p v u : ℕ) (few : p 
   renewed-long = simp length-set long
 
 -- the links from b alone have changed; nothing waits from b below u, and from nobody below e
-module _ {r q : Run} {b : ℕ} (d : LinksFrom r q b) {l : List ℕ} (h : Remembers r l) (p : IsProcess (r .waits .n) b) (few : r .waits .n ≤ 128) (v u e : ℕ) where
+module _ {r q : Run} {b : ℕ} (d : LinksFrom r q b) {l : List ℕ} (h : Remembers r l) (p : IsProcess (r .waits .n) b)
+    (few : r .waits .n ≤ mostProcesses) (v u e : ℕ) where
   pub remembers-renewed
       : v ≡ backlogOf q b
       → (1 ≤ u) × (u ≤ r .waits .n + 1)
@@ -112,7 +115,7 @@ module _ {r q : Run} {b : ℕ} (d : LinksFrom r q b) {l : List ℕ} (h : Remembe
       n-is : q .waits .n ≡ r .waits .n
       n-is = ap (λ (w : Waits). w .n) (d .waits)
 
-      ub : b ≤ 128
+      ub : b ≤ mostProcesses
       ub = omega (arith, p)
 
       here : getD (set k (boundAt 0) e) (boundAt 0) 0 ≡ e

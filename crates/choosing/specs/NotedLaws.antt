@@ -11,7 +11,8 @@ use lib.Dec.{eqb}
 use lib.ListN.{getD, set, length-set}
 use lib.Seq.{getD-set-same, set-getD}
 use Rattle.base.specs.Choice.{choose}
-use Rattle.base.specs.ChoiceLaws.{Tested, passed, failed, tested, Same, same, apart, same?}
+use Rattle.base.specs.ChoiceLaws.{tested, same?}
+use Rattle.base.specs.Checks.{Tested, passed, failed, Same, same, apart}
 use Rattle.tables.specs.Sound.{Sound}
 use Rattle.tables.specs.Waits.{neighbours}
 use Rattle.tables.specs.WaitsLaws.{neighbours-ends}
@@ -21,7 +22,7 @@ use Rattle.steps.specs.declared.Probes.{Probes}
 use Rattle.steps.specs.declared.Reply.{Reply}
 use Rattle.steps.specs.declared.Reply.the-variants.{To}
 use Rattle.checks.specs.Run.{Run}
-use Rattle.tables.specs.Table.{IsProcess}
+use Rattle.tables.specs.Table.{mostProcesses, IsProcess}
 use Rattle.machine.specs.Calls.{pair, waiting, lowest}
 use Rattle.machine.specs.ChooserLaws.{lowest-pair, lowest-first}
 use Rattle.lenses.specs.Changes.{answered}
@@ -105,7 +106,7 @@ module _ (r : Run) (s : Sound (r .waits)) {a b : ℕ} (e : lowest r ≡ pair a b
     there : IsProcess (q .waits .n) b
     there = rw (g .1 .0) receiver
 
-    few-there : q .waits .n ≤ 128
+    few-there : q .waits .n ≤ mostProcesses
     few-there = rw (g .1 .0) (s .few)
 
     between-more

@@ -12,7 +12,8 @@ use mathlib.Core.Path.{_≡_, refl, sym, ap, _∙_}
 use native.Mathlib.Omega.{arith}
 use lib.ListN.{length}
 use Rattle.base.specs.Choice.{choose}
-use Rattle.base.specs.ChoiceLaws.{Same, same, apart, same?}
+use Rattle.base.specs.ChoiceLaws.{same?}
+use Rattle.base.specs.Checks.{Same, same, apart}
 use Rattle.base.specs.SumLaws.{sumTo-parts}
 use Rattle.steps.specs.declared.Message.{Message}
 use Rattle.checks.specs.Run.{Run}

@@ -15,7 +15,8 @@ use lib.Dec.{eqb}
 use lib.IntN.{ℤ}
 use lib.ListN.{length, length-append}
 use Rattle.base.specs.Choice.{choose}
-use Rattle.base.specs.ChoiceLaws.{Same, same, apart, same?}
+use Rattle.base.specs.ChoiceLaws.{same?}
+use Rattle.base.specs.Checks.{Same, same, apart}
 use Rattle.base.specs.Sums.{sumTo, spot}
 use Rattle.base.specs.SumLaws.{spot-at, spot-off, sumTo-cong, sumTo-add, sumTo-spot}
 use Rattle.steps.specs.declared.Message.{Message}

@@ -1,38 +1,39 @@
 // What is remembered of a run, from the area alone: nothing at first, then arc by arc.
 use crate::parts;
-use areas::places;
 use areas::squares;
 use lenses::chains;
 use lenses::links;
 use tables::Chain;
 ghost use mathlib.Core.Path.{_≡_};
-ghost use Prim.Native.Nat.{ℕ, _≤_};
+ghost use Prim.Native.Nat.{ℕ, _+_, _≤_};
 ghost use lib.ListN.{length, getD};
-ghost use Rattle.tables.specs.Table.{arcAt};
+ghost use Rattle.tables.specs.Table.{mostProcesses, arcAt};
+ghost use Rattle.tables.specs.Pairs.{squareSide};
 ghost use Rattle.areas.specs.Area.{fieldsIn, runIn};
+ghost use Rattle.areas.specs.Used.{linkSlots};
 ghost use Rattle.lenses.specs.Ready.{Ready};
 ghost use Rattle.choosing.specs.Memory.{memorySize, backlogAt, Remembers};
-ghost use Rattle.choosing.specs.Filling.{backLoad, added, neared, withArc, Cleared};
+ghost use Rattle.choosing.specs.Filling.{mostAdded, backLoad, added, neared, withArc, Cleared};
 
 // No message, the bounds of any run whatever, and no neighbour.
 pub fn clear(memory: &mut [usize; parts::MEMORY_SIZE])
     requires { ⌜ length (now memory) ≡ memorySize ⌝ }
-    ensures { λ _. ⌜ Cleared 129 (now (memory .exit)) ⌝ }
+    ensures { λ _. ⌜ Cleared squareSide (now (memory .exit)) ⌝ }
 {
-    for p in 0..129usize {
+    for p in 0..tables::SIDE {
         let backlog = parts::backlog_at(p);
         let bound = parts::bound_at(p);
         let nearest = parts::nearest_at(p);
         memory[backlog] = 0;
         memory[bound] = 1;
-        memory[nearest] = 129;
+        memory[nearest] = tables::SIDE;
     }
 }
 
 // How many messages wait on the link from b to a, if it stands with the arc from a to b.
 fn back_load(
     area: &[i32],
-    square: &[u16; places::SQUARE_SIZE],
+    square: &[u16; tables::SQUARE_SIZE],
     n: usize,
     m: usize,
     b: usize,
@@ -41,7 +42,7 @@ fn back_load(
     requires { ⌜ Ready (now area) (now square) n m ⌝ }
     requires { ⌜ (b ≤ n) × (a ≤ n) ⌝ }
     ensures { λ r. ⌜ r ≡ backLoad (runIn (now (area .entry))) b a ⌝ }
-    ensures { λ r. ⌜ r ≤ 4 ⌝ }
+    ensures { λ r. ⌜ r ≤ linkSlots ⌝ }
 {
     if squares::joins(square, Chain::Out, b, a) {
         return 0;
@@ -51,7 +52,7 @@ fn back_load(
 
 // Adds to the backlog of p.
 fn add_backlog(memory: &mut [usize; parts::MEMORY_SIZE], p: usize, load: usize)
-    requires { ⌜ (p ≤ 128) × (load ≤ 4) × (getD (now memory) (backlogAt p) 0 ≤ 8192) ⌝ }
+    requires { ⌜ (p ≤ mostProcesses) × (load ≤ linkSlots) × (getD (now memory) (backlogAt p) 0 ≤ mostAdded + linkSlots) ⌝ }
     ensures { λ _. ⌜ now (memory .exit) ≡ added (now (memory .entry)) p load ⌝ }
 {
     let at = parts::backlog_at(p);
@@ -60,7 +61,7 @@ fn add_backlog(memory: &mut [usize; parts::MEMORY_SIZE], p: usize, load: usize)
 
 // Lowers the bound of p's neighbours to q.
 fn lower_nearest(memory: &mut [usize; parts::MEMORY_SIZE], p: usize, q: usize)
-    requires { ⌜ p ≤ 128 ⌝ }
+    requires { ⌜ p ≤ mostProcesses ⌝ }
     ensures { λ _. ⌜ now (memory .exit) ≡ neared (now (memory .entry)) p q ⌝ }
 {
     let at = parts::nearest_at(p);
@@ -70,7 +71,7 @@ fn lower_nearest(memory: &mut [usize; parts::MEMORY_SIZE], p: usize, q: usize)
 // Adds what waits on the two links of arc k to the backlogs of their senders, and lowers the bound of each end to the other.
 fn add_arc(
     area: &[i32],
-    square: &[u16; places::SQUARE_SIZE],
+    square: &[u16; tables::SQUARE_SIZE],
     n: usize,
     m: usize,
     k: usize,
@@ -79,7 +80,7 @@ fn add_arc(
     requires { ⌜ Ready (now area) (now square) n m ⌝ }
     requires { ⌜ (1 ≤ k) × (k ≤ m) ⌝ }
     requires { ⌜ length (now memory) ≡ memorySize ⌝ }
-    requires { ⌜ ((p : ℕ) → p ≤ 128 → getD (now memory) (backlogAt p) 0 ≤ 4096) ⌝ }
+    requires { ⌜ ((p : ℕ) → p ≤ mostProcesses → getD (now memory) (backlogAt p) 0 ≤ mostAdded) ⌝ }
     ensures { λ _. ⌜ now (memory .exit) ≡ withArc (runIn (now (area .entry))) (arcAt (fieldsIn (now (area .entry))) k) (now (memory .entry)) ⌝ }
 {
     let arc = chains::arc_in(area, square, n, m, k);
@@ -96,13 +97,13 @@ fn add_arc(
 // All arcs, in a cleared array.
 pub fn add_arcs(
     area: &[i32],
-    square: &[u16; places::SQUARE_SIZE],
+    square: &[u16; tables::SQUARE_SIZE],
     n: usize,
     m: usize,
     memory: &mut [usize; parts::MEMORY_SIZE],
 )
     requires { ⌜ Ready (now area) (now square) n m ⌝ }
-    requires { ⌜ Cleared 129 (now memory) ⌝ }
+    requires { ⌜ Cleared squareSide (now memory) ⌝ }
     ensures { λ _. ⌜ Remembers (runIn (now (area .entry))) (now (memory .exit)) ⌝ }
 {
     let end = m + 1;

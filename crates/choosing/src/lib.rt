@@ -8,7 +8,6 @@ mod filling;
 mod noting;
 pub mod parts;
 
-use areas::places;
 use delivery::carrying;
 use delivery::delivering;
 use delivery::delivering::Prepared;
@@ -41,7 +40,7 @@ pub enum ChosenDelivery {
 // What the order remembers, from the area alone, in an array of any numbers.
 pub fn remember(
     area: &[i32],
-    square: &[u16; places::SQUARE_SIZE],
+    square: &[u16; tables::SQUARE_SIZE],
     n: usize,
     m: usize,
     memory: &mut [usize; parts::MEMORY_SIZE],
@@ -57,7 +56,7 @@ pub fn remember(
 // The first link with a message, in the fixed order, from the bounds on: a sender with none is passed over by its backlog.
 fn choose(
     area: &[i32],
-    square: &[u16; places::SQUARE_SIZE],
+    square: &[u16; tables::SQUARE_SIZE],
     n: usize,
     m: usize,
     memory: &[usize; parts::MEMORY_SIZE],
@@ -92,7 +91,7 @@ fn choose(
 // what is remembered of it, so the next delivery may follow.
 pub fn deliver_next(
     area: &mut [i32],
-    square: &[u16; places::SQUARE_SIZE],
+    square: &[u16; tables::SQUARE_SIZE],
     n: usize,
     m: usize,
     memory: &mut [usize; parts::MEMORY_SIZE],

@@ -2,14 +2,15 @@
 use crate::parts;
 use steps::Reply;
 ghost use mathlib.Core.Path.{_≡_};
-ghost use Prim.Native.Nat.{_≤_};
+ghost use Prim.Native.Nat.{_+_, _≤_};
 ghost use lib.ListN.{length, getD};
-ghost use Rattle.choosing.specs.Memory.{memorySize, backlogAt};
+ghost use Rattle.tables.specs.Table.{mostProcesses};
+ghost use Rattle.choosing.specs.Memory.{mostBacklog, memorySize, backlogAt};
 ghost use Rattle.choosing.specs.Noting.{renewed, notedTaken, notedReply, notedProbes, noted};
 
 // The backlog and the bound of p anew.
 fn renew(memory: &mut [usize; parts::MEMORY_SIZE], p: usize, backlog: usize, bound: usize)
-    requires { ⌜ p ≤ 128 ⌝ }
+    requires { ⌜ p ≤ mostProcesses ⌝ }
     ensures { λ _. ⌜ now (memory .exit) ≡ renewed (now (memory .entry)) p backlog bound ⌝ }
 {
     let first = parts::backlog_at(p);
@@ -20,7 +21,7 @@ fn renew(memory: &mut [usize; parts::MEMORY_SIZE], p: usize, backlog: usize, bou
 
 // The first message of all comes off its link: none waits before that link, and its receiver may send next.
 fn note_taken(from: usize, to: usize, memory: &mut [usize; parts::MEMORY_SIZE])
-    requires { ⌜ (from ≤ 128) × (1 ≤ getD (now memory) (backlogAt from) 0) ⌝ }
+    requires { ⌜ (from ≤ mostProcesses) × (1 ≤ getD (now memory) (backlogAt from) 0) ⌝ }
     ensures { λ _. ⌜ now (memory .exit) ≡ notedTaken (now (memory .entry)) from to ⌝ }
 {
     let at = parts::backlog_at(from);
@@ -32,7 +33,7 @@ fn note_taken(from: usize, to: usize, memory: &mut [usize; parts::MEMORY_SIZE])
 
 // An acknowledgement goes out.
 fn note_reply(reply: Reply, to: usize, memory: &mut [usize; parts::MEMORY_SIZE])
-    requires { ⌜ (to ≤ 128) × (getD (now memory) (backlogAt to) 0 ≤ 512) ⌝ }
+    requires { ⌜ (to ≤ mostProcesses) × (getD (now memory) (backlogAt to) 0 ≤ mostBacklog) ⌝ }
     ensures { λ _. ⌜ now (memory .exit) ≡ notedReply (now (memory .entry)) to reply ⌝ }
 {
     match reply {
@@ -49,7 +50,7 @@ fn note_reply(reply: Reply, to: usize, memory: &mut [usize; parts::MEMORY_SIZE])
 
 // So many probes go out, each to a neighbour.
 fn note_probes(sent: u32, to: usize, memory: &mut [usize; parts::MEMORY_SIZE])
-    requires { ⌜ (to ≤ 128) × (getD (now memory) (backlogAt to) 0 ≤ 513) × (sent ≤ 128) ⌝ }
+    requires { ⌜ (to ≤ mostProcesses) × (getD (now memory) (backlogAt to) 0 ≤ mostBacklog + 1) × (sent ≤ mostProcesses) ⌝ }
     ensures { λ _. ⌜ now (memory .exit) ≡ notedProbes (now (memory .entry)) to sent ⌝ }
 {
     if sent == 0 {
@@ -72,8 +73,8 @@ pub fn note(
     memory: &mut [usize; parts::MEMORY_SIZE],
 )
     requires { ⌜ length (now memory) ≡ memorySize ⌝ }
-    requires { ⌜ (from ≤ 128) × (1 ≤ getD (now memory) (backlogAt from) 0) ⌝ }
-    requires { ⌜ (to ≤ 128) × (getD (now memory) (backlogAt to) 0 ≤ 512) × (sent ≤ 128) ⌝ }
+    requires { ⌜ (from ≤ mostProcesses) × (1 ≤ getD (now memory) (backlogAt from) 0) ⌝ }
+    requires { ⌜ (to ≤ mostProcesses) × (getD (now memory) (backlogAt to) 0 ≤ mostBacklog) × (sent ≤ mostProcesses) ⌝ }
     ensures { λ _. ⌜ now (memory .exit) ≡ noted (now (memory .entry)) from to reply sent ⌝ }
 {
     note_taken(from, to, memory);

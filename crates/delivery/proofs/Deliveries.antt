@@ -19,6 +19,7 @@ use lib.Signed.{mag}
 use mir.Syntax.{w32}
 use mir.Val.{toZ, ofZ}
 use Rattle.base.specs.Sums.{allTo}
+use Rattle.tables.specs.Table.{mostProcesses, mostArcs}
 use Rattle.tables.specs.declared.Chain.{Chain}
 use Rattle.tables.specs.Waits.{neighbours}
 use Rattle.tables.specs.WaitsLaws.{neighbours-ends}
@@ -33,9 +34,10 @@ use Rattle.steps.specs.Step.{countSmall}
 use Rattle.base.specs.ChoiceLaws.{value-not, value-yes}
 use Rattle.checks.specs.declared.Delivery.{Delivery}
 use Rattle.checks.specs.declared.Delivery.the-variants.{Delivered}
-use Rattle.checks.specs.Run.{accepts}
+use Rattle.checks.specs.Run.{mostDeliveries, accepts}
 use Rattle.checks.specs.Calls.{Picked, deliver}
-use Rattle.areas.specs.Places.{mostProcesses, mostArcs, linkSlots, areaLength}
+use Rattle.areas.specs.Places.{areaLength}
+use Rattle.areas.specs.Used.{linkSlots}
 use Rattle.areas.specs.Area.{fieldsIn, messageOf, messagesAt, runIn, keeping}
 use Rattle.areas.specs.Squares.{joinedBy, placeBy}
 use Rattle.areas.specs.AreaLaws.{stored-same}
@@ -122,7 +124,7 @@ module _ {w : List ℤ} {sq : List ℕ} {n m a b : ℕ} {x : Message} (h : Oldes
   pub step-refused : {s : Stepped} {k : ℕ} → s ≡ steppedAt (runIn w) a b x → s ≡ Stepped.Refused k → Answer w a b (Prepared.Refused 22)
   step-refused {k = k} t o = by-22 (accepts-refused (runIn w) (f .formed) (f .sound) a b (h .near) x (h .rest) (h .link) k (sym t ∙ o))
 
-  pub count-full : {c : ℕ} → c ≡ runIn w .count → 2048 ≤ c → Answer w a b (Prepared.Refused 22)
+  pub count-full : {c : ℕ} → c ≡ runIn w .count → mostDeliveries ≤ c → Answer w a b (Prepared.Refused 22)
   count-full k u = by-22 (accepts-full (runIn w) (f .formed) (f .sound) a b (h .near) x (h .rest) (h .link) (omega arith))
 
   module _ {s : Stepped} {q : Process} {p : Probes} {z : Reply} (t : s ≡ steppedAt (runIn w) a b x) (o : s ≡ Taken q p z) where
@@ -151,7 +153,7 @@ module _ {w : List ℤ} {sq : List ℕ} {n m a b : ℕ} {x : Message} (h : Oldes
           let u : v .num ≡ runIn w .process b .num = ap (λ (y : Process). y .num) d in
           omega arith
 
-      pub prepared : {c : ℕ} → c ≡ runIn w .count → c < 2048 → (r : Bool) → r ≡ allTo n (roomTo (runIn w) a b p z) → not r ≡ false → {k : ℕ}
+      pub prepared : {c : ℕ} → c ≡ runIn w .count → c < mostDeliveries → (r : Bool) → r ≡ allTo n (roomTo (runIn w) a b p z) → not r ≡ false → {k : ℕ}
           → k ≡ grownBy v q p → Answer w a b (Go x q p z k)
       prepared c u r e l s =
           let i = sent-is (runIn w) (f .formed) (f .sound) a b (h .near) x (h .rest) (h .link) q p z (sym t ∙ o) in

@@ -9,6 +9,7 @@ use mathlib.Core.Path.{_≡_}
 use native.Mathlib.Omega.{arith}
 use lib.IntN.{ℤ}
 use lib.ListN.{length}
+use Rattle.tables.specs.Table.{mostProcesses}
 use Rattle.tables.specs.declared.Chain.{Chain}
 use Rattle.tables.specs.Waits.{neighbours}
 use Rattle.tables.specs.Chains.{joins}
@@ -17,8 +18,8 @@ use Rattle.steps.specs.declared.Probes.{Probes}
 use Rattle.steps.specs.declared.Reply.{Reply}
 use Rattle.steps.specs.declared.Reply.the-variants.{To}
 use Rattle.steps.specs.Step.{inRange, replyFits}
-use Rattle.checks.specs.Run.{Run, fatherRight}
-use Rattle.areas.specs.Places.{mostProcesses, linkSlots}
+use Rattle.checks.specs.Run.{Run, mostDeliveries, fatherRight}
+use Rattle.areas.specs.Used.{linkSlots}
 use Rattle.areas.specs.Area.{fieldsIn, runIn, keeping}
 use Rattle.areas.specs.Replaced.{putProcess, putLink, putCount}
 use Rattle.lenses.specs.Ready.{Ready}
@@ -82,7 +83,7 @@ module _ {w : List ℤ} {sq : List ℕ} {n m : ℕ} (y : Ready w sq n m) {a b : 
     probes-sent e = holding-next y h (λ q. spreadBy p q b) e (storable-sent (fieldsIn w) r f a b x p z k)
 
   module _ {v : List ℤ} (h : Holding w v (spreadBy p (answered (changed r a b x) b z) b)) {c : ℕ} (g : c ≡ runIn v .count) where
-    pub count-asks : Ready v sq n m × (c + 1 ≤ 2048)
+    pub count-asks : Ready v sq n m × (c + 1 ≤ mostDeliveries)
     count-asks =
         (holding-ready y h, rw (g, holding-run y h) (carried-count (fieldsIn w) r f a b x p z k))
 

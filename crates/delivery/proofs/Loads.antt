@@ -15,10 +15,12 @@ use lib.Dec.{eqb, leb}
 use lib.IntN.{ℤ}
 use lib.ListN.{length}
 use Rattle.base.specs.Choice.{bit}
-use Rattle.base.specs.ChoiceLaws.{or-right, Same, same, apart, same?, Tested, passed, failed, tested}
+use Rattle.base.specs.ChoiceLaws.{or-right, same?, tested}
+use Rattle.base.specs.Checks.{Same, same, apart, Tested, passed, failed}
 use Rattle.base.specs.Sums.{allTo}
 use Rattle.base.specs.SumLaws.{allTo-at, allTo-of}
 use Rattle.base.specs.PrefixLaws.{allTo-stop}
+use Rattle.tables.specs.Table.{mostProcesses}
 use Rattle.tables.specs.declared.Chain.the-variants.{Out, In}
 use Rattle.steps.specs.declared.Message.{Message}
 use Rattle.steps.specs.declared.Message.the-variants.{Suc, Pre, Ack}
@@ -27,7 +29,6 @@ use Rattle.steps.specs.declared.Probes.the-variants.{Sucs, Pres}
 use Rattle.steps.specs.declared.Reply.{Reply}
 use Rattle.steps.specs.declared.Reply.the-variants.{To}
 use Rattle.checks.specs.Run.{one, replyTo, probesTo}
-use Rattle.areas.specs.Places.{mostProcesses}
 use Rattle.areas.specs.Area.{runIn}
 use Rattle.lenses.specs.Ready.{Ready}
 use Rattle.lenses.specs.ReadyLaws.{runIn-few, ready-sizes, ready-joins}

@@ -22,9 +22,11 @@ use lib.IntN.{ℤ}
 use Rattle.machine.specs.Machine as Machines
 use Rattle.machine.specs.Calls as MachineCalls
 use Rattle.base.specs.Choice.{choose}
-use Rattle.base.specs.ChoiceLaws.{Tested, passed, failed, tested, and-both, and-left, and-three}
+use Rattle.base.specs.ChoiceLaws.{tested, and-both, and-left, and-three}
+use Rattle.base.specs.Checks.{Tested, passed, failed}
 use Rattle.base.specs.Sums.{allTo}
 use Rattle.base.specs.SumLaws.{allTo-at, countTo-most}
+use Rattle.tables.specs.Table.{mostProcesses}
 use Rattle.tables.specs.Waits.{Waits, outDegree, inDegree, neighbours}
 use Rattle.tables.specs.Sound.{Sound}
 use Rattle.tables.specs.WaitsLaws.{neighbours-ends}
@@ -40,7 +42,7 @@ use Rattle.steps.specs.StepLaws.{stepped-inside}
 use Rattle.checks.specs.declared.Delivery.the-variants.{Delivered}
 use Rattle.machine.specs.FormedLaws.{wellFormed-P}
 use Rattle.checks.specs.RunLaws.{formed-range, formed-father, new-father, replied, new-range, new-reply}
-use Rattle.checks.specs.Run.{knot, turnOf, Run, wellFormed, countsSmall, turnAt, after, accepts}
+use Rattle.checks.specs.Run.{Run, mostDeliveries, knot, turnOf, wellFormed, countsSmall, turnAt, after, accepts}
 use Rattle.checks.specs.Calls.{deliver}
 use Rattle.lenses.specs.ChangeLaws.{father-few}
 use Rattle.delivery.specs.Rooms.{loadAfter, roomy}
@@ -69,14 +71,14 @@ module _ (r : Run) (h : wellFormed r ≡ true) (sd : Sound (r .waits)) (a b : �
       let x = r .process b in
       let o = outDegree (r .waits) b in
       let i = inDegree (r .waits) b in
-      and-both (inRange x && leb (x .father) 128 && countSmall m && leb o 128) (leb i 128)
-      (and-both (inRange x && leb (x .father) 128 && countSmall m) (leb o 128)
-      (and-both (inRange x && leb (x .father) 128) (countSmall m)
-      (and-both (inRange x) (leb (x .father) 128) (formed-range (wellFormed-P knot r .0 h) b (e .2, e .3))
-      (le-leb (x .father) 128 (father-few (r .waits) sd b x (formed-father (wellFormed-P knot r .0 h) b (e .2, e .3)))))
+      and-both (inRange x && leb (x .father) mostProcesses && countSmall m && leb o mostProcesses) (leb i mostProcesses)
+      (and-both (inRange x && leb (x .father) mostProcesses && countSmall m) (leb o mostProcesses)
+      (and-both (inRange x && leb (x .father) mostProcesses) (countSmall m)
+      (and-both (inRange x) (leb (x .father) mostProcesses) (formed-range (wellFormed-P knot r .0 h) b (e .2, e .3))
+      (le-leb (x .father) mostProcesses (father-few (r .waits) sd b x (formed-father (wellFormed-P knot r .0 h) b (e .2, e .3)))))
       c)
-      (le-leb o 128 (omega (arith, outDegree-most (r .waits) b, sd .few))))
-      (le-leb i 128 (omega (arith, inDegree-most (r .waits) b, sd .few)))
+      (le-leb o mostProcesses (omega (arith, outDegree-most (r .waits) b, sd .few))))
+      (le-leb i mostProcesses (omega (arith, inDegree-most (r .waits) b, sd .few)))
 
   steppedAt-is : steppedAt r a b m ≡ answer (choose (not (fitting m (r .process b) (turnAt r a b m))) 22 0) (turnAt r a b m)
   unfolding turnOf startStepped
@@ -143,7 +145,7 @@ module _ (r : Run) (h : wellFormed r ≡ true) (sd : Sound (r .waits)) (a b : �
       and-left (countSmall m) (countsSmall rest) k
 
   abbrev counted : Bool
-  counted = leb (r .count + 1) 2048
+  counted = leb (r .count + 1) mostDeliveries
 
   abbrev fits : Bool
   fits = fitting m (r .process b) (turnAt r a b m)
@@ -157,20 +159,20 @@ module _ (r : Run) (h : wellFormed r ≡ true) (sd : Sound (r .waits)) (a b : �
 
   -- the step of an accepted delivery is taken, and the count and the links have room
   pub accepts-taken : accepts r a b m rest ≡ true
-      → (steppedAt r a b m ≡ Taken (turnAt r a b m .process) (turnAt r a b m .probes) (turnAt r a b m .reply)) × (r .count < 2048) × (roomy r a b
+      → (steppedAt r a b m ≡ Taken (turnAt r a b m .process) (turnAt r a b m .probes) (turnAt r a b m .reply)) × (r .count < mostDeliveries) × (roomy r a b
       (turnAt r a b m .probes) (turnAt r a b m .reply) ≡ true)
   unfolding Machines.accepts answer
   accepts-taken e =
       let k = and-three counted fits held e in
-      (rw (steppedAt-is r h sd a b j m message-small, k .1), omega (arith, leb-true (r .count + 1) 2048 (k .0)), sym roomy-is ∙ k .2)
+      (rw (steppedAt-is r h sd a b j m message-small, k .1), omega (arith, leb-true (r .count + 1) mostDeliveries (k .0)), sym roomy-is ∙ k .2)
 
   pub accepts-refused : (n : ℕ) → steppedAt r a b m ≡ Stepped.Refused n → accepts r a b m rest ≡ false
   unfolding Machines.accepts
   accepts-refused n e = not-second counted fits held (steppedAt-refused r h sd a b j m message-small n e)
 
-  pub accepts-full : 2048 ≤ r .count → accepts r a b m rest ≡ false
+  pub accepts-full : mostDeliveries ≤ r .count → accepts r a b m rest ≡ false
   unfolding Machines.accepts
-  accepts-full u = not-first counted fits held (lt-leb (r .count + 1) 2048 (omega arith))
+  accepts-full u = not-first counted fits held (lt-leb (r .count + 1) mostDeliveries (omega arith))
 
   module _ (x : Process) (y : Probes) (z : Reply) (e : steppedAt r a b m ≡ Taken x y z) where
     taking : Taking r a b m x y z
@@ -187,16 +189,16 @@ module _ (r : Run) (h : wellFormed r ≡ true) (sd : Sound (r .waits)) (a b : �
     roomy-taken = rw (taking .probes, taking .reply) roomy-is
 
     -- the delivery of a step that is taken meets no 22 exactly if the count and the links have room
-    accepts-is : accepts r a b m rest ≡ (leb (r .count + 1) 2048 && roomy r a b y z)
+    accepts-is : accepts r a b m rest ≡ (leb (r .count + 1) mostDeliveries && roomy r a b y z)
     unfolding Machines.accepts
     accepts-is = rw (taking .fits, roomy-taken) (and-true counted (roomy r a b y z))
 
     pub accepts-crowded : roomy r a b y z ≡ false → accepts r a b m rest ≡ false
     accepts-crowded f = accepts-is ∙ not-right counted (roomy r a b y z) f
 
-    module _ (few : r .count < 2048) (free : roomy r a b y z ≡ true) where
+    module _ (few : r .count < mostDeliveries) (free : roomy r a b y z ≡ true) where
       pub accepts-of : accepts r a b m rest ≡ true
-      accepts-of = accepts-is ∙ and-both counted (roomy r a b y z) (le-leb (r .count + 1) 2048 (omega arith)) free
+      accepts-of = accepts-is ∙ and-both counted (roomy r a b y z) (le-leb (r .count + 1) mostDeliveries (omega arith)) free
 
       pub carried-of : Carried r a b x y z
       carried-of =

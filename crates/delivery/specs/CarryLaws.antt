@@ -24,8 +24,8 @@ use Rattle.steps.specs.declared.Probes.{Probes}
 use Rattle.steps.specs.declared.Probes.the-variants.{Sucs, Pres}
 use Rattle.steps.specs.declared.Reply.{Reply}
 use Rattle.steps.specs.declared.Reply.the-variants.{To}
-use Rattle.checks.specs.Run.{Run, fatherRight, replyTo, probesTo}
-use Rattle.areas.specs.Places.{linkSlots}
+use Rattle.checks.specs.Run.{Run, mostDeliveries, fatherRight, replyTo, probesTo}
+use Rattle.areas.specs.Used.{linkSlots}
 use Rattle.areas.specs.Replaced.{putProcess, putLink}
 use Rattle.lenses.specs.Changes.{answered, spread, off}
 use Rattle.lenses.specs.Storable.{Storable}
@@ -103,7 +103,7 @@ module _ (t : Fields) (r : Run) (f : Storable t r) (a b : ℕ) (x : Process) (y 
       at Sucs e = by Out e
       at Pres e = by In e
 
-  pub carried-count : spreadBy y (answered (changed r a b x) b z) b .count + 1 ≤ 2048
+  pub carried-count : spreadBy y (answered (changed r a b x) b z) b .count + 1 ≤ mostDeliveries
   unfolding putProcess putLink
   carried-count = rw (spreadBy-relinked y (answered (changed r a b x) b z) b .count, answered-relinked (changed r a b x) b z .count) (k .count)
 

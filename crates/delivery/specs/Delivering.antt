@@ -28,7 +28,7 @@ use Rattle.steps.specs.declared.Reply.{Reply}
 use Rattle.steps.specs.declared.Reply.the-variants.{To}
 use Rattle.steps.specs.declared.Stepped.{Stepped}
 use Rattle.steps.specs.Step.{stepped, startStepped, inRange, replyFits}
-use Rattle.checks.specs.Run.{Run, fatherRight, turnAt, accepts}
+use Rattle.checks.specs.Run.{Run, mostDeliveries, fatherRight, turnAt, accepts}
 use Rattle.machine.specs.Calls.{waiting}
 use Rattle.areas.specs.Replaced.{putProcess, putLink, putCount}
 use Rattle.areas.specs.Squares.{joinsBy}
@@ -88,7 +88,7 @@ pub record Carried (r : Run) (a b : ℕ) (x : Process) (y : Probes) (z : Reply) 
   pub father : fatherRight (r .waits) b x ≡ true
   pub replies : replyFits z ≡ true
   pub replied : (p : ℕ) (c : ℤ) → z ≡ To p c → neighbours (r .waits) b p ≡ true
-  pub count : r .count + 1 ≤ 2048
+  pub count : r .count + 1 ≤ mostDeliveries
   pub room : (q : ℕ) → 1 ≤ q → q ≤ r .waits .n → loadAfter r a b y z q ≤ 4
 
 -- ---- before anything is changed

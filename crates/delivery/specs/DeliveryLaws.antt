@@ -16,7 +16,8 @@ use lib.Dec.{eqb, leb}
 use lib.ListN.{length, length-append}
 use Rattle.machine.specs.Machine as Machines
 use Rattle.base.specs.Choice.{choose, bit}
-use Rattle.base.specs.ChoiceLaws.{Same, same, apart, same?, Tested, passed, failed, tested, and-left, and-right}
+use Rattle.base.specs.ChoiceLaws.{same?, tested, and-left, and-right}
+use Rattle.base.specs.Checks.{Same, same, apart, Tested, passed, failed}
 use Rattle.tables.specs.declared.Chain.{Chain}
 use Rattle.tables.specs.declared.Chain.the-variants.{Out, In}
 use Rattle.tables.specs.Waits.{Waits}

@@ -11,7 +11,8 @@ use mathlib.Core.Path.{_≡_, refl, sym, ap, _∙_, subst}
 use native.Mathlib.Omega.{arith}
 use lib.IntN.{ℤ}
 use Rattle.machine.specs.Calls as MachineCalls
-use Rattle.base.specs.ChoiceLaws.{Tested, passed, failed, tested}
+use Rattle.base.specs.ChoiceLaws.{tested}
+use Rattle.base.specs.Checks.{Tested, passed, failed}
 use Rattle.tables.specs.declared.Chain.{Chain}
 use Rattle.tables.specs.declared.Chain.the-variants.{Out, In}
 use Rattle.tables.specs.Sound.{Sound}
@@ -24,7 +25,7 @@ use Rattle.steps.specs.declared.Probes.{Probes}
 use Rattle.steps.specs.declared.Probes.the-variants.{Sucs, Pres}
 use Rattle.steps.specs.declared.Reply.{Reply}
 use Rattle.steps.specs.declared.Stepped.the-variants.{Taken}
-use Rattle.checks.specs.Run.{Run, wellFormed, turnAt, accepts}
+use Rattle.checks.specs.Run.{Run, mostDeliveries, wellFormed, turnAt, accepts}
 use Rattle.checks.specs.Calls.{refused, deliver}
 use Rattle.areas.specs.Area.{fieldsIn, runIn}
 use Rattle.lenses.specs.Ready.{Ready}
@@ -66,7 +67,7 @@ module _ (r : Run) (h : wellFormed r ≡ true) (sd : Sound (r .waits)) (a b : �
         at Sucs f = omega (arith, sent-grows Out f)
         at Pres f = omega (arith, sent-grows In f)
 
-    module _ (few : r .count < 2048) (free : roomy r a b y z ≡ true) where
+    module _ (few : r .count < mostDeliveries) (free : roomy r a b y z ≡ true) where
       pub prepared-go : preparedOf r a b (r .link a b) ≡ Go m x y z (probesSent (r .waits) b y)
       unfolding preparedOf
       prepared-go = rw (l, accepts-of r h sd a b j m rest l x y z e few free, taking .process, taking .probes, taking .reply)

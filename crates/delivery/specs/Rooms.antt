@@ -13,7 +13,7 @@ use Rattle.base.specs.Choice.{bit}
 use Rattle.steps.specs.declared.Probes.{Probes}
 use Rattle.steps.specs.declared.Reply.{Reply}
 use Rattle.checks.specs.Run.{Run, replyTo, probesTo}
-use Rattle.areas.specs.Places.{linkSlots}
+use Rattle.areas.specs.Used.{linkSlots}
 
 abbrev pub loadAfter : Run → ℕ → ℕ → Probes → Reply → ℕ → ℕ
 loadAfter r a b y z q = length (r .link b q) - bit (eqb b a && eqb q b) + length (replyTo z q) + length (probesTo (r .waits) b y q)

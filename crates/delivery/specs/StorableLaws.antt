@@ -6,10 +6,11 @@
 use Prim.Native.Nat.{ℕ}
 use mathlib.Core.Bool.{true, false, false≢true}
 use mathlib.Core.List.{List, _∷_}
-use mathlib.Core.Path.{_≡_, refl, subst}
-use Rattle.base.specs.ChoiceLaws.{Tested, passed, failed, tested}
+use mathlib.Core.Path.{_≡_, refl}
+use Rattle.base.specs.ChoiceLaws.{tested}
+use Rattle.base.specs.Checks.{Tested, passed, failed}
 use Rattle.tables.specs.Table.{Fields}
-use Rattle.tables.specs.Waits.{Waits, neighbours}
+use Rattle.tables.specs.Waits.{neighbours}
 use Rattle.machine.specs.Machine as Machines
 use Rattle.machine.specs.Calls.{Selection, waiting, lowest}
 use Rattle.machine.specs.ChooserLaws.{fixedOrder-finds}
@@ -21,6 +22,7 @@ use Rattle.checks.specs.Run.{Run, knot, after, accepts}
 use Rattle.checks.specs.Calls.{pick, deliverOn, runOn}
 use Rattle.checks.specs.RunLaws.{knot-after}
 use Rattle.areas.specs.Contained.{Contained}
+use Rattle.areas.specs.ContainedLaws.{contained-joined}
 use Rattle.lenses.specs.Storable.{Storable}
 use Rattle.delivery.specs.ContainedLaws.{contained-after}
 
@@ -31,7 +33,7 @@ module _ (t : Fields) where
     where
       at : Tested (neighbours (r .waits) a b) → neighbours (r .waits) a b ≡ true
       at (passed n) = n
-      at (failed n) = absurd (false≢true (rw (h .links a b (subst (λ (w : Waits). neighbours w a b ≡ false) (h .waits) n)) at e))
+      at (failed n) = absurd (false≢true (rw (contained-joined t r h a b n) at e))
 
   storable-after :
       (r : Run) → Storable t r → (a b : ℕ) (m : Message) (rest : List Message) → r .link a b ≡ m ∷ rest → accepts r a b m rest ≡ true →

@@ -1,5 +1,4 @@
 // A delivery carried out: the changes that a step makes in a tested area.
-use areas::places;
 use lenses::heading;
 use lenses::links;
 use lenses::records;
@@ -19,7 +18,7 @@ ghost use Rattle.lenses.specs.Changes.{Spreadable};
 // b sends the probes of its step, if there are any.
 fn send(
     area: &mut [i32],
-    square: &[u16; places::SQUARE_SIZE],
+    square: &[u16; tables::SQUARE_SIZE],
     n: usize,
     m: usize,
     b: usize,
@@ -40,7 +39,7 @@ fn send(
 // b's step has been taken: the message comes off its link, the record changes, and the step's messages go out.
 pub fn carry_out(
     area: &mut [i32],
-    square: &[u16; places::SQUARE_SIZE],
+    square: &[u16; tables::SQUARE_SIZE],
     n: usize,
     m: usize,
     a: usize,

@@ -2,7 +2,6 @@
 use crate::carrying;
 use crate::rooms;
 use crate::stepping;
-use areas::places;
 use areas::squares;
 use areas::words;
 use checks::Delivery;
@@ -52,7 +51,7 @@ fn probes_sent(before: Process, after: Process, probes: Probes) -> u32
 // then 22, and else what the receiver's step leaves and sends.
 pub fn prepare(
     area: &[i32],
-    square: &[u16; places::SQUARE_SIZE],
+    square: &[u16; tables::SQUARE_SIZE],
     n: usize,
     m: usize,
     a: usize,
@@ -77,7 +76,7 @@ pub fn prepare(
     else {
         return Prepared::Refused(22);
     };
-    if heading::count_of(area, square, n, m) >= 2048 {
+    if heading::count_of(area, square, n, m) >= checks::MOST_DELIVERIES {
         return Prepared::Refused(22);
     }
     if !rooms::has_room(area, square, n, m, a, b, probes, reply) {
@@ -97,7 +96,7 @@ pub fn prepare(
 // Delivers the oldest message on the link from a to b, which are neighbours: 24 if nothing waits there, then 22.
 pub fn deliver(
     area: &mut [i32],
-    square: &[u16; places::SQUARE_SIZE],
+    square: &[u16; tables::SQUARE_SIZE],
     n: usize,
     m: usize,
     a: usize,

@@ -10,8 +10,8 @@ ghost use mathlib.Core.Path.{_≡_};
 ghost use mathlib.Core.Bool.{true, not, _&&_, _||_};
 ghost use Prim.Native.Nat.{ℕ, _+_, _≤_, _-_};
 ghost use lib.IntN.{ℤ};
+ghost use Rattle.tables.specs.Table.{mostProcesses};
 ghost use Rattle.steps.specs.declared.Reply.the-variants.{To};
-ghost use Rattle.areas.specs.Places.{mostProcesses};
 ghost use Rattle.areas.specs.Area.{runIn};
 ghost use Rattle.areas.specs.Squares.{joinsBy};
 ghost use Rattle.lenses.specs.Ready.{Ready};
@@ -23,7 +23,7 @@ ghost use Rattle.base.specs.Sums.{allTo};
 ghost use Rattle.tables.specs.declared.Chain.{Chain};
 
 // A probe of a broadcast goes from b to q.
-fn goes_to(square: &[u16; places::SQUARE_SIZE], probes: Probes, b: usize, q: usize) -> bool
+fn goes_to(square: &[u16; tables::SQUARE_SIZE], probes: Probes, b: usize, q: usize) -> bool
     requires { ⌜ (b ≤ mostProcesses) × (q ≤ mostProcesses) ⌝ }
     ensures { λ r. ⌜ r ≡ probesGo (now (square .entry)) probes b q ⌝ }
 {
@@ -70,7 +70,7 @@ fn one_if(test: bool) -> usize
 // How many messages the link from b to q holds after the delivery.
 fn load_after(
     area: &[i32],
-    square: &[u16; places::SQUARE_SIZE],
+    square: &[u16; tables::SQUARE_SIZE],
     n: usize,
     m: usize,
     a: usize,
@@ -92,7 +92,7 @@ fn load_after(
 // The link on which b acknowledges would not hold a fifth message.
 fn reply_has_room(
     area: &[i32],
-    square: &[u16; places::SQUARE_SIZE],
+    square: &[u16; tables::SQUARE_SIZE],
     n: usize,
     m: usize,
     a: usize,
@@ -117,7 +117,7 @@ fn reply_has_room(
 // No link on which b sends a probe along a chain would hold a fifth message: only the far ends of the chain's arcs are looked at.
 fn chain_has_room(
     area: &[i32],
-    square: &[u16; places::SQUARE_SIZE],
+    square: &[u16; tables::SQUARE_SIZE],
     n: usize,
     m: usize,
     c: Chain,
@@ -145,7 +145,7 @@ fn chain_has_room(
 // No link on which b sends a probe would hold a fifth message.
 fn probes_have_room(
     area: &[i32],
-    square: &[u16; places::SQUARE_SIZE],
+    square: &[u16; tables::SQUARE_SIZE],
     n: usize,
     m: usize,
     a: usize,
@@ -167,7 +167,7 @@ fn probes_have_room(
 // No link from b would hold a fifth message: only those on which the step sends something are looked at, since every other has room.
 pub fn has_room(
     area: &[i32],
-    square: &[u16; places::SQUARE_SIZE],
+    square: &[u16; tables::SQUARE_SIZE],
     n: usize,
     m: usize,
     a: usize,

@@ -1,5 +1,4 @@
 // The receiver's step in a tested area: the degrees that it needs, and the step itself.
-use areas::places;
 use lenses::chains;
 use lenses::heading;
 use lenses::records;
@@ -25,7 +24,7 @@ ghost use Rattle.tables.specs.declared.Chain.the-variants.{Out, In};
 // A degree of b, counted only while a flag is 0: each count is a walk of a chain.
 fn degree_if_unset(
     area: &[i32],
-    square: &[u16; places::SQUARE_SIZE],
+    square: &[u16; tables::SQUARE_SIZE],
     n: usize,
     m: usize,
     c: Chain,
@@ -45,7 +44,7 @@ fn degree_if_unset(
 // The successors of b, if its step on the message broadcasts to them.
 fn out_needed(
     area: &[i32],
-    square: &[u16; places::SQUARE_SIZE],
+    square: &[u16; tables::SQUARE_SIZE],
     n: usize,
     m: usize,
     b: usize,
@@ -66,7 +65,7 @@ fn out_needed(
 // The predecessors of b, if its step on the message broadcasts to them.
 fn in_needed(
     area: &[i32],
-    square: &[u16; places::SQUARE_SIZE],
+    square: &[u16; tables::SQUARE_SIZE],
     n: usize,
     m: usize,
     b: usize,
@@ -87,7 +86,7 @@ fn in_needed(
 // The receiver's step: the start's own, or that of any other process.
 pub fn step_at(
     area: &[i32],
-    square: &[u16; places::SQUARE_SIZE],
+    square: &[u16; tables::SQUARE_SIZE],
     n: usize,
     m: usize,
     a: usize,

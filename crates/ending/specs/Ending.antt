@@ -9,11 +9,11 @@ use mathlib.Core.List.{List, []}
 use mathlib.Core.Path.{_≡_, refl, sym, ap, _∙_, subst}
 use mathlib.Core.Logic.{_↔_}
 use native.Mathlib.Omega.{arith}
-use borrow.Author.Tests.{eqb-false}
 use lib.Dec.{eqb}
 use lib.IntN.{pos}
 use Rattle.base.specs.Choice.{choose, bit}
-use Rattle.base.specs.ChoiceLaws.{Tested, passed, failed, tested, Same, same, apart, same?}
+use Rattle.base.specs.ChoiceLaws.{bit-some, tested, same?}
+use Rattle.base.specs.Checks.{Tested, passed, failed, Same, same, apart}
 use Rattle.base.specs.Sums.{sumTo, countTo}
 use Rattle.base.specs.SumLaws.{sumTo-parts, sumTo-zero}
 use Rattle.tables.specs.Waits.{Waits}
@@ -25,30 +25,32 @@ use Rattle.machine.specs.Lists.{Call, Passed}
 use Rattle.machine.specs.Weights.{sumOf}
 use Rattle.machine.specs.ChooserLaws.{fixedOrder-finds}
 use Rattle.machine.specs.Made.{PassMade}
-use Rattle.machine.specs.MadeLaws.{made-waits, made-start, made-count, answered-22}
+use Rattle.machine.specs.MadeLaws.{made-waits, made-start, made-count, answered-listed}
 use Rattle.machine.specs.RestLaws.{work-rest, work-busy}
 use Rattle.machine.specs.UpheldLaws.{upheld-busy, upheld-rest, upheld-empty, upheld-goes-on, upheld-list}
 use Rattle.checks.specs.declared.Verdict.the-variants.{Knot, Free}
+use Rattle.checks.specs.declared.Mark.the-variants.{Returned, Held}
 use Rattle.checks.specs.declared.Report.{Report}
 use Rattle.checks.specs.Run.{Run, knot, over, startRun}
 use Rattle.checks.specs.Calls.{Escape, named, none, verdictOf, markOf, reported, report}
 use Rattle.checks.specs.Reach.{inKnot, outsider, outsiders, dOf}
 use Rattle.checks.specs.Lists.{endSum, Ended, Promise}
 use Rattle.checks.specs.Lists
-use Rattle.ending.specs.Counting.{link-short}
-use Rattle.ending.specs.SumBounds.{cs-end}
-use Rattle.ending.specs.SpreadEnd.{sends-most, succ-end, prec-end, sub-end, sends-end, outsiders-sum, knot-end}
-use Rattle.ending.specs.Holds.{Holds, holds-start, holds-formed, holds-count, holds-upheld}
+use Rattle.ending.specs.Invariants.{Holds}
+use Rattle.ending.specs.CountingLaws.{link-short}
+use Rattle.ending.specs.SpreadEndLaws.{sends-most, succ-end, prec-end, sub-end, sends-end, outsiders-sum, knot-end}
+use Rattle.ending.specs.SumBoundLaws.{cs-end}
+use Rattle.ending.specs.HoldsLaws.{holds-start, holds-formed, holds-count, holds-upheld}
 
 -- ---- D
 
 module _ (r : Run) (h : Holds r) where
-  at-d : over r ≡ true → r .count ≡ dOf (r .waits) (r .start)
+  pub at-d : over r ≡ true → r .count ≡ dOf (r .waits) (r .start)
   at-d e =
       sym (work-rest (h .diffusing) (upheld-rest holds-upheld r h e)) ∙ sym (h .worked) ∙
       sends-end (h .sound) (h .tidy) (h .spread) (upheld-empty holds-upheld r h e)
 
-  before-d : over r ≡ false → r .count + 1 ≤ dOf (r .waits) (r .start)
+  pub before-d : over r ≡ false → r .count + 1 ≤ dOf (r .waits) (r .start)
   before-d e =
       omega (arith, work-busy knot (r .waits .n) r (h .tidy .start-in), upheld-busy holds-upheld r h e, h .worked, sends-most (h .sound) (h .tidy) (h .spread))
 
@@ -61,11 +63,6 @@ module _ (r : Run) (h : Holds r) where
 
 -- ---- the end
 
--- a process is one of those outside, or not
-bit-one : (b : Bool) → bit b ≡ 1 → b ≡ true
-bit-one true e = refl
-bit-one false e = absurd (eqb-false 0 1 refl e)
-
 -- the verdict by the number outside
 knot-verdict : (w : Waits) (s : ℕ) → verdictOf (pos (outsiders w s)) ≡ choose (inKnot w s) Knot Free
 knot-verdict w s = at (tested (inKnot w s)) (outsiders w s) refl
@@ -74,6 +71,11 @@ knot-verdict w s = at (tested (inKnot w s)) (outsiders w s) refl
     at (passed e) k q = rw (e, knot-end w s .0 e)
     at (failed e) zero q = absurd (false≢true (sym e ∙ knot-end w s .1 q))
     at (failed e) (suc k) q = rw (e, q)
+
+-- "mark returned if the verdict is knot, else held"
+mark-chosen : (b : Bool) → markOf (choose b Knot Free) ≡ choose b Returned Held
+mark-chosen true = refl
+mark-chosen false = refl
 
 module _ (r : Run) (h : Holds r) (o : over r ≡ true) where
   gone : (a b : ℕ) → IsProcess (r .waits .n) a → IsProcess (r .waits .n) b → r .link a b ≡ []
@@ -93,12 +95,12 @@ module _ (r : Run) (h : Holds r) (o : over r ≡ true) where
   reports : (e : ℕ) → Escape r e
       → report r e
       ≡ Report.Over (dOf (r .waits) (r .start)) (choose (inKnot (r .waits) (r .start)) Knot Free) (pos (outsiders (r .waits) (r .start))) e
-      (markOf (choose (inKnot (r .waits) (r .start)) Knot Free))
+      (choose (inKnot (r .waits) (r .start)) Returned Held)
   unfolding report reported
-  reports e x = rw (holds-formed r h, o, start-sum, at-d r h o, knot-verdict (r .waits) (r .start))
+  reports e x = rw (holds-formed r h, o, start-sum, at-d r h o, knot-verdict (r .waits) (r .start), mark-chosen (inKnot (r .waits) (r .start)))
 
   escape : (e : ℕ) → 1 ≤ e → Escape r e → IsProcess (r .waits .n) e × (outsider (r .waits) (r .start) e ≡ true)
-  escape e l (named p q d) = ((p, q), bit-one (outsider (r .waits) (r .start) e) (sym (subs e (p, q)) ∙ d))
+  escape e l (named p q d) = ((p, q), bit-some (outsider (r .waits) (r .start) e) (omega (arith, subs e (p, q), d)))
   escape e l (none n) = absurd (omega arith)
 
   process-cs : (p : ℕ) → IsProcess (r .waits .n) p → r .process p .cs ≡ pos (endSum (r .waits) (r .start) p)
@@ -163,6 +165,6 @@ ending w sd s i cs =
           over-at-d = (λ o. sym c ∙ at-d (p .left) h o, λ q. only-at-d (p .left) h (c ∙ q));
           goes-on = upheld-goes-on holds-upheld (p .left) h;
           ended = ended (p .left) h;
-          never-22 = λ n j. answered-22 (m .answered n j);
+          answers = λ n j. answered-listed (m .answered n j);
           at-most-4 = λ a b pa pb. link-short (h .tidy) (h .diffusing) pa pb;
         }))

@@ -2,8 +2,9 @@
 -- start; i and j run over the processes 1 to N.
 --   Tidy w s r        == the flags are 0 or 1, subordinate goes by them, the start has both
 --   Worked w r        == every probe sent means two deliveries
---   Spread w s r      == suc and pre probes go along the waits, flags are set on reachable and reaching processes alone, and none is forgotten
+--   Spread w s r      == probes go along the waits or against them, flags are set on reachable and reaching processes alone, and none is forgotten
 --   Summed w s r      == all sums and counts together are the subordinates; their negative parts are bounded
+--   Holds r           == every invariant of r, for its own waits and start
 -- Assumes nothing.
 use Prim.Native.Nat.{ℕ, _+_, _*_, _≤_}
 use mathlib.Core.Path.{_≡_}
@@ -11,14 +12,18 @@ use lib.IntN.{pos}
 use Rattle.base.specs.Sums.{sumTo}
 use Rattle.base.specs.Parts.{above, below}
 use Rattle.tables.specs.Waits.{Waits}
+use Rattle.tables.specs.Sound.{Sound}
 use Rattle.tables.specs.Table.{IsProcess}
-use Rattle.machine.specs.Weights.{weight, total, sumOf, work}
+use Rattle.machine.specs.Weights.{total, sumOf, work}
+use Rattle.machine.specs.Diffusing.{Treed}
 use Rattle.steps.specs.Step.{newSubordinate}
 use Rattle.steps.specs.Effect.{isSuc, isPre}
 use Rattle.checks.specs.Run.{Run, knot}
 use Rattle.checks.specs.Reach.{Reaches}
-use Rattle.ending.specs.Weights.{edge, sends, aboveOf, belowOf, bothOff}
+use Rattle.ending.specs.Weights.{sends, aboveOf, belowOf, bothOff, Diffuses}
+use Rattle.ending.specs.Spreading.{Side}
 
+-- the flags of each process, and those of the start
 pub record Tidy (w : Waits) (s : ℕ) (r : Run) : Type 0 where
   pub start-in : IsProcess (w .n) s
   pub succ-bit : (i : ℕ) → IsProcess (w .n) i → r .process i .succeeding ≤ 1
@@ -27,22 +32,29 @@ pub record Tidy (w : Waits) (s : ℕ) (r : Run) : Type 0 where
   pub start-succ : r .process s .succeeding ≡ 1
   pub start-prec : r .process s .preceding ≡ 1
 
+-- a probe is delivered, and its acknowledgement is
 abbrev pub Worked : Waits → Run → Type 0
 Worked w r = 2 * sends w r ≡ work knot (w .n) r
 
+-- suc probes go along the waits and mark whom the start reaches; pre probes go against them and mark who reaches the start
 pub record Spread (w : Waits) (s : ℕ) (r : Run) : Type 0 where
-  pub suc-along : (i j : ℕ) → IsProcess (w .n) i → IsProcess (w .n) j → weight isSuc (r .link i j) ≤ r .process i .succeeding * edge w i j
-  pub pre-along : (i j : ℕ) → IsProcess (w .n) i → IsProcess (w .n) j → weight isPre (r .link i j) ≤ r .process i .preceding * edge w j i
-  pub suc-reached : (i : ℕ) → IsProcess (w .n) i → r .process i .succeeding ≡ 1 → Reaches w s i
-  pub pre-reaches : (i : ℕ) → IsProcess (w .n) i → r .process i .preceding ≡ 1 → Reaches w i s
-  pub suc-kept : (i j : ℕ) → IsProcess (w .n) i → IsProcess (w .n) j
-      → r .process i .succeeding * edge w i j ≤ r .process j .succeeding + weight isSuc (r .link i j)
-  pub pre-kept : (i j : ℕ) → IsProcess (w .n) i → IsProcess (w .n) j
-      → r .process i .preceding * edge w j i ≤ r .process j .preceding + weight isPre (r .link i j)
+  pub sucs : Side w (λ x. x .succeeding) isSuc (λ i j. w .waits i j) (λ i. Reaches w s i) r
+  pub pres : Side w (λ x. x .preceding) isPre (λ i j. w .waits j i) (λ i. Reaches w i s) r
 
+-- cs of all processes and counts of all messages, by their parts above and below zero
 pub record Summed (w : Waits) (s : ℕ) (r : Run) : Type 0 where
   pub balance :
       sumOf (w .n) (λ x. above (x .cs)) r + total (w .n) aboveOf r ≡
       sumOf (w .n) (λ x. below (x .cs)) r + total (w .n) belowOf r + sumOf (w .n) (λ x. x .subordinate) r
   pub at-rest : (j : ℕ) → IsProcess (w .n) j → (j ≡ s → ⊥) → r .process j .num ≡ 0 → r .process j .cs ≡ pos 0
   pub falls : sumOf (w .n) (λ x. below (x .cs)) r + total (w .n) belowOf r ≤ sumTo (w .n) (λ i. bothOff s i (r .process i))
+
+-- those above, those of any check (Diffuses, Treed), and that the waits are sound
+pub record Holds (r : Run) : Type 0 where
+  pub sound : Sound (r .waits)
+  pub tidy : Tidy (r .waits) (r .start) r
+  pub diffusing : Diffuses (r .waits) (r .start) r
+  pub worked : Worked (r .waits) r
+  pub treed : Treed knot (r .waits) (r .start) r
+  pub spread : Spread (r .waits) (r .start) r
+  pub summed : Summed (r .waits) (r .start) r

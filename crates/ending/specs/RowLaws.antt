@@ -1,6 +1,6 @@
 -- The eight rows marked P of 01, proved together.
---   rows-hold       == each of the eight rows holds: one computation over the whole table
---   row-holds, row-runs   == the same of each row, as equations
+--   rows-hold       == the tests of all eight rows pass: one computation over the whole table
+--   row-holds       == each of the eight rows holds of the table that the writer makes of its waits
 -- Assumes nothing.
 use Prim.Native.Nat.{ℕ}
 use mathlib.Core.Bool.{Bool, true, false, not, false≢true}
@@ -9,10 +9,15 @@ use mathlib.Core.Path.{_≡_, refl, sym, ap, _∙_}
 use lib.Dec.{eqb}
 use lib.IntN.{ℤ, pos, negsuc}
 use borrow.Author.Tests.{eqb-true}
+use lib.ListN.{length, replicate, length-replicate}
 use Rattle.base.specs.Choice.{choose}
-use Rattle.base.specs.ChoiceLaws.{Tested, passed, failed, tested, and-left, and-right, and-three}
+use Rattle.base.specs.ChoiceLaws.{tested, and-left, and-right, and-three}
+use Rattle.base.specs.Checks.{Tested, passed, failed}
 use Rattle.base.specs.Sums.{sumTo, countTo, allTo, anyTo}
-use Rattle.tables.specs.Waits.{outDegree, inDegree, neighbours}
+use Rattle.tables.specs.Table.{fieldOf, isProcess}
+use Rattle.tables.specs.Waits.{Waits, waitsOf, outDegree, inDegree, neighbours}
+use Rattle.table_writer.specs.Writing.{end, given, endsFit, unlike, writeNumber, givenWaits, WrittenRight}
+use Rattle.table_writer.specs.WritingLaws.{written-right}
 use Rattle.machine.specs.declared.Ran.{Ran}
 use Rattle.machine.specs.declared.Ran.the-variants.{Spent}
 use Rattle.machine.specs.Machine.{allRight}
@@ -23,16 +28,19 @@ use Rattle.steps.specs.Step.{small, inRange, countSmall, rule1, setSucceeding, 
 use Rattle.steps.specs.Step.{startTurn, numSuffices, replyFits, fitting}
 use Rattle.checks.specs.declared.Verdict.{Verdict}
 use Rattle.checks.specs.declared.Verdict.the-variants.{Knot, Free}
+use Rattle.checks.specs.declared.Mark.{Mark}
+use Rattle.checks.specs.declared.Mark.the-variants.{Returned, Held}
 use Rattle.checks.specs.declared.Report.{Report}
 use Rattle.checks.specs.Run.{Run, over, fatherRight, wellFormed, started, turnOf, replyTo, probesTo, sentTo}
 use Rattle.checks.specs.Calls.{verdictOf, markOf, reported, report}
 use Rattle.checks.specs.Reach.{within, reaches, inKnot, outsider, outsiders, dOf}
-use Rattle.ending.specs.Rows.{PRow, rows, listed, waitsFrom, verdict, agree, isKnot, isAt, defined, ranOn, overAfter, reports, runs, holds, all}
+use Rattle.ending.specs.Rows.{PRow, rows, waitsFrom, tableSize, tableFrom, ranFrom, RowOfTable}
+use Rattle.ending.specs.RowTests.{agree, isKnot, isAt, defined, overAfter, reports, runs, writable, holds, all}
 
 -- ---- the eight rows
 
-pub rows-hold : all holds rows ≡ true
-unfolding all rows holds waitsFrom listed agree isKnot isAt defined ranOn overAfter reports runs
+rows-hold : all holds rows ≡ true
+unfolding all rows holds waitsFrom givenWaits given end writable writeNumber endsFit isProcess unlike agree isKnot isAt defined overAfter reports runs
     dOf inKnot outsiders outsider reaches within sumTo countTo allTo anyTo outDegree inDegree neighbours
     MachineCalls.runOn runFrom deliverOn lowest lowestSender lowestReceiver deliver delivered report reported
     Machines.over Machines.wellFormed fatherRight Machines.linkRight allRight Machines.startRun started Machines.after Machines.accepts Machines.taken
@@ -41,6 +49,16 @@ unfolding all rows holds waitsFrom listed agree isKnot isAt defined ranOn overAf
 rows-hold = refl
 
 -- ---- from tests to equations
+
+abbrev verdict : PRow → Verdict
+verdict x = choose (x .knot) Knot Free
+
+abbrev mark : PRow → Mark
+mark x = choose (x .knot) Returned Held
+
+mark-of : (b : Bool) → markOf (choose b Knot Free) ≡ choose b Returned Held
+mark-of true = refl
+mark-of false = refl
 
 all-at : (p : PRow → Bool) (xs : List PRow) → all p xs ≡ true → (x : PRow) → List·Memᴰ x xs → p x ≡ true
 unfolding all
@@ -74,7 +92,7 @@ overAfter-P d (Ran.Refused n made) h = absurd (false≢true h)
 
 -- a report passes the process that it names as escape on, and is the same else
 reports-P : (x : PRow) (r : Run) → reports x (report r 0) ≡ true → (e : ℕ)
-    → report r e ≡ Report.Over (x .d) (verdict x) (pos (x .outside)) e (markOf (verdict x))
+    → report r e ≡ Report.Over (x .d) (verdict x) (pos (x .outside)) e (mark x)
 unfolding report reported reports
 reports-P x r h e = at (tested (wellFormed r)) (tested (over r))
   where
@@ -82,12 +100,12 @@ reports-P x r h e = at (tested (wellFormed r)) (tested (over r))
     cs = r .process (r .start) .cs
 
     same : (eqb (r .count) (x .d) ≡ true) × (agree (isKnot (verdictOf cs)) (x .knot) ≡ true) × (isAt cs (x .outside) ≡ true)
-        → Report.Over (r .count) (verdictOf cs) cs e (markOf (verdictOf cs)) ≡ Report.Over (x .d) (verdict x) (pos (x .outside)) e (markOf (verdict x))
-    same t = cc (eqb-true (r .count) (x .d) t.0, verdict-P (verdictOf cs) (x .knot) t.1, isAt-P cs (x .outside) t.2)
+        → Report.Over (r .count) (verdictOf cs) cs e (markOf (verdictOf cs)) ≡ Report.Over (x .d) (verdict x) (pos (x .outside)) e (mark x)
+    same t = cc (eqb-true (r .count) (x .d) t.0, verdict-P (verdictOf cs) (x .knot) t.1, isAt-P cs (x .outside) t.2, mark-of (x .knot))
 
     at : Tested (wellFormed r) → Tested (over r)
         → choose (not (wellFormed r)) (Report.Refused 21) (choose (not (over r)) (Report.Refused 26) (reported r e))
-        ≡ Report.Over (x .d) (verdict x) (pos (x .outside)) e (markOf (verdict x))
+        ≡ Report.Over (x .d) (verdict x) (pos (x .outside)) e (mark x)
     at (failed f) _ = absurd (false≢true (rw f at h))
     at (passed f) (failed g) = absurd (false≢true (rw (f, g) at h))
     at (passed f) (passed g) =
@@ -95,22 +113,45 @@ reports-P x r h e = at (tested (wellFormed r)) (tested (over r))
 
 -- ---- each row
 
--- D, the verdict and outside of each row, by their definitions
-pub row-holds : (x : PRow) → List·Memᴰ x rows → (dOf (waitsFrom x) 1 ≡ x .d) × (inKnot (waitsFrom x) 1 ≡ x .knot) × (outsiders (waitsFrom x) 1 ≡ x .outside)
-unfolding holds defined
-row-holds x m =
-    let t : (eqb (dOf (waitsFrom x) 1) (x .d) ≡ true) × (agree (inKnot (waitsFrom x) 1) (x .knot) ≡ true) × (eqb (outsiders (waitsFrom x) 1)
-    (x .outside) ≡ true) = and-three (eqb (dOf (waitsFrom x) 1) (x .d)) (agree (inKnot (waitsFrom x) 1) (x .knot))
-    (eqb (outsiders (waitsFrom x) 1) (x .outside)) (and-left (defined x) (runs x) (all-at holds rows rows-hold x m)) in
-    (eqb-true _ _ t.0, agree-P _ _ t.1, eqb-true _ _ t.2)
+-- what the tests of a row say
+record Tests (x : PRow) : Type 0 where
+  d : dOf (waitsFrom x) 1 ≡ x .d
+  knot : inKnot (waitsFrom x) 1 ≡ x .knot
+  outside : outsiders (waitsFrom x) 1 ≡ x .outside
+  over : ranFrom (waitsFrom x) .answer ≡ Ran.Over (x .d)
+  reported : (e : ℕ) → report (ranFrom (waitsFrom x) .run) e ≡ Report.Over (x .d) (verdict x) (pos (x .outside)) e (mark x)
+  write : writeNumber (x .n) (x .waits) (tableSize x) ≡ 0
 
--- running on from the start makes D deliveries and is over, and the report then gives the row, whichever process it names as escape
-pub row-runs : (x : PRow) → List·Memᴰ x rows
-    → (ranOn x .answer ≡ Ran.Over (x .d)) × ((e : ℕ) → report (ranOn x .run) e ≡ Report.Over (x .d) (verdict x) (pos (x .outside)) e (markOf (verdict x)))
-unfolding holds runs
-row-runs x m =
-    let t : runs x ≡ true = and-right (defined x) (runs x) (all-at holds rows rows-hold x m) in (
-      overAfter-P (x .d) (ranOn x .answer) (and-left (overAfter (x .d) (ranOn x .answer)) (reports x (report (ranOn x .run) 0)) t),
-      reports-P x
-          (ranOn x .run) (and-right (overAfter (x .d) (ranOn x .answer)) (reports x (report (ranOn x .run) 0)) t),
-    )
+tests-of : (x : PRow) → List·Memᴰ x rows → Tests x
+unfolding holds defined runs writable
+tests-of x m =
+    let all3 = and-three (defined x) (runs x) (writable x) (all-at holds rows rows-hold x m) in
+    let ran : Bool = overAfter (x .d) (ranFrom (waitsFrom x) .answer) in
+    let told : Bool = reports x (report (ranFrom (waitsFrom x) .run) 0) in
+    let t = and-three (eqb (dOf (waitsFrom x) 1) (x .d)) (agree (inKnot (waitsFrom x) 1) (x .knot)) (eqb (outsiders (waitsFrom x) 1) (x .outside)) (all3 .0) in
+    record {
+      d = eqb-true _ _ (t .0);
+      knot = agree-P _ _ (t .1);
+      outside = eqb-true _ _ (t .2);
+      over = overAfter-P (x .d) (ranFrom (waitsFrom x) .answer) (and-left ran told (all3 .1));
+      reported = reports-P x (ranFrom (waitsFrom x) .run) (and-right ran told (all3 .1));
+      write = eqb-true _ _ (all3 .2);
+    }
+
+-- the eight rows, each of the table that the writer makes of its waits
+pub row-holds : (x : PRow) → List·Memᴰ x rows → RowOfTable x (tableFrom x)
+unfolding tableFrom waitsFrom
+row-holds x m =
+    let t : Tests x = tests-of x m in
+    let size : length {A = ℕ} (replicate (tableSize x) 0) ≡ tableSize x = length-replicate {A = ℕ} (tableSize x) 0 in
+    let right : WrittenRight (x .n) (x .waits) (tableFrom x) = written-right (x .n) (x .waits) (replicate (tableSize x) 0) (rw size (t .write)) in
+    let w : waitsOf (fieldOf (tableFrom x)) ≡ waitsFrom x = right .waits-are in
+    record {
+      accepted = right .accepted;
+      waits = w;
+      d = ap (λ (v : Waits). dOf v 1) w ∙ t .d;
+      knot = ap (λ (v : Waits). inKnot v 1) w ∙ t .knot;
+      outside = ap (λ (v : Waits). outsiders v 1) w ∙ t .outside;
+      over = ap (λ (v : Waits). ranFrom v .answer) w ∙ t .over;
+      reported = λ e. ap (λ (v : Waits). report (ranFrom v .run) e) w ∙ t .reported e;
+    }

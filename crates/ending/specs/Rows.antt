@@ -1,37 +1,39 @@
--- The eight rows marked P of 01, "Checks at the start from process 1 (P = to be proved)". RowLaws proves them together.
+-- The eight rows marked P of 01, "Checks at the start from process 1 (P = to be proved)". RowLaws proves them together: row-holds says that
+-- each row of the list holds of the table that the writer makes of its waits.
 --   PRow            == a row: N, waits, D, verdict (knot or not), outside
 --   rows            == the eight rows
---   waitsFrom x     == the waits of a row: from waits for to if some pair of its list says so
---   defined x       == the definitions of D, of knot and of outside give what the row says
---   ranOn x         == the check from process 1, run on to the end
---   runs x          == it is over after D deliveries, and its report gives what the row says
---   holds x         == both
+--   waitsFrom x, tableFrom x   == the waits of a row, and the table that the writer makes of its list
+--   ranFrom w       == the check from process 1, run on to the end
+--   RowOfTable x bs == the bytes bs are a table with the row's waits, and all that the row says holds of it
 -- Assumes nothing.
 use Prim.Native.Nat.{ℕ}
-use mathlib.Core.Bool.{Bool, true, false, not, _&&_, _||_}
+use mathlib.Core.Bool.{Bool, true, false}
 use mathlib.Core.List.{List, [], _∷_}
-use lib.Dec.{eqb}
-use lib.IntN.{ℤ, pos, negsuc}
+use mathlib.Core.Path.{_≡_}
+use lib.ListN.{take, replicate}
+use lib.IntN.{pos}
 use Rattle.base.specs.Choice.{choose}
-use Rattle.tables.specs.Waits.{Waits}
+use Rattle.tables.specs.Table.{fieldOf, tableLength}
+use Rattle.tables.specs.Layout.{MeetsLayout}
+use Rattle.tables.specs.Waits.{Waits, waitsOf}
+use Rattle.table_writer.specs.Writing.{pairs, givenWaits, written}
 use Rattle.machine.specs.declared.Ran.{Ran}
-use Rattle.machine.specs.declared.Ran.the-variants.{Spent}
 use Rattle.machine.specs.Calls.{RanOn}
 use Rattle.steps.specs.declared.Message.{Message}
 use Rattle.steps.specs.declared.Process.{Process}
-use Rattle.checks.specs.declared.Verdict.{Verdict}
 use Rattle.checks.specs.declared.Verdict.the-variants.{Knot, Free}
+use Rattle.checks.specs.declared.Mark.the-variants.{Returned, Held}
 use Rattle.checks.specs.declared.Report.{Report}
-use Rattle.checks.specs.Run.{startRun}
+use Rattle.checks.specs.Run.{mostDeliveries, startRun}
 use Rattle.checks.specs.Calls.{runOn, report}
 use Rattle.checks.specs.Reach.{inKnot, outsiders, dOf}
 
 -- ---- the table
 
--- "N | waits | D | verdict | outside"
+-- "N | waits | D | verdict | outside"; the waits as the writer takes them, from and to by turns
 pub record PRow : Type 0 where
   pub n : ℕ
-  pub waits : List (ℕ × ℕ)
+  pub waits : List ℕ
   pub d : ℕ
   pub knot : Bool
   pub outside : ℕ
@@ -39,66 +41,37 @@ pub record PRow : Type 0 where
 unfoldable pub rows : List PRow
 rows =
     record { n = 1; waits = []; d = 0; knot = true; outside = 0 } ∷
-    record { n = 1; waits = (1, 1) ∷ []; d = 4; knot = true; outside = 0 } ∷
-    record { n = 2; waits = (1, 2) ∷ []; d = 2; knot = false; outside = 1 } ∷
-    record { n = 2; waits = (2, 1) ∷ []; d = 2; knot = true; outside = 0 } ∷
-    record { n = 2; waits = (1, 2) ∷ (2, 1) ∷ []; d = 8; knot = true; outside = 0 } ∷
-    record { n = 3; waits = (1, 2) ∷ (2, 3) ∷ (3, 1) ∷ []; d = 12; knot = true; outside = 0 } ∷
-    record { n = 3; waits = (1, 2) ∷ (2, 1) ∷ (2, 3) ∷ []; d = 10; knot = false; outside = 1 } ∷
-    record { n = 3; waits = (1, 2) ∷ (2, 3) ∷ (3, 2) ∷ []; d = 6; knot = false; outside = 2 } ∷ []
+    record { n = 1; waits = 1 ∷ 1 ∷ []; d = 4; knot = true; outside = 0 } ∷
+    record { n = 2; waits = 1 ∷ 2 ∷ []; d = 2; knot = false; outside = 1 } ∷
+    record { n = 2; waits = 2 ∷ 1 ∷ []; d = 2; knot = true; outside = 0 } ∷
+    record { n = 2; waits = 1 ∷ 2 ∷ 2 ∷ 1 ∷ []; d = 8; knot = true; outside = 0 } ∷
+    record { n = 3; waits = 1 ∷ 2 ∷ 2 ∷ 3 ∷ 3 ∷ 1 ∷ []; d = 12; knot = true; outside = 0 } ∷
+    record { n = 3; waits = 1 ∷ 2 ∷ 2 ∷ 1 ∷ 2 ∷ 3 ∷ []; d = 10; knot = false; outside = 1 } ∷
+    record { n = 3; waits = 1 ∷ 2 ∷ 2 ∷ 3 ∷ 3 ∷ 2 ∷ []; d = 6; knot = false; outside = 2 } ∷ []
 
--- some pair of the list has these ends
-unfoldable pub listed : List (ℕ × ℕ) → ℕ → ℕ → Bool
-listed [] a b = false
-listed (x ∷ xs) a b = (eqb (x .0) a && eqb (x .1) b) || listed xs a b
-
+-- the waits of a row, and its table: what the writer makes of N and the list
 unfoldable pub waitsFrom : PRow → Waits
-waitsFrom x = record { n = x .n; waits = λ a b. listed (x .waits) a b }
+waitsFrom x = givenWaits (x .n) (x .waits)
 
--- "verdict": knot, or none
-abbrev pub verdict : PRow → Verdict
-verdict x = choose (x .knot) Knot Free
+abbrev pub tableSize : PRow → ℕ
+tableSize x = tableLength (x .n) (pairs (x .waits))
 
--- ---- the tests
+unfoldable pub tableFrom : PRow → List ℕ
+tableFrom x = take (tableSize x) (written (x .n) (x .waits) (replicate (tableSize x) 0))
 
-unfoldable pub agree : Bool → Bool → Bool
-agree true b = b
-agree false b = not b
+-- start at process 1, then running on for as many deliveries as a run may have
+abbrev pub ranFrom : Waits → RanOn Process Message
+ranFrom w = runOn mostDeliveries (startRun w 1)
 
-unfoldable pub isKnot : Verdict → Bool
-isKnot Knot = true
-isKnot Free = false
+-- ---- a row of an accepted table
 
--- an integer is this number
-unfoldable pub isAt : ℤ → ℕ → Bool
-isAt (pos n) k = eqb n k
-isAt (negsuc n) k = false
-
--- D, the verdict and outside, by their definitions
-unfoldable pub defined : PRow → Bool
-defined x =
-    eqb (dOf (waitsFrom x) 1) (x .d) && agree (inKnot (waitsFrom x) 1) (x .knot) && eqb (outsiders (waitsFrom x) 1) (x .outside)
-
--- start at process 1, then running on: no run has more deliveries than 2048
-unfoldable pub ranOn : PRow → RanOn Process Message
-ranOn x = runOn 2048 (startRun (waitsFrom x) 1)
-
-unfoldable pub overAfter : ℕ → Ran → Bool
-overAfter d (Ran.Over made) = eqb made d
-overAfter d (Spent made) = false
-overAfter d (Ran.Refused n made) = false
-
--- a report with the row's values, whichever process it names as escape
-unfoldable pub reports : PRow → Report → Bool
-reports x (Report.Over d v o e m) = eqb d (x .d) && agree (isKnot v) (x .knot) && isAt o (x .outside)
-reports x (Report.Refused n) = false
-
-unfoldable pub runs : PRow → Bool
-runs x = overAfter (x .d) (ranOn x .answer) && reports x (report (ranOn x .run) 0)
-
-unfoldable pub holds : PRow → Bool
-holds x = defined x && runs x
-
-unfoldable pub all : (PRow → Bool) → List PRow → Bool
-all p [] = true
-all p (x ∷ xs) = p x && all p xs
+-- the bytes are a table with the row's waits, and D, verdict and outside are the row's, by the definitions and by running the check
+pub record RowOfTable (x : PRow) (bs : List ℕ) : Type 0 where
+  pub accepted : MeetsLayout bs
+  pub waits : waitsOf (fieldOf bs) ≡ waitsFrom x
+  pub d : dOf (waitsOf (fieldOf bs)) 1 ≡ x .d
+  pub knot : inKnot (waitsOf (fieldOf bs)) 1 ≡ x .knot
+  pub outside : outsiders (waitsOf (fieldOf bs)) 1 ≡ x .outside
+  pub over : ranFrom (waitsOf (fieldOf bs)) .answer ≡ Ran.Over (x .d)
+  pub reported : (e : ℕ) → report (ranFrom (waitsOf (fieldOf bs)) .run) e
+      ≡ Report.Over (x .d) (choose (x .knot) Knot Free) (pos (x .outside)) e (choose (x .knot) Returned Held)

@@ -18,23 +18,30 @@ use Rattle.steps.specs.declared.Process.{Process}
 use Rattle.steps.specs.Effect.{countOf, both}
 use Rattle.checks.specs.Run.{Run, knot}
 
+-- a wait, as a number
 abbrev pub edge : Waits → ℕ → ℕ → ℕ
 edge w a b = bit (w .waits a b)
 
+-- a succeeding process has sent suc to each that it waits for, a preceding one pre to each that waits for it
 unfoldable pub quota : Quota Process
 quota w i j x = x .succeeding * edge w i j + x .preceding * edge w j i
 
+-- the same over all pairs, by the degrees of each process
 unfoldable pub sends : Waits → Run → ℕ
 sends w r = sumTo (w .n) (λ i. r .process i .succeeding * outDegree w i + r .process i .preceding * inDegree w i)
 
+-- the count of an acknowledgement; that of a probe is 0
 abbrev pub aboveOf : Message → ℕ
 aboveOf m = above (countOf m)
 
+-- the same below zero
 abbrev pub belowOf : Message → ℕ
 belowOf m = below (countOf m)
 
+-- the start has both flags from the first on, and is not counted
 unfoldable pub bothOff : ℕ → ℕ → Process → ℕ
 bothOff s i x = choose (eqb i s) 0 (both x)
 
+-- what any check keeps (machine, Diffusing), by this check's rules and quota
 abbrev pub Diffuses : Waits → ℕ → Run → Type 0
 Diffuses w s r = Diffusing knot quota w s r

@@ -17,7 +17,7 @@ use lib.IntN.{ℤ}
 use lib.ListN.{length, take, drop, getD, length-drop}
 use lib.Seq.{take-all, getD-drop}
 use Rattle.tables.specs.TableLaws.{fieldOf-small}
-use Rattle.tables.specs.Table.{fieldOf}
+use Rattle.tables.specs.Table.{fieldOf, mostProcesses, mostArcs}
 use Rattle.tables.specs.Layout.{Sizes}
 use Rattle.starting.specs.declared.Started.{Started}
 use Rattle.starting.specs.StartCall.{startNumber, startedBy, startAnswer, startArea}
@@ -60,13 +60,13 @@ module _ (bs : List ℕ) where
     pub split-2-none : n ≡ 0 → Splitting.Refused 2 ≡ splitOf bs
     split-2-none h = refused 1 (row-2 l u (λ s. omega (arith, n-is)))
 
-    pub split-2-many : 128 < n → Splitting.Refused 2 ≡ splitOf bs
+    pub split-2-many : mostProcesses < n → Splitting.Refused 2 ≡ splitOf bs
     split-2-many h = refused 1 (row-2 l u (λ s. omega (arith, n-is)))
 
-    pub split-2-arcs : 512 < m → Splitting.Refused 2 ≡ splitOf bs
+    pub split-2-arcs : mostArcs < m → Splitting.Refused 2 ≡ splitOf bs
     split-2-arcs h = refused 1 (row-2 l u (λ s. omega (arith, m-is)))
 
-    module _ (d : n ≡ 0 → ⊥) (h : n ≤ 128) (k : m ≤ 512) where
+    module _ (d : n ≡ 0 → ⊥) (h : n ≤ mostProcesses) (k : m ≤ mostArcs) where
       sizes : Sizes (tableFields bs)
       sizes = (omega (arith, n-is), omega (arith, n-is), omega (arith, m-is))
 

@@ -8,12 +8,10 @@
 --   inputNumber bs      == "The program checks 13, 1, 2, 3, 12": the first that is met, 0 if none is
 --   FirstMet bs r       == r is the first row that the input meets, in the same order, each row in 01's words; 0 if it meets none
 --   splitOf bs          == the answer of splitting the input: its parts, or refused with the number
---   splitNumber         == 01's number for each case of that answer
 --   pickFrom bs j, pickTo bs j   == the two ends that pick j names, counted from 0
 --   pickIn bs j         == that pick
 --   begunNumber bs w    == the same checks, "then 4 to 8": start on the input's table (its 9 if the words are too few)
 --   begunOf bs w        == the answer: ready, with where the picks begin and how many there are, or refused with the number
---   begunAnswerNumber   == 01's number for each case of that answer
 --   begunArea bs w      == the area that this leaves
 --   ZeroOr a h n        == n is 0, or a to h
 -- Assumes nothing.
@@ -79,18 +77,13 @@ pub data FirstMet (bs : List ℕ) : ℕ → Type 0 where
       FirstMet bs 12
   no-row : length bs ≤ 20480 → Sizes (tableFields bs) → tableEnd bs + 4 * picksIn bs ≡ length bs → FirstMet bs 0
 
--- the answer: the start process, where the table ends, and the number of picks
+-- 01's number and the values for each case of the answer: 0 with the start process, where the table ends, and the number of picks
 unfoldable pub splitBy : ℕ → List ℕ → Splitting
 splitBy zero bs = Splitting.Parts (startIn bs) (tableEnd bs) (picksIn bs)
 splitBy (suc n) bs = Splitting.Refused (suc n)
 
 unfoldable pub splitOf : List ℕ → Splitting
 splitOf bs = splitBy (inputNumber bs) bs
-
--- 01's number for each case of the answer
-abbrev pub splitNumber : Splitting → ℕ
-splitNumber (Splitting.Parts s e k) = 0
-splitNumber (Splitting.Refused n) = n
 
 -- pick j, counted from 0: its sender and its receiver
 unfoldable pub pickFrom : List ℕ → ℕ → ℕ
@@ -106,18 +99,13 @@ pickIn bs j = record { from = pickFrom bs j; to = pickTo bs j }
 unfoldable pub begunNumber : List ℕ → List ℤ → ℕ
 begunNumber bs w = choose (eqb (inputNumber bs) 0) (startNumber (tableIn bs) (startIn bs) w) (inputNumber bs)
 
--- the answer: where the picks begin, and how many there are
+-- 01's number and the values for each case of the answer: 0 with where the picks begin, and how many there are
 unfoldable pub begunBy : ℕ → List ℕ → Begun
 begunBy zero bs = Begun.Ready (tableEnd bs) (picksIn bs)
 begunBy (suc n) bs = Begun.Refused (suc n)
 
 unfoldable pub begunOf : List ℕ → List ℤ → Begun
 begunOf bs w = begunBy (begunNumber bs w) bs
-
--- 01's number for each case of the answer
-abbrev pub begunAnswerNumber : Begun → ℕ
-begunAnswerNumber (Begun.Ready e k) = 0
-begunAnswerNumber (Begun.Refused n) = n
 
 -- the area that a begun program leaves; a refusal changes no word
 unfoldable pub begunArea : List ℕ → List ℤ → List ℤ

@@ -8,6 +8,8 @@
 --   table-length      == its table has exactly the length that its own N and M ask
 --   table-read        == so reading the table checks 4 to 7 only
 --   then-4-to-8       == "then 4 to 8": what start says of that table, in words enough for any table
+--   begun-started     == a begun input is not refused, its start is accepted, and the area is the one that its start leaves
+--   begun-kept        == a refused input changes no word
 --   example-split, example-pick   == 01's own input
 -- Assumes nothing.
 use Prim.Native.Nat.{ℕ, suc, _+_, _-_, _*_, _/_, _%_, _≤_, _<_}
@@ -17,24 +19,25 @@ use mathlib.Core.Logic.{inl, inr, ⊎-elim, _↔_}
 use mathlib.Core.Path.{_≡_, refl, ap, _∙_}
 use native.Mathlib.Omega.{arith}
 use borrow.Author.Tests.{lt-ltb, le-ltb, eq-eqb, ne-eqb}
-use lib.Dec.{eqb, leb, ltb}
+use lib.Dec.{eqb, leb}
 use lib.IntN.{ℤ}
 use lib.ListN.{length, getD, take, drop, length-drop}
 use lib.Seq.{getD-drop, getD-take, length-take-le}
 use Rattle.base.specs.Choice.{choose}
-use Rattle.base.specs.ChoiceLaws.{Same, same, apart, same?}
+use Rattle.base.specs.ChoiceLaws.{same?}
+use Rattle.base.specs.Checks.{Same, same, apart}
 use Rattle.base.specs.Checks.{Check, holds, fails}
 use Rattle.base.specs.CheckLaws.{check-map, check-le, check-both}
 use Rattle.base.specs.Sums.{allTo}
 use Rattle.tables.specs.declared.Chain.the-variants.{Out, In}
-use Rattle.tables.specs.Table.{Fields, fieldOf, nOf, mOf, tableLength, isProcess}
+use Rattle.tables.specs.Table.{Fields, fieldOf, nOf, mOf, mostProcesses, mostArcs, tableLength, isProcess}
 use Rattle.tables.specs.Layout.{Sizes}
 use Rattle.tables.specs.Reading.{chainsRight, sizesRight, endsRight, firstsRight, nextsRight, unlikeBefore, fieldsNumber, readNumber}
 use Rattle.areas.specs.Places.{areaLength}
-use Rattle.starting.specs.StartCall.{startNumber}
+use Rattle.starting.specs.StartCall.{startNumber, startArea}
 use Rattle.inputs.specs.declared.Splitting.{Splitting}
 use Rattle.inputs.specs.Input.{startIn, tableFields, tableEnd, tableIn, picksIn, inputNumber, FirstMet, row-13, row-1, row-2, row-3, row-12}
-use Rattle.inputs.specs.Input.{no-row, splitBy, splitOf, pickFrom, pickTo, pickIn, ZeroOr}
+use Rattle.inputs.specs.Input.{no-row, splitBy, splitOf, pickFrom, pickTo, pickIn, begunNumber, begunArea, ZeroOr}
 
 -- ---- fields
 
@@ -58,7 +61,7 @@ check-sizes : (t : Fields) → Check (sizesRight t) (Sizes t) (Sizes t → ⊥)
 unfolding sizesRight
 check-sizes t =
     check-map (λ p. (p .0 .0, p .0 .1, p .1)) (λ r s. ⊎-elim (λ q. ⊎-elim (λ h. omega arith) (λ h. omega arith) q) (λ h. omega arith) r)
-    (check-both (check-both (check-le 1 (nOf t)) (check-le (nOf t) 128)) (check-le (mOf t) 512))
+    (check-both (check-both (check-le 1 (nOf t)) (check-le (nOf t) mostProcesses)) (check-le (mOf t) mostArcs))
 
 sizes-right : (t : Fields) → Sizes t → sizesRight t ≡ true
 sizes-right t s = at (check-sizes t)
@@ -225,8 +228,8 @@ module _ (bs : List ℕ) (e : inputNumber bs ≡ 0) (s : ℕ) (w : List ℤ) whe
   read-range : (h : ℕ) → 7 ≤ h → ZeroOr 4 h (readNumber (tableIn bs))
   read-range h l = wider 4 7 h (readNumber (tableIn bs)) l (rw (table-read bs e) (fields-range (fieldOf (tableIn bs))))
 
-  -- 11,280 words are enough for any table
-  pub then-4-to-8 : 11280 ≤ length w → ZeroOr 4 8 (startNumber (tableIn bs) s w)
+  -- the words of the largest area are enough for any table
+  pub then-4-to-8 : areaLength mostProcesses mostArcs ≤ length w → ZeroOr 4 8 (startNumber (tableIn bs) s w)
   unfolding startNumber
   then-4-to-8 h =
       let t : Fields = fieldOf (tableIn bs) in
@@ -235,6 +238,27 @@ module _ (bs : List ℕ) (e : inputNumber bs ≡ 0) (s : ℕ) (w : List ℤ) whe
       rw (le-ltb (length w) (areaLength (nOf t) (mOf t)) long)
       (choose-range 4 8 (not (eqb (readNumber (tableIn bs)) 0)) (readNumber (tableIn bs)) _ (read-range 8 (omega arith))
       (row-range 4 8 (not (isProcess (nOf t) s)) 8 0 (omega arith) (omega arith) (inl refl)))
+
+-- ---- beginning
+
+module _ (bs : List ℕ) (w : List ℤ) where
+  pub begun-started : begunNumber bs w ≡ 0
+      → (inputNumber bs ≡ 0) × (startNumber (tableIn bs) (startIn bs) w ≡ 0) × (begunArea bs w ≡ startArea (tableIn bs) (startIn bs) w)
+  unfolding begunNumber begunArea
+  begun-started z = at (same? (inputNumber bs) 0)
+    where
+      at : Same (inputNumber bs) 0
+          → (inputNumber bs ≡ 0) × (startNumber (tableIn bs) (startIn bs) w ≡ 0) × (begunArea bs w ≡ startArea (tableIn bs) (startIn bs) w)
+      at (same e q) = (e, rw q at z, rw q)
+      at (apart d q) = absurd (d (rw q at z))
+
+  pub begun-kept : (begunNumber bs w ≡ 0 → ⊥) → begunArea bs w ≡ w
+  unfolding begunNumber begunArea startArea
+  begun-kept d = at (same? (inputNumber bs) 0)
+    where
+      at : Same (inputNumber bs) 0 → begunArea bs w ≡ w
+      at (same e q) = rw q (rw (ne-eqb (startNumber (tableIn bs) (startIn bs) w) 0 (λ z. d (rw q z))))
+      at (apart f q) = rw q
 
 -- ---- 01's own input: start 1, the table of one wait, 1 for 2, and one pick, 1 to 2
 

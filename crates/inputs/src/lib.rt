@@ -5,6 +5,9 @@ ghost use mathlib.Core.Path.{_≡_};
 ghost use Prim.Native.Nat.{_<_};
 ghost use Rattle.inputs.specs.Input.{tableEnd, picksIn, splitOf, pickIn, begunOf, begunArea};
 
+// The most bytes that an input may have: `longest` in specs/. One more is "input over 20,480 bytes".
+pub const LONGEST: usize = 20480;
+
 // The answer of splitting: the start process, where the table ends and the picks begin, and the number of picks; or the number of the refusal.
 pub enum Splitting {
     Parts {
@@ -32,7 +35,7 @@ fn split(input: &[u8]) -> Splitting
     ensures { λ r. ⌜ r ≡ splitOf (now (input .entry)) ⌝ }
 {
     let length = input.len();
-    if length > 20480 {
+    if length > LONGEST {
         return Splitting::Refused(13);
     }
     if length < 6 {
@@ -44,10 +47,10 @@ fn split(input: &[u8]) -> Splitting
     if n == 0 {
         return Splitting::Refused(2);
     }
-    if n > 128 {
+    if n > tables::MOST_PROCESSES {
         return Splitting::Refused(2);
     }
-    if m > 512 {
+    if m > tables::MOST_ARCS {
         return Splitting::Refused(2);
     }
     let end = 6 + 4 * n + 8 * m;

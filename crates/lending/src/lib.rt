@@ -1,5 +1,6 @@
 // One process record, lent with one message and updated by the step of a process other than the start (01, section "Steps").
-// step_value decides, by value and with steps::step; step_record takes the record by &mut and only stores what it is given.
+// step_value decides, by value and with steps::step; step_record takes the record by &mut and only stores what it is given; lend has a
+// record of its own to lend, for callers that hold none behind a reference.
 use steps::Message;
 use steps::Probes;
 use steps::Process;
@@ -7,7 +8,7 @@ use steps::Reply;
 use steps::Stepped;
 ghost use mathlib.Core.Path.{_≡_};
 ghost use Rattle.steps.specs.Step.{stepped};
-ghost use Rattle.lending.specs.Lent.{lentAnswer, lentRecord};
+ghost use Rattle.lending.specs.Lent.{lentAnswer, lentRecord, lentOutcome};
 
 // The answer of a step on a lent record: what it sends, or the number of the refusal.
 pub enum Lent {
@@ -15,8 +16,8 @@ pub enum Lent {
     Refused(u32),
 }
 
-// The record to store and the answer.
-struct Outcome {
+// The record afterwards and the answer.
+pub struct Outcome {
     pub process: Process,
     pub answer: Lent,
 }
@@ -67,4 +68,18 @@ pub fn step_record(
     let outcome = step_value(before, message, out_degree, in_degree, sender);
     *process = outcome.process;
     outcome.answer
+}
+
+// The same on a record that is given by value: it is lent here.
+pub fn lend(
+    mut process: Process,
+    message: Message,
+    out_degree: u32,
+    in_degree: u32,
+    sender: u32,
+) -> Outcome
+    ensures { λ r. ⌜ r ≡ lentOutcome process (stepped message «out_degree» «in_degree» sender process) ⌝ }
+{
+    let answer = step_record(&mut process, message, out_degree, in_degree, sender);
+    Outcome { process, answer }
 }

@@ -23,7 +23,8 @@ use lib.Signed.{mag}
 use mir.Syntax.{w32}
 use mir.Val.{toZ, ofZ}
 use Rattle.base.specs.Choice.{bit}
-use Rattle.base.specs.ChoiceLaws.{bit-≤1, Same, same, apart, same?, Tested, passed, failed, tested, bit-same, bit-apart, bit-some}
+use Rattle.base.specs.ChoiceLaws.{bit-≤1, same?, tested, bit-same, bit-apart, bit-some}
+use Rattle.base.specs.Checks.{Same, same, apart, Tested, passed, failed}
 use Rattle.base.specs.Sums.{allTo}
 use Rattle.base.specs.SumLaws.{allTo-of}
 use Rattle.base.specs.Counts.{sumOver}
@@ -31,14 +32,15 @@ use Rattle.base.specs.PrefixLaws.{allTo-stop}
 use Rattle.tables.specs.declared.Arc.{Arc}
 use Rattle.tables.specs.declared.Chain.{Chain}
 use Rattle.tables.specs.declared.Chain.the-variants.{Out, In}
-use Rattle.tables.specs.Table.{Fields, nOf, mOf, first, arcAt, next, IsProcess}
+use Rattle.tables.specs.Table.{Fields, nOf, mOf, fieldTotal, IsProcess, first, arcAt, next}
 use Rattle.tables.specs.Layout.{IsArc, Right}
 use Rattle.tables.specs.Waits.{waitsOf}
 use Rattle.tables.specs.Chains.{Follows, along, met, far, joins, degree}
-use Rattle.tables.specs.ChainLaws.{Onward, follows-on, follows-end, follows-along}
+use Rattle.tables.specs.ChainLaws.{follows-on, follows-end, follows-along}
+use Rattle.tables.specs.ChainFacts.{Onward}
 use Rattle.tables.specs.MetLaws.{met-listed, met-each, met-length}
 use Rattle.steps.proofs.Counts.{signed-back}
-use Rattle.areas.specs.Places.{fieldTotal, fieldPlace}
+use Rattle.areas.specs.Places.{fieldPlace}
 use Rattle.areas.specs.Area.{fieldsIn}
 use Rattle.areas.specs.Squares.{joinsBy}
 use Rattle.areas.specs.RunInLaws.{fieldsIn-at}

@@ -1,6 +1,7 @@
 -- What the code of a delivery reads off a tested area: the start, the records, and the oldest message on a link.
 --   start-is, count-is        == what `number` says of the words of the start and of the count
 --   start-right, process-right   == the start is a process, and the record of a process is in range
+--   num-is                    == what `number` says of the word of num in a record
 --   link-none, link-here      == the messages on a link: none between two who are not neighbours, else those of its words
 --   first-none, first-some, first-fits   == the first word of a link: 0 if nothing waits there, else the oldest message; it has 16 bits
 -- Assumes nothing.
@@ -16,16 +17,19 @@ use lib.IntN.{ℤ, pos, negsuc, natAbs}
 use lib.Signed.{mag}
 use mir.Syntax.{w32}
 use mir.Val.{toZ, ofZ}
+use Rattle.tables.specs.Table.{mostProcesses}
 use Rattle.machine.specs.Machine as Machines
 use Rattle.base.specs.ChoiceLaws.{and-left}
 use Rattle.tables.specs.Waits.{neighbours}
 use Rattle.steps.specs.declared.Message.{Message}
+use Rattle.steps.specs.declared.Process.{Process}
 use Rattle.steps.specs.declared.Message.the-variants.{Suc, Pre, Ack}
-use Rattle.steps.specs.Step.{small, inRange, countSmall}
+use Rattle.steps.specs.Step.{mostCount, small, inRange, countSmall}
 use Rattle.checks.specs.Run.{countsSmall, knot}
 use Rattle.machine.specs.FormedLaws.{wellFormed-P}
 use Rattle.checks.specs.RunLaws.{formed-range}
-use Rattle.areas.specs.Places.{mostProcesses, startPlace, countPlace, linkSlots}
+use Rattle.areas.specs.Places.{startPlace, countPlace, numPlace, recordStart}
+use Rattle.areas.specs.Used.{linkSlots}
 use Rattle.areas.specs.Area.{linkOf, codeOf, slotWord, fieldsIn, messageOf, messagesAt, runIn}
 use Rattle.areas.specs.Squares.{joinedBy, placeBy}
 use Rattle.areas.specs.RunInLaws.{runIn-contained}
@@ -34,7 +38,7 @@ use Rattle.areas.specs.SquareLaws.{joinedBy-is}
 use Rattle.lenses.specs.Ready.{Ready}
 use Rattle.lenses.specs.ReadyLaws.{right-storable, ready-n}
 use Rattle.lenses.specs.ChangeLaws.{link-right}
-use Rattle.lenses.proofs.Stores.{link-is, slot-word, link-place}
+use Rattle.lenses.proofs.Stores.{read-process, link-is, slot-word, link-place}
 use Rattle.steps.proofs.Counts.{signed-back}
 
 -- the word of a message whose count is in range has 16 bits
@@ -42,9 +46,9 @@ code-fits : (m : Message) → countSmall m ≡ true → natAbs (codeOf m) ≤ 65
 unfolding codeOf countSmall small
 code-fits Suc e = omega arith
 code-fits Pre e = omega arith
-code-fits (Ack (pos n)) e = omega (arith, leb-true n 128 e)
+code-fits (Ack (pos n)) e = omega (arith, leb-true n mostCount e)
 code-fits (Ack (negsuc n)) e =
-    let l : suc n ≤ mostProcesses = leb-true (suc n) 128 e in
+    let l : suc n ≤ mostCount = leb-true (suc n) mostCount e in
     rw (le-ltb 256 (suc n) (omega arith)) (omega arith)
 
 slot-fits : (ms : List Message) → countsSmall ms ≡ true → natAbs (slotWord ms 0) ≤ 65535
@@ -68,6 +72,12 @@ module _ {w : List ℤ} {sq : List ℕ} {n m : ℕ} (y : Ready w sq n m) where
   start-right =
       let g = wellFormed-P knot (runIn w) .0 (right-storable w (y .right) .formed) in
       (g .start-in .0, omega (arith, g .start-in, ready-n y))
+
+  -- what `number` says of the word of num in a record
+  pub num-is : {r p k : ℕ} → (1 ≤ p) × (p ≤ n) → k ≡ recordStart n m p → mag (getD w (k + numPlace) (pos 0)) < 2 ^ 31
+      → r ≡ natAbs (toZ w32 (ofZ w32 (getD w (k + numPlace) (pos 0)))) → r ≡ runIn w .process p .num
+  num-is {k = k} l e h f =
+      (rw (signed-back (getD w (k + numPlace) (pos 0)) h) at f) ∙ ap (λ (x : Process). x .num) (read-process y l e)
 
   pub process-right : (p : ℕ) → 1 ≤ p → p ≤ n → inRange (runIn w .process p) ≡ true
   process-right p l u = formed-range (wellFormed-P knot (runIn w) .0 (right-storable w (y .right) .formed)) p (l, omega (arith, ready-n y))

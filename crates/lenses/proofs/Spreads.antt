@@ -16,18 +16,19 @@ use lib.Dec.{eqb, leb}
 use lib.ListN.{length}
 use lib.IntN.{ℤ}
 use Rattle.base.specs.Choice.{choose, bit}
-use Rattle.base.specs.ChoiceLaws.{Same, same, apart, same?, Tested, passed, failed, tested, bit-same, bit-apart}
+use Rattle.base.specs.ChoiceLaws.{same?, tested, bit-same, bit-apart}
+use Rattle.base.specs.Checks.{Same, same, apart, Tested, passed, failed}
 use Rattle.base.specs.Counts.{sumOver}
 use Rattle.tables.specs.declared.Arc.{Arc}
 use Rattle.tables.specs.declared.Chain.{Chain}
-use Rattle.tables.specs.Table.{Fields, first, arcAt, next}
+use Rattle.tables.specs.Table.{Fields, mostProcesses, first, arcAt, next}
 use Rattle.tables.specs.Waits.{Waits, waitsOf, neighbours}
 use Rattle.tables.specs.Sound.{Sound}
 use Rattle.tables.specs.Chains.{far, joins}
 use Rattle.steps.specs.declared.Message.{Message}
 use Rattle.steps.specs.Step.{countSmall}
 use Rattle.checks.specs.Run.{Run, one}
-use Rattle.areas.specs.Places.{mostProcesses, linkSlots}
+use Rattle.areas.specs.Used.{linkSlots}
 use Rattle.areas.specs.Area.{fieldsIn, runIn, keeping}
 use Rattle.areas.specs.Replaced.{putLink}
 use Rattle.areas.specs.RunInLaws.{runIn-contained}

@@ -15,10 +15,13 @@ use native.Mathlib.Omega.{arith}
 use lib.ListN.{length, getD, set}
 use lib.Seq.{sets}
 use lib.IntN.{ℤ, pos}
+use Rattle.tables.specs.Table.{mostProcesses, mostArcs}
 use Rattle.tables.specs.Waits.{Waits, waitsOf, neighbours}
 use Rattle.steps.specs.declared.Message.{Message}
 use Rattle.steps.specs.declared.Process.{Process}
-use Rattle.areas.specs.Places.{mostProcesses, mostArcs, countPlace, recordUsed, recordStart, linkSlots, linkSize, areaLength}
+use Rattle.areas.specs.Places.{countPlace, recordStart, linkSize, areaLength}
+use Rattle.areas.specs.Used.{linkSlots}
+use Rattle.areas.specs.Used.{recordUsed}
 use Rattle.areas.specs.Area.{recordPlace, linkOf, codeOf, slotWord, fieldsIn, recordAt, messagesAt, runIn, keeping}
 use Rattle.areas.specs.Replaced.{putProcess, putLink, putCount}
 use Rattle.areas.specs.Squares.{joinedBy, placeBy}

@@ -2,7 +2,7 @@
 --   storable-process, storable-link, storable-push, storable-take, storable-count   == one record, one link or the count replaced
 --   storable-spreadTo, storable-spread, storable-answered   == probes sent to some, to all, and an acknowledgement sent
 --   joins-low, joins-high, joins-neighbours  == whom a chain leads to is a process and a neighbour
---   father-few           == a father is at most 128
+--   father-few           == a father is at most the largest N
 --   storable-size, probe-small   == the run's N is its table's; a probe has no count out of range
 --   link-right           == every link of such a run holds at most 4 messages, with counts in range
 --   tail-length          == how many messages stay on a link when its oldest is taken
@@ -22,10 +22,11 @@ use lib.ListN.{length, length-append}
 use lib.IntN.{ℤ}
 use Rattle.machine.specs.Machine as Machines
 use Rattle.base.specs.Choice.{choose}
-use Rattle.base.specs.ChoiceLaws.{and-both, and-right, or-left, or-right, or-cases, Same, same, apart, same?, Tested, passed, failed, tested}
+use Rattle.base.specs.ChoiceLaws.{and-both, and-right, or-left, or-right, or-cases, same?, tested}
+use Rattle.base.specs.Checks.{Same, same, apart, Tested, passed, failed}
 use Rattle.tables.specs.declared.Chain.{Chain}
 use Rattle.tables.specs.declared.Chain.the-variants.{Out, In}
-use Rattle.tables.specs.Table.{Fields, nOf}
+use Rattle.tables.specs.Table.{Fields, nOf, mostProcesses}
 use Rattle.tables.specs.Waits.{Waits, waitsOf, neighbours}
 use Rattle.tables.specs.Sound.{Sound}
 use Rattle.tables.specs.WaitsLaws.{neighbours-ends}
@@ -37,10 +38,10 @@ use Rattle.steps.specs.declared.Reply.{Reply}
 use Rattle.steps.specs.declared.Reply.the-variants.{To}
 use Rattle.steps.specs.Step.{inRange, small, countSmall, replyFits}
 use Rattle.machine.specs.FormedLaws.{wellFormed-P, allRight-append}
-use Rattle.checks.specs.Run.{knot, Run, fatherRight, countsSmall, one}
-use Rattle.areas.specs.Places.{linkSlots}
+use Rattle.checks.specs.Run.{Run, mostDeliveries, knot, fatherRight, countsSmall, one}
+use Rattle.areas.specs.Used.{linkSlots}
 use Rattle.areas.specs.Replaced.{putProcess, putLink, putCount}
-use Rattle.areas.specs.ContainedLaws.{contained-process, contained-link, contained-count}
+use Rattle.areas.specs.ContainedLaws.{contained-joined, contained-process, contained-link, contained-count}
 use Rattle.lenses.specs.Changes.{probeOf, spreadTo, tailOf, answered, spread}
 use Rattle.lenses.specs.Storable.{Storable}
 
@@ -59,8 +60,8 @@ unfolding neighbours
 joins-neighbours Out w b q e = or-left (w .waits b q) (w .waits q b) e
 joins-neighbours In w b q e = or-right (w .waits b q) (w .waits q b) e
 
--- a father is at most 128
-pub father-few : (w : Waits) → Sound w → (p : ℕ) (x : Process) → fatherRight w p x ≡ true → x .father ≤ 128
+-- a father is a process, or 0
+pub father-few : (w : Waits) → Sound w → (p : ℕ) (x : Process) → fatherRight w p x ≡ true → x .father ≤ mostProcesses
 unfolding fatherRight
 father-few w s p x h =
     ⊎-elim
@@ -100,7 +101,7 @@ module _ (t : Fields) (r : Run) (f : Storable t r) where
   unfolding waitsOf
   storable-size = ap (λ (w : Waits). w .n) (f .held .waits)
 
-  pub storable-count : (c : ℕ) → c ≤ 2048 → Storable t (putCount r c)
+  pub storable-count : (c : ℕ) → c ≤ mostDeliveries → Storable t (putCount r c)
   unfolding putCount
   storable-count c u =
       let g = wellFormed-P knot r .0 (f .formed) in
@@ -108,7 +109,15 @@ module _ (t : Fields) (r : Run) (f : Storable t r) where
         held = contained-count t r c (f .held);
         formed =
             wellFormed-P knot (putCount r c) .1
-            (record { room = refl; start-in = g .start-in; count = u; records = g .records; short = g .short; messages = g .messages });
+            (record {
+              room = refl;
+              start-in = g .start-in;
+              count = u;
+              records = g .records;
+              short = g .short;
+              joined = g .joined;
+              messages = g .messages;
+            });
         sound = f .sound;
       }
 
@@ -126,6 +135,7 @@ module _ (t : Fields) (r : Run) (f : Storable t r) where
               count = g .count;
               records = λ q v. own q (same? q p) (g .records q v);
               short = g .short;
+              joined = g .joined;
               messages = g .messages;
             });
         sound = f .sound;
@@ -143,7 +153,7 @@ module _ (t : Fields) (r : Run) (f : Storable t r) where
   storable-link a b ms j s k =
       let g = wellFormed-P knot r .0 (f .formed) in
       record {
-        held = contained-link t r a b ms (subst (λ (w : Waits). neighbours w a b ≡ true) (f .held .waits) j) (f .held);
+        held = contained-link t r a b ms here (f .held);
         formed =
             wellFormed-P knot (putLink r a b ms) .1
             (record {
@@ -152,11 +162,15 @@ module _ (t : Fields) (r : Run) (f : Storable t r) where
               count = g .count;
               records = g .records;
               short = λ x y px py. either (λ l. length l ≤ 4) s (eqb x a && eqb y b) (r .link x y) (g .short x y px py);
+              joined = λ x y _ _ n. contained-joined t (putLink r a b ms) (contained-link t r a b ms here (f .held)) x y n;
               messages = λ x y px py. either (λ l. countsSmall l ≡ true) k (eqb x a && eqb y b) (r .link x y) (g .messages x y px py);
             });
         sound = f .sound;
       }
     where
+      here : neighbours (waitsOf t) a b ≡ true
+      here = subst (λ (w : Waits). neighbours w a b ≡ true) (f .held .waits) j
+
       either : (P : List Message → Type 0) → P ms → (c : Bool) (l : List Message) → P l → P (choose c ms l)
       either P p true l q = p
       either P p false l q = q
@@ -171,7 +185,7 @@ module _ (t : Fields) (r : Run) (f : Storable t r) where
           let g = wellFormed-P knot r .0 (f .formed) in
           let e = neighbours-ends (r .waits) (f .sound) a b j in
           (g .short a b (e .0, e .1) (e .2, e .3), g .messages a b (e .0, e .1) (e .2, e .3))
-      at (failed j) = rw (f .held .links a b (subst (λ (w : Waits). neighbours w a b ≡ false) (f .held .waits) j)) (omega arith, refl)
+      at (failed j) = rw (contained-joined t r (f .held) a b j) (omega arith, refl)
 
   pub storable-push : (a b : ℕ) (m : Message) → neighbours (r .waits) a b ≡ true → countSmall m ≡ true → length (r .link a b) ≤ linkSlots - 1
       → Storable t (putLink r a b (r .link a b ++ (m ∷ [])))

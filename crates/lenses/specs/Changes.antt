@@ -26,7 +26,7 @@ use Rattle.steps.specs.declared.Message.the-variants.{Suc, Pre, Ack}
 use Rattle.steps.specs.declared.Reply.{Reply}
 use Rattle.steps.specs.declared.Reply.the-variants.{To}
 use Rattle.checks.specs.Run.{Run, one}
-use Rattle.areas.specs.Places.{linkSlots}
+use Rattle.areas.specs.Used.{linkSlots}
 use Rattle.areas.specs.Replaced.{putLink}
 
 abbrev pub probeOf : Chain → Message

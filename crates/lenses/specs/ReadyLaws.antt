@@ -13,10 +13,10 @@ use mathlib.Core.List.{List}
 use mathlib.Core.Path.{_≡_, sym, ap, _∙_, subst}
 use lib.ListN.{length}
 use lib.IntN.{ℤ}
-use Rattle.tables.specs.Table.{Fields, nOf, mOf}
+use Rattle.tables.specs.Table.{Fields, nOf, mOf, mostProcesses, mostArcs}
 use Rattle.tables.specs.WaitsLaws.{waitsOf-sound}
 use Rattle.checks.specs.Run.{Run}
-use Rattle.areas.specs.Places.{mostProcesses, mostArcs, linkSlots}
+use Rattle.areas.specs.Used.{linkSlots}
 use Rattle.areas.specs.Area.{areaOf, linkOf, fieldsIn, runIn, keeping, areaRight}
 use Rattle.areas.specs.Squares.{joinsBy, joinedBy, Square}
 use Rattle.areas.specs.StoredLaws.{stored-length, stored-again}
@@ -28,7 +28,8 @@ use Rattle.areas.specs.SquareLaws.{joinsBy-is, joinedBy-is, degreeBy-is}
 use Rattle.lenses.specs.Ready.{Ready}
 use Rattle.lenses.specs.Storable.{Storable}
 use native.Mathlib.Omega.{arith}
-use Rattle.base.specs.ChoiceLaws.{Tested, passed, failed, tested}
+use Rattle.base.specs.ChoiceLaws.{tested}
+use Rattle.base.specs.Checks.{Tested, passed, failed}
 use Rattle.base.specs.Sums.{countTo}
 use Rattle.tables.specs.declared.Chain.{Chain}
 use Rattle.tables.specs.Waits.{Waits, waitsOf, neighbours}

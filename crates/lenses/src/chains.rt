@@ -5,16 +5,15 @@ use tables::Arc;
 use tables::Chain;
 ghost use mathlib.Core.Path.{_≡_};
 ghost use Prim.Native.Nat.{_+_, _*_, _≤_, _<_};
-ghost use Rattle.tables.specs.Table.{first, arcAt};
+ghost use Rattle.tables.specs.Table.{fieldTotal, first, arcAt};
 ghost use Rattle.tables.specs.Chains.{far, degree};
-ghost use Rattle.areas.specs.Places.{fieldTotal};
 ghost use Rattle.areas.specs.Area.{fieldsIn, runIn};
 ghost use Rattle.lenses.specs.Ready.{Ready};
 
 // Field j of the table.
 fn field_in(
     area: &[i32],
-    square: &[u16; places::SQUARE_SIZE],
+    square: &[u16; tables::SQUARE_SIZE],
     n: usize,
     m: usize,
     j: usize,
@@ -29,7 +28,7 @@ fn field_in(
 // The first arc of the chain of p, or 0.
 pub fn first_in(
     area: &[i32],
-    square: &[u16; places::SQUARE_SIZE],
+    square: &[u16; tables::SQUARE_SIZE],
     n: usize,
     m: usize,
     c: Chain,
@@ -48,7 +47,7 @@ pub fn first_in(
 // Arc k.
 pub fn arc_in(
     area: &[i32],
-    square: &[u16; places::SQUARE_SIZE],
+    square: &[u16; tables::SQUARE_SIZE],
     n: usize,
     m: usize,
     k: usize,
@@ -83,7 +82,7 @@ pub fn far_of(c: Chain, a: Arc) -> usize
 // How many processes b waits for, or how many wait for b: the arcs of its chain.
 pub fn degree_in(
     area: &[i32],
-    square: &[u16; places::SQUARE_SIZE],
+    square: &[u16; tables::SQUARE_SIZE],
     n: usize,
     m: usize,
     c: Chain,

@@ -1,16 +1,15 @@
 // The heading of a tested area: the start, the accepted deliveries, and whether the run is over.
-use crate::records;
 use areas::places;
 use areas::words;
 ghost use mathlib.Core.Path.{_≡_};
 ghost use Prim.Native.Nat.{_≤_};
-ghost use Rattle.checks.specs.Run.{over};
+ghost use Rattle.checks.specs.Run.{mostDeliveries, over};
 ghost use Rattle.areas.specs.Area.{runIn, keeping};
 ghost use Rattle.areas.specs.Replaced.{putCount};
 ghost use Rattle.lenses.specs.Ready.{Ready};
 
 // The start process.
-pub fn start_of(area: &[i32], square: &[u16; places::SQUARE_SIZE], n: usize, m: usize) -> usize
+pub fn start_of(area: &[i32], square: &[u16; tables::SQUARE_SIZE], n: usize, m: usize) -> usize
     requires { ⌜ Ready (now area) (now square) n m ⌝ }
     ensures { λ r. ⌜ r ≡ runIn (now (area .entry)) .start ⌝ }
 {
@@ -18,7 +17,7 @@ pub fn start_of(area: &[i32], square: &[u16; places::SQUARE_SIZE], n: usize, m: 
 }
 
 // The accepted deliveries.
-pub fn count_of(area: &[i32], square: &[u16; places::SQUARE_SIZE], n: usize, m: usize) -> u32
+pub fn count_of(area: &[i32], square: &[u16; tables::SQUARE_SIZE], n: usize, m: usize) -> u32
     requires { ⌜ Ready (now area) (now square) n m ⌝ }
     ensures { λ r. ⌜ r ≡ runIn (now (area .entry)) .count ⌝ }
 {
@@ -28,24 +27,24 @@ pub fn count_of(area: &[i32], square: &[u16; places::SQUARE_SIZE], n: usize, m: 
 // Sets the number of accepted deliveries.
 pub fn put_count(
     area: &mut [i32],
-    square: &[u16; places::SQUARE_SIZE],
+    square: &[u16; tables::SQUARE_SIZE],
     n: usize,
     m: usize,
     count: u32,
 )
     requires { ⌜ Ready (now area) (now square) n m ⌝ }
-    requires { ⌜ count ≤ 2048 ⌝ }
+    requires { ⌜ count ≤ mostDeliveries ⌝ }
     ensures { λ _. ⌜ now (area .exit) ≡ keeping (now (area .entry)) (putCount (runIn (now (area .entry))) count) ⌝ }
 {
     area[places::COUNT] = count as i32;
 }
 
 // "It is over exactly while num of its start is 0."
-pub fn is_over(area: &[i32], square: &[u16; places::SQUARE_SIZE], n: usize, m: usize) -> bool
+pub fn is_over(area: &[i32], square: &[u16; tables::SQUARE_SIZE], n: usize, m: usize) -> bool
     requires { ⌜ Ready (now area) (now square) n m ⌝ }
     ensures { λ r. ⌜ r ≡ over (runIn (now (area .entry))) ⌝ }
 {
     let s = start_of(area, square, n, m);
-    let x = records::process(area, square, n, m, s);
-    x.num == 0
+    let k = places::record_start(n, m, s);
+    words::number(area[k + places::NUM]) == 0
 }

@@ -7,9 +7,10 @@ ghost use mathlib.Core.Path.{_≡_};
 ghost use mathlib.Core.Bool.{true};
 ghost use Prim.Native.Nat.{_≤_};
 ghost use lib.ListN.{length};
+ghost use Rattle.tables.specs.Table.{mostProcesses};
 ghost use Rattle.tables.specs.Waits.{neighbours};
 ghost use Rattle.steps.specs.Step.{countSmall};
-ghost use Rattle.areas.specs.Places.{mostProcesses, linkSlots};
+ghost use Rattle.areas.specs.Used.{linkSlots};
 ghost use Rattle.areas.specs.Area.{runIn, keeping};
 ghost use Rattle.lenses.specs.Ready.{Ready};
 ghost use Rattle.lenses.specs.Changes.{pushedOn, HasSlot, off};
@@ -17,7 +18,7 @@ ghost use Rattle.lenses.specs.Changes.{pushedOn, HasSlot, off};
 // How many messages wait on the link from b to q; 0 if there is no link.
 pub fn waiting_on(
     area: &[i32],
-    square: &[u16; places::SQUARE_SIZE],
+    square: &[u16; tables::SQUARE_SIZE],
     n: usize,
     m: usize,
     b: usize,
@@ -37,7 +38,7 @@ pub fn waiting_on(
 // Takes the oldest message off the link from a to b.
 pub fn take(
     area: &mut [i32],
-    square: &[u16; places::SQUARE_SIZE],
+    square: &[u16; tables::SQUARE_SIZE],
     n: usize,
     m: usize,
     a: usize,
@@ -55,7 +56,7 @@ pub fn take(
 // Puts a message on the link from a to b, behind those that wait there.
 pub fn push(
     area: &mut [i32],
-    square: &[u16; places::SQUARE_SIZE],
+    square: &[u16; tables::SQUARE_SIZE],
     n: usize,
     m: usize,
     a: usize,

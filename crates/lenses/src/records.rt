@@ -14,7 +14,7 @@ ghost use Rattle.lenses.specs.Ready.{Ready};
 // The record of p.
 pub fn process(
     area: &[i32],
-    square: &[u16; places::SQUARE_SIZE],
+    square: &[u16; tables::SQUARE_SIZE],
     n: usize,
     m: usize,
     p: usize,
@@ -29,7 +29,7 @@ pub fn process(
 // Gives p another record.
 pub fn put_process(
     area: &mut [i32],
-    square: &[u16; places::SQUARE_SIZE],
+    square: &[u16; tables::SQUARE_SIZE],
     n: usize,
     m: usize,
     p: usize,

@@ -1,7 +1,6 @@
 // What a process sends in a tested area: the probes of a broadcast, or an acknowledgement.
 use crate::chains;
 use crate::links;
-use areas::places;
 use steps::Message;
 use steps::Reply;
 use tables::Chain;
@@ -27,7 +26,7 @@ fn probe(c: Chain) -> Message
 // b sends suc to all successors, or pre to all predecessors: those at the far ends of its chain's arcs.
 pub fn broadcast(
     area: &mut [i32],
-    square: &[u16; places::SQUARE_SIZE],
+    square: &[u16; tables::SQUARE_SIZE],
     n: usize,
     m: usize,
     c: Chain,
@@ -49,7 +48,7 @@ pub fn broadcast(
 // b sends the acknowledgement of its step, if there is one.
 pub fn acknowledge(
     area: &mut [i32],
-    square: &[u16; places::SQUARE_SIZE],
+    square: &[u16; tables::SQUARE_SIZE],
     n: usize,
     m: usize,
     b: usize,

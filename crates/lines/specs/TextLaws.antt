@@ -18,7 +18,8 @@ use lib.Signed.{leZ}
 use lib.ListN.{length, length-append}
 use borrow.Author.Tests.{lt-ltb, le-ltb, ltb-true, ltb-false}
 use Rattle.base.specs.Choice.{choose}
-use Rattle.base.specs.ChoiceLaws.{Tested, passed, failed, tested}
+use Rattle.base.specs.ChoiceLaws.{tested}
+use Rattle.base.specs.Checks.{Tested, passed, failed}
 use Rattle.lines.specs.Text.{bytes, digit, decimalTo, decimal, signed}
 
 decimalTo-fuel : (f g n : ℕ) → n < f → n < g → decimalTo f n ≡ decimalTo g n

@@ -1,7 +1,7 @@
 -- The fixed order of running on: what `lowest` chooses.
 --   lowest-none     == if it chooses nobody, nothing waits
 --   lowest-pair     == if it chooses a pair, both are processes and a message waits from the one to the other
---   fixedOrder-finds   == the fixed order names processes alone
+--   fixedOrder-finds, fixedOrder-chooses   == the fixed order names processes alone, and a link with a message if there is one
 --   lowest-first    == "lowest sender first and then lowest receiver among links with a message": every link with a message has a higher
 --                      sender, or the same sender and no lower receiver
 -- Assumes nothing.
@@ -12,9 +12,10 @@ use mathlib.Core.Path.{_≡_, refl, sym, _∙_, subst}
 use mathlib.Core.Logic.{_⊎_, inl, inr}
 use native.Mathlib.Omega.{arith}
 use Rattle.base.specs.Choice.{choose}
-use Rattle.base.specs.ChoiceLaws.{Tested, passed, failed, tested, Same, same, apart, same?}
+use Rattle.base.specs.ChoiceLaws.{tested, same?}
+use Rattle.base.specs.Checks.{Tested, passed, failed, Same, same, apart}
 use Rattle.machine.specs.Machine.{Machine}
-use Rattle.machine.specs.Made.{Finds}
+use Rattle.machine.specs.Made.{Finds, Chooses}
 use Rattle.machine.specs.Calls.{Selection, nobody, pair, orElse, waiting, lowestReceiver, lowestSender, lowest, fixedOrder}
 use Rattle.tables.specs.Table.{IsProcess}
 
@@ -101,3 +102,7 @@ module _ {P M : Type 0} (r : Machine P M) {a b : ℕ} (e : lowest r ≡ pair a b
 
 pub fixedOrder-finds : {P M : Type 0} → Finds {P = P} {M = M} fixedOrder
 fixedOrder-finds s r a b e = let i = lowest-pair r e in (i .0, i .1)
+
+pub fixedOrder-chooses : {P M : Type 0} → Chooses {P = P} {M = M} fixedOrder
+fixedOrder-chooses =
+    record { finds = fixedOrder-finds; waits = λ s r a b e. lowest-pair r e .2; nothing = λ s r e. lowest-none r e }

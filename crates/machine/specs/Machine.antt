@@ -13,13 +13,13 @@
 --   accepts ρ r a b m rest   == the delivery meets no 22
 -- Assumes nothing.
 use Prim.Native.Nat.{ℕ, _+_}
-use mathlib.Core.Bool.{Bool, true, _&&_}
+use mathlib.Core.Bool.{Bool, true, _&&_, _||_}
 use mathlib.Core.List.{List, [], _∷_, _++_}
 use lib.Dec.{eqb, leb}
 use lib.ListN.{length}
 use Rattle.base.specs.Choice.{choose}
 use Rattle.base.specs.Sums.{allTo}
-use Rattle.tables.specs.Waits.{Waits}
+use Rattle.tables.specs.{Table.isProcess, Waits.Waits, Waits.neighbours}
 
 -- "A run also counts accepted deliveries"; a link holds its messages oldest first
 pub record Machine (P M : Type 0) : Type 0 where
@@ -77,12 +77,13 @@ module _ {P M : Type 0} (ρ : Rules P M) where
   unfoldable pub linkRight : List M → Bool
   linkRight ms = leb (length ms) (ρ .capacity) && allRight (ρ .messageRight) ms
 
-  -- 01's sentence, but for the copied table and the number of words, of which the area above takes care
+  -- 01's sentence, but for the copied table and the number of words, of which the area above takes care; "Each ordered pair of neighbours
+  -- has one link", so between others nothing waits
   unfoldable pub wellFormed : Machine P M → Bool
   wellFormed r =
-      ρ .room r && leb 1 (r .start) && leb (r .start) (r .waits .n) && leb (r .count) (ρ .most) &&
+      ρ .room r && isProcess (r .waits .n) (r .start) && leb (r .count) (ρ .most) &&
       allTo (r .waits .n) (λ p. ρ .recordRight (r .waits) p (r .process p)) &&
-      allTo (r .waits .n) (λ a. allTo (r .waits .n) (λ b. linkRight (r .link a b)))
+      allTo (r .waits .n) (λ a. allTo (r .waits .n) (λ b. (neighbours (r .waits) a b || eqb (length (r .link a b)) 0) && linkRight (r .link a b)))
 
   -- ---- start
 

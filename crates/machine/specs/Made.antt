@@ -3,17 +3,18 @@
 --   Stopped ρ r n       == n is what a delivery on some link of r answers: 0, 24, or 22 if r holds a message that is not accepted
 --   Answered n          == n is a number that a call on a run made by start and deliveries may answer
 --   Finds next          == a chooser names processes alone
+--   Chooses next        == .. and a link with a message, if there is one
 --   PickMade, RunMade, PassMade   == what a pick, running on, and a list of calls come to
 --   Sure ρ asked I      == an invariant that makes every run well formed and every waiting message acceptable, and that deliveries keep
 -- Assumes nothing.
 use Prim.Native.Nat.{ℕ, suc, _+_}
 use mathlib.Core.Bool.{false, true}
-use mathlib.Core.List.{List, _∷_, List·Memᴰ}
+use mathlib.Core.List.{List, [], _∷_, List·Memᴰ}
 use mathlib.Core.Path.{_≡_}
 use Rattle.tables.specs.Table.{IsProcess}
 use Rattle.tables.specs.Sound.{Sound}
 use Rattle.machine.specs.Machine.{Machine, Rules, wellFormed, after, accepts}
-use Rattle.machine.specs.Calls.{Picked, Chooser, pair, RanOn, ranNumber, ranMade}
+use Rattle.machine.specs.Calls.{Picked, Chooser, nobody, pair, waiting, RanOn, ranNumber, ranMade}
 use Rattle.machine.specs.Lists.{Passed, Reads, acceptedPick, answerNumber}
 
 pub data Made {P M : Type 0} (ρ : Rules P M) (r : Machine P M) : ℕ → Machine P M → Type 0 where
@@ -38,6 +39,12 @@ pub data Answered : ℕ → Type 0 where
 -- a chooser names processes alone
 abbrev pub Finds : {P M : Type 0} → Chooser P M → Type 0
 Finds {P} {M} next = (s : ℕ) (r : Machine P M) (a b : ℕ) → next s r .0 ≡ pair a b → IsProcess (r .waits .n) a × IsProcess (r .waits .n) b
+
+-- a chooser names a link with a message, of two processes, and nobody only where nothing waits
+pub record Chooses {P M : Type 0} (next : Chooser P M) : Type 0 where
+  pub finds : Finds next
+  pub waits : (s : ℕ) (r : Machine P M) (a b : ℕ) → next s r .0 ≡ pair a b → waiting (r .link a b) ≡ true
+  pub nothing : (s : ℕ) (r : Machine P M) → next s r .0 ≡ nobody → (a b : ℕ) → IsProcess (r .waits .n) a → IsProcess (r .waits .n) b → r .link a b ≡ []
 
 -- what a delivery on a link of r answers, and the run that it leaves
 pub record PickMade {P M : Type 0} (ρ : Rules P M) (r : Machine P M) (p : Picked P M) : Type 0 where

@@ -1,5 +1,5 @@
 -- Picks, running on and lists of calls are accepted deliveries: the one induction over running on, and over lists.
---   answered-22         == the numbers that may be answered are not 22
+--   answered-listed     == the numbers that may be answered, in a list
 --   made-waits, made-start, made-count   == what deliveries keep, and how they count
 --   made-then           == deliveries after deliveries
 --   made-keeps          == what every accepted delivery keeps holds after any number of them
@@ -8,13 +8,13 @@
 -- Assumes nothing.
 use Prim.Native.Nat.{ℕ, zero, suc, _+_}
 use mathlib.Core.Bool.{true, false, not, false≢true}
-use mathlib.Core.List.{List, [], _∷_, List·Memᴰ, List·Memᴰ·append-cases, List·Memᴰ·eq-of-singleton, List·Memᴰ·not-nil}
+use mathlib.Core.List.{List, [], _∷_, List·Memᴰ, List·Memᴰ·head, List·Memᴰ·tail, List·Memᴰ·append-cases, List·Memᴰ·eq-of-singleton, List·Memᴰ·not-nil}
 use mathlib.Core.Path.{_≡_, refl, sym, _∙_, subst}
 use mathlib.Core.Logic.{⊎-elim}
 use native.Mathlib.Omega.{arith}
-use borrow.Author.Tests.{eqb-false}
 use Rattle.base.specs.Choice.{choose}
-use Rattle.base.specs.ChoiceLaws.{Tested, passed, failed, tested}
+use Rattle.base.specs.ChoiceLaws.{tested}
+use Rattle.base.specs.Checks.{Tested, passed, failed}
 use Rattle.tables.specs.Waits.{neighbours}
 use Rattle.tables.specs.Sound.{Sound}
 use Rattle.tables.specs.Table.{IsProcess}
@@ -30,13 +30,13 @@ use Rattle.machine.specs.Made.{Finds, PickMade, RunMade, Sure, PassMade}
 
 -- ---- numbers
 
--- "22 never occurs in a run made by start and deliveries"
-pub answered-22 : {n : ℕ} → Answered n → n ≡ 22 → ⊥
-answered-22 none-refused e = eqb-false 0 22 refl e
-answered-22 was-over e = eqb-false 23 22 refl e
-answered-22 none-waits e = eqb-false 24 22 refl e
-answered-22 no-link e = eqb-false 25 22 refl e
-answered-22 not-over e = eqb-false 26 22 refl e
+-- the numbers that a call may answer, in a list
+pub answered-listed : {n : ℕ} → Answered n → List·Memᴰ n (0 ∷ 23 ∷ 24 ∷ 25 ∷ 26 ∷ [])
+answered-listed none-refused = List·Memᴰ·head refl
+answered-listed was-over = List·Memᴰ·tail (List·Memᴰ·head refl)
+answered-listed none-waits = List·Memᴰ·tail (List·Memᴰ·tail (List·Memᴰ·head refl))
+answered-listed no-link = List·Memᴰ·tail (List·Memᴰ·tail (List·Memᴰ·tail (List·Memᴰ·head refl)))
+answered-listed not-over = List·Memᴰ·tail (List·Memᴰ·tail (List·Memᴰ·tail (List·Memᴰ·tail (List·Memᴰ·head refl))))
 
 -- ---- deliveries
 

@@ -16,9 +16,11 @@ use native.Mathlib.Omega.{arith}
 use lib.Dec.{eqb}
 use lib.ListN.{length}
 use Rattle.base.specs.Choice.{choose}
-use Rattle.base.specs.ChoiceLaws.{Same, same, apart, same?, Tested, passed, failed, tested}
+use Rattle.base.specs.ChoiceLaws.{same?, tested}
+use Rattle.base.specs.Checks.{Same, same, apart, Tested, passed, failed}
 use Rattle.base.specs.Sums.{sumTo, anyTo, spot}
-use Rattle.base.specs.SumLaws.{anyTo-of, anyTo-found, Found, sumTo-cong, sumTo-add, sumTo-le, sumTo-zero, sumTo-parts, sumTo-part, sumTo-spot, sumTo-swap}
+use Rattle.base.specs.SumLaws.{anyTo-of, anyTo-found, sumTo-cong, sumTo-add, sumTo-le, sumTo-zero, sumTo-parts, sumTo-part, sumTo-spot, sumTo-swap}
+use Rattle.base.specs.Sums.{Found}
 use Rattle.tables.specs.Waits.{Waits, neighbours}
 use Rattle.tables.specs.Table.{IsProcess}
 use Rattle.machine.specs.Machine.{Machine, Rules}

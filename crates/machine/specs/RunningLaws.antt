@@ -1,5 +1,6 @@
 -- Running on, turn by turn, over any chooser: what `runFrom` gives by the first thing that is met, where k deliveries are to be made in all
 -- and so many are.
+--   from-over, from-more, goOn-by   == by the first thing that is met, where k are still to be made
 --   runFrom-over, runFrom-spent, runFrom-refused   == it ends here
 --   runFrom-next      == one more delivery is made
 -- Assumes nothing.
@@ -14,16 +15,16 @@ use Rattle.machine.specs.Calls.{Answer, given, refusal, Picked, Chooser,
 
 -- a turn by the answer of its delivery
 module _ {P M : Type 0} (made : ℕ) (p : Picked P M) (rest : Machine P M → RanOn P M) where
-  goOn-by : (x : Answer M) → p .answer ≡ x → goOn made p rest ≡ goOn made (record { answer = x; run = p .run }) rest
+  pub goOn-by : (x : Answer M) → p .answer ≡ x → goOn made p rest ≡ goOn made (record { answer = x; run = p .run }) rest
   goOn-by x e = rw e
 
 module _ {P M : Type 0} (ρ : Rules P M) (next : Chooser P M) (s : ℕ) (r : Machine P M) where
-  from-over : (j made : ℕ) → over ρ r ≡ true → runFrom ρ next j made s r ≡ record { answer = Ran.Over made; run = r }
+  pub from-over : (j made : ℕ) → over ρ r ≡ true → runFrom ρ next j made s r ≡ record { answer = Ran.Over made; run = r }
   unfolding runFrom
   from-over zero made o = rw o
   from-over (suc j) made o = rw (runFrom, o)
 
-  from-more : (j made : ℕ) → over ρ r ≡ false
+  pub from-more : (j made : ℕ) → over ρ r ≡ false
       → runFrom ρ next (suc j) made s r ≡ goOn made (deliverOn ρ r (next s r .0)) (λ q. runFrom ρ next j (suc made) (next s r .1) q)
   unfolding runFrom
   from-more j made o = rw (runFrom, o)

@@ -2,25 +2,30 @@
 --   upheld-rest, upheld-empty   == once a run is over, no process waits for an acknowledgement, and no message waits
 --   upheld-busy         == until then the start waits for one
 --   upheld-goes-on      == .. and a message waits on some link, and a pick takes it
+--   upheld-runs-out     == running on with as many deliveries as are left, in any order that names a link with a message, ends over
 --   upheld-list         == after every list of calls: what the list came to, and the invariants
 -- Assumes nothing.
-use Prim.Native.Nat.{ℕ, _≤_}
-use mathlib.Core.Bool.{true, false}
-use mathlib.Core.List.{List, []}
-use mathlib.Core.Path.{_≡_}
+use Prim.Native.Nat.{ℕ, zero, suc, _+_, _≤_, _<_}
+use mathlib.Core.Bool.{true, false, false≢true}
+use mathlib.Core.List.{List, [], _∷_}
+use mathlib.Core.Path.{_≡_, refl, sym, ap₂, _∙_}
 use native.Mathlib.Omega.{arith}
 use borrow.Author.Tests.{eqb-true, eqb-false}
+use Rattle.base.specs.ChoiceLaws.{tested}
+use Rattle.base.specs.Checks.{Tested, passed, failed}
 use Rattle.tables.specs.Table.{IsProcess}
-use Rattle.machine.specs.Machine.{Machine, Rules, over}
-use Rattle.machine.specs.Calls.{given, pick, deliver, delivered, Chooser}
+use Rattle.tables.specs.Waits.{Waits}
+use Rattle.machine.specs.Machine.{Machine, Rules, over, after, accepts}
+use Rattle.machine.specs.Calls.{given, pick, Selection, nobody, pair, waiting, deliver, delivered, Chooser, RanOn, deliverOn, runFrom}
 use Rattle.machine.specs.Lists.{Call, Reads, inTurn, passedBy, Waiting}
-use Rattle.machine.specs.Made.{Finds, PassMade}
+use Rattle.machine.specs.Made.{Finds, Chooses, PassMade}
 use Rattle.machine.specs.MadeLaws.{passed-made, made-keeps}
-use Rattle.machine.specs.FormedLaws.{wellFormed-P}
+use Rattle.machine.specs.FormedLaws.{wellFormed-P, some-not-none}
+use Rattle.machine.specs.RunningLaws.{goOn-by, from-over, from-more}
 use Rattle.machine.specs.Diffusing.{Quota, SomeWaits}
 use Rattle.machine.specs.RestLaws.{rest-empty, something-waits, link-neighbours}
 use Rattle.machine.specs.TreeLaws.{all-rest}
-use Rattle.machine.specs.Upheld.{Upheld}
+use Rattle.machine.specs.Upheld.{Upheld, Turned, RanOut}
 
 module _ {P M : Type 0} {ρ : Rules P M} {quota : Quota P} {asked : Reads P M} {I : Machine P M → Type 0} (up : Upheld ρ quota asked I)
     (r : Machine P M) (i : I r) where
@@ -60,3 +65,53 @@ module _ {P M : Type 0} {ρ : Rules P M} {quota : Quota P} {asked : Reads P M} {
   upheld-list cs r i =
       let p : PassMade ρ r (inTurn (passedBy ρ next asked) cs r) = passed-made ρ next asked finds I (up .sure) cs r i in
       (p, made-keeps I (up .sure .kept) i (p .made))
+
+-- ---- running on to the end
+
+module _ {P M : Type 0} {ρ : Rules P M} {quota : Quota P} {asked : Reads P M} {I : Machine P M → Type 0} (up : Upheld ρ quota asked I)
+    {next : Chooser P M} (chooses : Chooses next) where
+  -- until the run is over, a delivery in the order is accepted
+  upheld-turn : (s : ℕ) (r : Machine P M) → I r → over ρ r ≡ false → Turned I r (deliverOn ρ r (next s r .0))
+  unfolding deliver delivered deliverOn after
+  upheld-turn s r i o = at (next s r .0) refl
+    where
+      waits : SomeWaits (r .waits) r
+      waits = something-waits (up .diffusing r i) (start-in up r i) (upheld-busy up r i o)
+
+      on : (a b : ℕ) → IsProcess (r .waits .n) a → IsProcess (r .waits .n) b → (ms : List M) → waiting ms ≡ true → r .link a b ≡ ms
+          → Turned I r (deliver ρ r a b ms)
+      on a b pa pb [] w l = absurd (false≢true w)
+      on a b pa pb (m ∷ rest) w l =
+          let ok : accepts ρ r a b m rest ≡ true = up .sure .accepted r i a b pa pb m rest l in
+          rw ok (record { message = m; gives = refl; keeps = up .sure .kept r i a b pa pb m rest l ok; waits = refl; start = refl; counts = refl })
+
+      at : (c : Selection) → next s r .0 ≡ c → Turned I r (deliverOn ρ r c)
+      at nobody e =
+          absurd (some-not-none (sym (waits .waits) ∙ chooses .nothing s r e (waits .sender) (waits .receiver) (waits .sender-in) (waits .receiver-in)))
+      at (pair a b) e =
+          let p = chooses .finds s r a b e in
+          on a b (p .0) (p .1) (r .link a b) (chooses .waits s r a b e) refl
+
+  -- so many deliveries as are left, or more, bring the run to its end; d is the number that no run reaches before
+  module _ (d : Waits → ℕ → ℕ) (before : (r : Machine P M) → I r → over ρ r ≡ false → r .count < d (r .waits) (r .start)) where
+    pub upheld-runs-out :
+        (k made s : ℕ) (r : Machine P M) → I r → d (r .waits) (r .start) ≤ r .count + k → RanOut ρ (runFrom ρ next k made s r)
+    upheld-runs-out zero made s r i u = at (tested (over ρ r))
+      where
+        at : Tested (over ρ r) → RanOut ρ (runFrom ρ next zero made s r)
+        at (passed o) = rw (from-over ρ next s r zero made o) (record { made = made; says = refl; ended = o })
+        at (failed o) = absurd (omega (arith, before r i o))
+    upheld-runs-out (suc k) made s r i u = at (tested (over ρ r)) (λ q. upheld-runs-out k (suc made) (next s r .1) q)
+      where
+        rest : Machine P M → RanOn P M
+        rest q = runFrom ρ next k (suc made) (next s r .1) q
+
+        at : Tested (over ρ r) → ((q : Machine P M) → I q → d (q .waits) (q .start) ≤ q .count + k → RanOut ρ (rest q))
+            → RanOut ρ (runFrom ρ next (suc k) made s r)
+        at (passed o) go = rw (from-over ρ next s r (suc k) made o) (record { made = made; says = refl; ended = o })
+        at (failed o) go =
+            let t : Turned I r (deliverOn ρ r (next s r .0)) = upheld-turn s r i o in
+            let q : Machine P M = deliverOn ρ r (next s r .0) .run in
+            let e : d (q .waits) (q .start) ≡ d (r .waits) (r .start) = ap₂ d (t .waits) (t .start) in
+            rw (from-more ρ next s r k made o, goOn-by made (deliverOn ρ r (next s r .0)) rest (given (t .message)) (t .gives))
+            (go q (t .keeps) (omega (arith, t .counts)))

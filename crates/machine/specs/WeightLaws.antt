@@ -15,7 +15,8 @@ use native.Mathlib.Omega.{arith}
 use lib.Dec.{eqb}
 use lib.ListN.{length}
 use Rattle.base.specs.Choice.{choose, bit}
-use Rattle.base.specs.ChoiceLaws.{Same, same, apart, same?}
+use Rattle.base.specs.ChoiceLaws.{same?}
+use Rattle.base.specs.Checks.{Same, same, apart}
 use Rattle.base.specs.Sums.{sumTo, spot}
 use Rattle.base.specs.SumLaws.{spot-at, spot-off, sumTo-cong, sumTo-add, sumTo-spot, sumTo-zero}
 use Rattle.machine.specs.Machine.{Machine, Rules}

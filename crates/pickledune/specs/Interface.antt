@@ -6,7 +6,7 @@
 --   StepTold m o i p x y ..   == the step of the record x on message m, with degrees o and i, from p, has left the record y and given these values
 --   ReportTold w ..     == these are the values of a report on the area w (Reported: escape is left open)
 -- The laws stand in InterfaceLaws. Assumes nothing.
-use Prim.Native.Nat.{ℕ}
+use Prim.Native.Nat.{ℕ, _+_}
 use mathlib.Core.List.{List}
 use mathlib.Core.Path.{_≡_}
 use lib.Dec.{eqb}
@@ -21,7 +21,7 @@ use Rattle.steps.specs.declared.Probes.{Probes}
 use Rattle.steps.specs.declared.Probes.the-variants.{Sucs, Pres}
 use Rattle.steps.specs.declared.Reply.{Reply}
 use Rattle.steps.specs.declared.Reply.the-variants.{To}
-use Rattle.steps.specs.Step.{stepped}
+use Rattle.steps.specs.Step.{mostCount, stepped}
 use Rattle.pickledune.specs.Values.{steppedNumber, steppedProbes, steppedReply, reportCount, reportKnot, reportOutside, reportReturned}
 use Rattle.lending.specs.Lent.{lentRecord}
 use Rattle.checks.specs.declared.Report.{Report}
@@ -35,7 +35,7 @@ chainOf k = choose (eqb k 0) Out In
 -- "a suc probe, a pre probe or an acknowledgement with its count": 1, 2 and 3, as kindOf (Values) numbers them. Any other kind is
 -- refused as "count out of range" is (messageOf-other)
 unfoldable pub messageOf : ℕ → ℤ → Message
-messageOf k c = choose (eqb k 1) Suc (choose (eqb k 2) Pre (choose (eqb k 3) (Ack c) (Ack (pos 129))))
+messageOf k c = choose (eqb k 1) Suc (choose (eqb k 2) Pre (choose (eqb k 3) (Ack c) (Ack (pos (mostCount + 1)))))
 
 abbrev pub processOf : ℕ → ℕ → ℕ → ℤ → ℕ → ℕ → Process
 processOf s p b c n f = record { succeeding = s; preceding = p; subordinate = b; cs = c; num = n; father = f }

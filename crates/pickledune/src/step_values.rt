@@ -17,6 +17,9 @@ pub struct StepValues {
     pub reply_count: i32,
 }
 
+// A count out of range.
+const NO_COUNT: i32 = steps::MOST_COUNT + 1;
+
 // A kind that is none of 1, 2, 3 gives a count out of range, which the step refuses.
 pub fn message_of(kind: u32, count: i32) -> Message
     ensures { λ r. ⌜ r ≡ messageOf kind count ⌝ }
@@ -25,7 +28,7 @@ pub fn message_of(kind: u32, count: i32) -> Message
         1 => Message::Suc,
         2 => Message::Pre,
         3 => Message::Ack(count),
-        _ => Message::Ack(129),
+        _ => Message::Ack(NO_COUNT),
     }
 }
 

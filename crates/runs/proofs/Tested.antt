@@ -1,12 +1,12 @@
 -- What the test of an area says to a call.
---   fresh-long, fresh-empty   == a fresh square has 16,641 cells, each 0
+--   fresh-long, fresh-empty   == a fresh square has all its cells, each 0
 --   wrong-area                == the test says wrong: the area is not well formed
 --   right-area, right-ready   == the test gives N and M: the area is well formed, and ready with the square
---   process-zero, process-over, process-in   == whether a number is a process
+--   ready-process             == whether a number is a process of the run
 --   none-from, none-to        == who is no process has no link
 -- Assumes nothing.
-use Prim.Native.Nat.{ℕ, _≤_, _<_}
-use mathlib.Core.Bool.{Bool, true, false}
+use Prim.Native.Nat.{ℕ}
+use mathlib.Core.Bool.{Bool, true, false, false≢true}
 use mathlib.Core.List.{List}
 use mathlib.Core.Path.{_≡_, refl, sym, ap, _∙_}
 use native.Mathlib.Omega.{arith}
@@ -14,8 +14,9 @@ use lib.ListN.{length, getD, replicate, length-replicate}
 use lib.IntN.{ℤ, pos}
 use mir.Syntax.{w32}
 use mir.Val.{ofZ}
-use Rattle.tables.specs.TableLaws.{isProcess-P, isProcess-not}
+use Rattle.tables.specs.TableLaws.{isProcess-P}
 use Rattle.tables.specs.Table.{isProcess}
+use Rattle.areas.specs.Places.{fieldPlace}
 use Rattle.area_tests.specs.declared.testing.Sizes.{Sizes}
 use Rattle.area_tests.specs.declared.testing.Sizes.the-variants.{Right, Wrong}
 use Rattle.areas.specs.Area.{numberAt, fieldsIn, runIn, areaRight}
@@ -40,7 +41,7 @@ wrong-area w s e f = at (areaRight w) refl
     at : (b : Bool) → areaRight w ≡ b → areaRight w ≡ false
     at false g = g
     at true g =
-        let h : Wrong ≡ Right (numberAt w 14) (numberAt w 15) = sym f ∙ e ∙ ap (λ (b : Bool). sizesOf b w) g in
+        let h : Wrong ≡ Right (numberAt w (fieldPlace 0)) (numberAt w (fieldPlace 1)) = sym f ∙ e ∙ ap (λ (b : Bool). sizesOf b w) g in
         let z : _≡_ {A = ℕ} 0 1 = cc in
         absurd (omega arith)
 
@@ -58,31 +59,27 @@ pub right-ready : (w : List ℤ) (sq : List ℕ) (s : Sizes) (n m : ℕ) → s �
     (areaRight w ≡ true → Square (fieldsIn w) sq) → Ready w sq n m
 right-ready w sq s n m e f q =
     let g : areaRight w ≡ true = right-area w s n m e f in
-    let h : Right n m ≡ Right (numberAt w 14) (numberAt w 15) = sym f ∙ e ∙ ap (λ (b : Bool). sizesOf b w) g in
-    let a : n ≡ numberAt w 14 = cc in
-    let b : m ≡ numberAt w 15 = cc in
+    let h : Right n m ≡ Right (numberAt w (fieldPlace 0)) (numberAt w (fieldPlace 1)) = sym f ∙ e ∙ ap (λ (b : Bool). sizesOf b w) g in
+    let a : n ≡ numberAt w (fieldPlace 0) = cc in
+    let b : m ≡ numberAt w (fieldPlace 1) = cc in
     record { right = g; square = q g; n-is = a ∙ sym (fieldsIn-n w); m-is = b ∙ sym (fieldsIn-m w) }
 
-pub process-zero : (p n : ℕ) → p ≡ 0 → isProcess n p ≡ false
-process-zero p n e = isProcess-not n p (λ h. omega arith)
-
-pub process-over : (p n : ℕ) → n < p → isProcess n p ≡ false
-process-over p n l = isProcess-not n p (λ h. omega arith)
-
-pub process-in : (p n : ℕ) → (p ≡ 0 → ⊥) → p ≤ n → isProcess n p ≡ true
-process-in p n z l = isProcess-P n p .1 (omega arith, l)
+pub ready-process : {w : List ℤ} {sq : List ℕ} {n m : ℕ} → Ready w sq n m → (p : ℕ) {b : Bool} → b ≡ isProcess n p → b ≡ isProcess (runIn w .waits .n) p
+ready-process y p e = rw (ready-n y) e
 
 -- a word whose bits are not 0 is not 0
 pub word-apart : (z : ℤ) → (ofZ w32 z ≡ 0 → ⊥) → z ≡ pos 0 → ⊥
 word-apart z h e = h (rw e refl)
 
 -- who is no process has no link
-pub none-from : {w : List ℤ} {sq : List ℕ} {n m : ℕ} → Ready w sq n m → (a b : ℕ) → n < a → neighbours (runIn w .waits) a b ≡ false
-none-from {w} y a b l = at (neighbours (runIn w .waits) a b) refl
+pub none-from : {w : List ℤ} {sq : List ℕ} {n m : ℕ} → Ready w sq n m → (a b : ℕ) → isProcess n a ≡ false → neighbours (runIn w .waits) a b ≡ false
+none-from {w} {n = n} y a b h = at (neighbours (runIn w .waits) a b) refl
   where
     at : (x : Bool) → neighbours (runIn w .waits) a b ≡ x → neighbours (runIn w .waits) a b ≡ false
     at false e = e
-    at true e = absurd (omega (arith, neighbours-ends (runIn w .waits) (right-storable w (y .right) .sound) a b e .1, ready-n y))
+    at true e =
+        let i = neighbours-ends (runIn w .waits) (right-storable w (y .right) .sound) a b e in
+        absurd (false≢true (sym h ∙ isProcess-P n a .1 (i .0, omega (arith, i .1, ready-n y))))
 
-pub none-to : {w : List ℤ} {sq : List ℕ} {n m : ℕ} → Ready w sq n m → (a b : ℕ) → n < b → neighbours (runIn w .waits) a b ≡ false
-none-to {w} y a b l = neighbours-swap (runIn w .waits) a b ∙ none-from y b a l
+pub none-to : {w : List ℤ} {sq : List ℕ} {n m : ℕ} → Ready w sq n m → (a b : ℕ) → isProcess n b ≡ false → neighbours (runIn w .waits) a b ≡ false
+none-to {w} y a b h = neighbours-swap (runIn w .waits) a b ∙ none-from y b a h

@@ -4,29 +4,33 @@
 --   turn-first             == the first turn
 --   turn-over, turn-spent, turn-refused   == each way out
 --   turn-next              == the next turn
+--   turn-full              == the area when k are made, over or not
+--   turn-unmade, turn-made == the way out and the next turn by the number that the delivery made, 0 or 1
 -- Assumes nothing.
 use Prim.Native.Nat.{ℕ, _+_, _-_, _≤_, _<_}
 use mathlib.Core.Bool.{Bool, true, false}
 use mathlib.Core.List.{List}
-use mathlib.Core.Path.{_≡_, sym, ap, _∙_, subst}
+use mathlib.Core.Path.{_≡_, refl, sym, ap, _∙_, subst}
 use native.Mathlib.Omega.{arith}
 use lib.IntN.{ℤ}
+use Rattle.base.specs.ChoiceLaws.{tested}
+use Rattle.base.specs.Checks.{Tested, passed, failed}
 use Rattle.steps.specs.declared.Message.{Message}
 use Rattle.machine.specs.declared.Ran.{Ran}
 use Rattle.machine.specs.declared.Ran.the-variants.{Spent}
 use Rattle.machine.specs.Calls.{lowest, fixedOrder, RanOn, deliverOn}
 use Rattle.machine.specs.RunningLaws.{runFrom-over, runFrom-spent, runFrom-refused, runFrom-next}
 use Rattle.steps.specs.declared.Process.{Process}
+use Rattle.checks.specs.declared.Delivery.{Delivery}
+use Rattle.checks.specs.declared.Delivery.the-variants.{Delivered}
 use Rattle.checks.specs.Run.{Run, knot, over}
 use Rattle.checks.specs.AnswerLaws.{deliveryOf-refused, deliveryOf-delivered}
-use Rattle.checks.specs.Calls.{runFrom}
+use Rattle.checks.specs.Calls.{runFrom, deliveryMade}
 use Rattle.areas.specs.Area.{runIn, keeping}
 use Rattle.lenses.specs.Ready.{Ready}
 use Rattle.lenses.proofs.Holding.{Holding, holding-first, holding-run}
-use Rattle.choosing.specs.declared.ChosenDelivery.{ChosenDelivery}
 use Rattle.choosing.specs.Answers.{nextOf}
-use Rattle.choosing.specs.AnswerLaws.{chosenAnswer-refused, chosenAnswer-delivered}
-use Rattle.choosing.proofs.OnLink.{Left, holding-next-of}
+use Rattle.choosing.proofs.OnLink.{holding-next-of}
 
 pub record Turn (w : List ℤ) (k : ℕ) (area : List ℤ) (made : ℕ) : Type 0 where
   pub holds : Holding w area (runIn area)
@@ -53,22 +57,20 @@ module _ {w : List ℤ} {sq : List ℕ} {n m k : ℕ} (y : Ready w sq n m) where
       pub turn-spent : k ≤ made → Ended w k (Spent made) area
       turn-spent u = ended k (t .rest ∙ runFrom-spent knot fixedOrder 0 (runIn area) k made (sym e ∙ f) u) (t .holds)
 
-      -- the delivery answers x and leaves the area v, of which l is remembered
-      module _ (u : made < k) {x : ChosenDelivery} {v : List ℤ} {l : List ℕ} (d : Left area sq n m x v l) where
+      -- the delivery leaves the area v
+      module _ (u : made < k) {v : List ℤ} (d : v ≡ keeping area (nextOf (runIn area) .run)) where
         next-holds : Holding w v (nextOf (runIn area) .run)
-        next-holds = holding-next-of y (t .holds) (d .1 .0)
+        next-holds = holding-next-of y (t .holds) d
 
-        pub turn-refused : {i : ℕ} → x ≡ ChosenDelivery.Refused i → Ended w k (Ran.Refused i made) v
-        turn-refused {i} h =
+        pub turn-refused : {i : ℕ} → nextOf (runIn area) .answer ≡ Delivery.Refused i → Ended w k (Ran.Refused i made) v
+        turn-refused {i} p =
             let r = runIn area in
-            let p = chosenAnswer-refused r (lowest r) i (sym (d .0) ∙ h) in
             ended k (t .rest ∙ runFrom-refused knot fixedOrder 0 r k made (sym e ∙ f) u i (deliveryOf-refused (deliverOn knot r (lowest r) .answer) p))
             next-holds
 
-        pub turn-next : {a b : ℕ} {z : Message} → x ≡ ChosenDelivery.Delivered a b z → Turn w k v (made + 1)
-        turn-next {a} {b} {z} h =
+        pub turn-next : {z : Message} → nextOf (runIn area) .answer ≡ Delivered z → Turn w k v (made + 1)
+        turn-next {z} p =
             let r = runIn area in
-            let p = chosenAnswer-delivered r a b z (lowest r) (sym (d .0) ∙ h) .1 in
             let q : nextOf r .run ≡ runIn v = sym (holding-run y next-holds) in
             record {
               holds = subst (Holding w v) q next-holds;
@@ -76,3 +78,25 @@ module _ {w : List ℤ} {sq : List ℕ} {n m k : ℕ} (y : Ready w sq n m) where
                   t .rest ∙ runFrom-next knot fixedOrder 0 r k made (sym e ∙ f) u z (deliveryOf-delivered (deliverOn knot r (lowest r) .answer) p)
                   ∙ ap (runFrom (k - (made + 1)) (made + 1)) q;
             }
+
+        -- by the number made: none, and nothing more is done; or one
+        pub turn-unmade : deliveryMade (nextOf (runIn area) .answer) ≡ 0 → v ≡ keeping w (runFrom k 0 (runIn w) .run)
+        turn-unmade z = at (nextOf (runIn area) .answer) refl
+          where
+            at : (x : Delivery) → nextOf (runIn area) .answer ≡ x → v ≡ keeping w (runFrom k 0 (runIn w) .run)
+            at (Delivery.Refused i) p = turn-refused p .1
+            at (Delivered m) p = absurd (omega (arith, ap deliveryMade p))
+
+        pub turn-made : deliveryMade (nextOf (runIn area) .answer) ≡ 1 → Turn w k v (made + 1)
+        turn-made z = at (nextOf (runIn area) .answer) refl
+          where
+            at : (x : Delivery) → nextOf (runIn area) .answer ≡ x → Turn w k v (made + 1)
+            at (Delivery.Refused i) p = absurd (omega (arith, ap deliveryMade p))
+            at (Delivered m) p = turn-next p
+
+  pub turn-full : {area : List ℤ} {made : ℕ} → Turn w k area made → k ≤ made → area ≡ keeping w (runFrom k 0 (runIn w) .run)
+  turn-full {area} t u = at (tested (over (runIn area)))
+    where
+      at : Tested (over (runIn area)) → area ≡ keeping w (runFrom k 0 (runIn w) .run)
+      at (passed f) = turn-over t refl f .1
+      at (failed f) = turn-spent t refl f u .1

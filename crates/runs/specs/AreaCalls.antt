@@ -11,22 +11,15 @@
 --                                           and the words from n on are those of old
 -- Assumes nothing.
 use Prim.Native.Nat.{ℕ}
-use mathlib.Core.List.{List, [], _∷_}
-use mathlib.Core.Path.{_≡_}
-use mathlib.Core.Bool.{true}
-use lib.IntN.{ℤ}
-use lib.ListN.{drop}
+use mathlib.Core.{List.List, List.[], List._∷_, Path._≡_, Bool.true}
+use lib.{IntN.ℤ, ListN.drop}
 use Rattle.base.specs.Choice.{choose}
 use Rattle.tables.specs.Waits.{Waits}
-use Rattle.machine.specs.declared.Ran.{Ran}
-use Rattle.machine.specs.Calls.{ranNumber, ranMade}
+use Rattle.machine.specs.{declared.Ran.Ran, Calls.ranNumber, Calls.ranMade}
 use Rattle.machine.specs.Lists.{Call, picking, runningOn, reporting, reading, Passed, inTurn}
-use Rattle.checks.specs.declared.Delivery.{Delivery}
-use Rattle.checks.specs.declared.Report.{Report}
-use Rattle.checks.specs.declared.Reading.{Reading}
+use Rattle.checks.specs.declared.{Delivery.Delivery, Report.Report, Reading.Reading}
 use Rattle.checks.specs.Calls.{pick, runOn, Escape, report, readRecord, deliveryNumber, deliveryMade, reportNumber, reportEscape, readingNumber}
-use Rattle.checks.specs.Run.{Run}
-use Rattle.checks.specs.Lists.{Promise}
+use Rattle.checks.specs.{Run.Run, Lists.Promise}
 use Rattle.areas.specs.Area.{keeping, runIn, areaRight}
 
 unfoldable pub pickAnswer : List ℤ → ℕ → ℕ → Delivery

@@ -3,16 +3,19 @@
 --   pick-25, pick-23, pick-on                 == a pick on a well-formed area: no link, over, or the delivery
 --   pick-ready                                == a tested area stays ready after a pick
 --   runOn-on                                  == running on, from its first turn
---   report-26, report-over                    == a report before the end, and at the end
+--   report-on, report-26, report-over         == a report on a well-formed area; before the end, and at the end
 --   read-25, read-found                       == a record
+--   passed-then                               == a list of calls after a list
+--   passed-21                                 == no list changes an area that is not well formed
 -- Assumes nothing.
 use Prim.Native.Nat.{ℕ, zero, suc}
 use mathlib.Core.Bool.{true, false}
-use mathlib.Core.List.{List}
-use mathlib.Core.Path.{_≡_, refl, sym}
+use mathlib.Core.List.{List, [], _∷_, _++_}
+use mathlib.Core.Path.{_≡_, refl, sym, ap, _∙_}
 use borrow.Author.Tests.{eqb-false}
 use lib.IntN.{ℤ, pos, negsuc}
 use Rattle.machine.specs.Calls as MachineCalls
+use Rattle.machine.specs.Lists.{Call, picking, runningOn, reporting, reading, inTurn}
 use Rattle.tables.specs.Table.{isProcess}
 use Rattle.tables.specs.Waits.{neighbours}
 use Rattle.checks.specs.declared.Delivery.{Delivery}
@@ -29,7 +32,7 @@ use Rattle.areas.specs.AreaLaws.{stored-same}
 use Rattle.delivery.specs.StorableLaws.{storable-pick}
 use Rattle.lenses.specs.Ready.{Ready}
 use Rattle.lenses.specs.ReadyLaws.{right-storable, ready-kept}
-use Rattle.runs.specs.AreaCalls.{pickAnswer, pickArea, runOnAnswer, runOnArea, reportAnswer, Reported, readAnswer}
+use Rattle.runs.specs.AreaCalls.{pickAnswer, pickArea, runOnAnswer, runOnArea, reportAnswer, Reported, readAnswer, areaPassedBy, areaPassed}
 use Rattle.runs.specs.Told.{toldOf}
 
 pub verdict-knot : (z : ℤ) → z ≡ pos 0 → verdictOf z ≡ Knot
@@ -93,7 +96,11 @@ module _ (w : List ℤ) (e : areaRight w ≡ true) where
   unfolding reportAnswer report
   report-26 n o = rw (e, formed, o)
 
-  report-over : (n : ℕ) → over (runIn w) ≡ true → reported (runIn w) n ≡ reportAnswer w n
+  pub report-on : (n : ℕ) → reportAnswer w n ≡ report (runIn w) n
+  unfolding reportAnswer
+  report-on n = rw e
+
+  pub report-over : (n : ℕ) → over (runIn w) ≡ true → reported (runIn w) n ≡ reportAnswer w n
   unfolding reportAnswer report
   report-over n o = rw (e, formed, o)
 
@@ -116,3 +123,23 @@ module _ (w : List ℤ) (e : areaRight w ≡ true) where
 
 pub reported-21 : (w : List ℤ) → areaRight w ≡ false → Reported w (Report.Refused 21)
 reported-21 w e = record { answer = report-21 w e 0; names = λ z. absurd (eqb-false 21 0 refl z) }
+
+-- ---- lists
+
+-- a list after a list
+pub passed-then : (cs ds : List Call) (w : List ℤ) → areaPassed (cs ++ ds) w .left ≡ areaPassed ds (areaPassed cs w .left) .left
+unfolding inTurn
+passed-then [] ds w = refl
+passed-then (c ∷ cs) ds w = passed-then cs ds (areaPassedBy c w .left)
+
+-- no call changes an area that is not well formed
+pub passed-21 : (w : List ℤ) → areaRight w ≡ false → (cs : List Call) → areaPassed cs w .left ≡ w
+unfolding inTurn
+passed-21 w e [] = refl
+passed-21 w e (c ∷ cs) = ap (λ (v : List ℤ). areaPassed cs v .left) (stays c) ∙ passed-21 w e cs
+  where
+    stays : (c : Call) → areaPassedBy c w .left ≡ w
+    stays (picking a b) = sym (pick-21 w e a b .1)
+    stays (runningOn k) = sym (runOn-21 w e k .1)
+    stays reporting = refl
+    stays (reading p) = refl

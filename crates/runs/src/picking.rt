@@ -1,11 +1,11 @@
 // A pick: the delivery of the oldest message on one link.
 use area_tests::testing;
 use area_tests::testing::Sizes;
-use areas::places;
 use areas::squares;
 use checks::Delivery;
 use delivery::delivering;
 use lenses::heading;
+use tables::is_process;
 ghost use mathlib.Core.Path.{_≡_};
 ghost use Rattle.lenses.specs.Ready.{Ready};
 ghost use Rattle.runs.specs.AreaCalls.{pickAnswer, pickArea};
@@ -13,7 +13,7 @@ ghost use Rattle.runs.specs.AreaCalls.{pickAnswer, pickArea};
 // A pick in a tested area, for whoever makes more than one: 25, 23, 24, 22. The area stays ready (pick-ready in CallLaws).
 pub fn pick_in(
     area: &mut [i32],
-    square: &[u16; places::SQUARE_SIZE],
+    square: &[u16; tables::SQUARE_SIZE],
     n: usize,
     m: usize,
     from: usize,
@@ -23,10 +23,10 @@ pub fn pick_in(
     ensures { λ r. ⌜ r ≡ pickAnswer (now (area .entry)) from to ⌝ }
     ensures { λ _. ⌜ now (area .exit) ≡ pickArea (now (area .entry)) from to ⌝ }
 {
-    if from > n {
+    if !is_process(from, n) {
         return Delivery::Refused(25);
     }
-    if to > n {
+    if !is_process(to, n) {
         return Delivery::Refused(25);
     }
     if !squares::joined(square, from, to) {
@@ -43,7 +43,7 @@ pub fn pick(area: &mut [i32], from: usize, to: usize) -> Delivery
     ensures { λ r. ⌜ r ≡ pickAnswer (now (area .entry)) from to ⌝ }
     ensures { λ _. ⌜ now (area .exit) ≡ pickArea (now (area .entry)) from to ⌝ }
 {
-    let mut square = [0u16; places::SQUARE_SIZE];
+    let mut square = [0u16; tables::SQUARE_SIZE];
     let Sizes::Right { n, m } = testing::test(area, &mut square) else {
         return Delivery::Refused(21);
     };

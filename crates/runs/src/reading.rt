@@ -1,7 +1,6 @@
 // The report and reading a record. Each tests the area first; one that is not well formed gets 21. Neither changes a word.
 use area_tests::testing;
 use area_tests::testing::Sizes;
-use areas::places;
 use checks::Mark;
 use checks::Reading;
 use checks::Report;
@@ -9,6 +8,7 @@ use checks::Verdict;
 use lenses::heading;
 use lenses::records;
 use steps::Process;
+use tables::is_process;
 ghost use mathlib.Core.Path.{_≡_};
 ghost use Prim.Native.Nat.{_+_};
 ghost use Rattle.areas.specs.Area.{runIn};
@@ -18,7 +18,7 @@ ghost use Rattle.runs.specs.AreaCalls.{Reported, readAnswer};
 ghost use Rattle.runs.specs.Told.{toldOf};
 
 // The lowest process with subordinate 1, or 0 if there is none.
-fn escape_of(area: &[i32], square: &[u16; places::SQUARE_SIZE], n: usize, m: usize) -> u32
+fn escape_of(area: &[i32], square: &[u16; tables::SQUARE_SIZE], n: usize, m: usize) -> u32
     requires { ⌜ Ready (now area) (now square) n m ⌝ }
     ensures { λ r. ⌜ Escape (runIn (now (area .entry))) r ⌝ }
 {
@@ -59,7 +59,7 @@ fn told(start: Process, deliveries: u32, escape: u32) -> Report
 pub fn report(area: &[i32]) -> Report
     ensures { λ r. ⌜ Reported (now (area .entry)) r ⌝ }
 {
-    let mut square = [0u16; places::SQUARE_SIZE];
+    let mut square = [0u16; tables::SQUARE_SIZE];
     let Sizes::Right { n, m } = testing::test(area, &mut square) else {
         return Report::Refused(21);
     };
@@ -77,14 +77,11 @@ pub fn report(area: &[i32]) -> Report
 pub fn read_record(area: &[i32], p: usize) -> Reading
     ensures { λ r. ⌜ r ≡ readAnswer (now (area .entry)) p ⌝ }
 {
-    let mut square = [0u16; places::SQUARE_SIZE];
+    let mut square = [0u16; tables::SQUARE_SIZE];
     let Sizes::Right { n, m } = testing::test(area, &mut square) else {
         return Reading::Refused(21);
     };
-    if p == 0 {
-        return Reading::Refused(25);
-    }
-    if p > n {
+    if !is_process(p, n) {
         return Reading::Refused(25);
     }
     Reading::Found(records::process(area, &square, n, m, p))

@@ -1,7 +1,6 @@
 // Running on in the fixed order. The area is tested once; what the order remembers of it follows each delivery.
 use area_tests::testing;
 use area_tests::testing::Sizes;
-use areas::places;
 use choosing::ChosenDelivery;
 use choosing::parts;
 use lenses::heading;
@@ -16,7 +15,7 @@ ghost use Rattle.runs.specs.AreaCalls.{runOnAnswer, runOnArea};
 // The deliveries in a tested area: over, then spent, then 24, 22.
 fn drive(
     area: &mut [i32],
-    square: &[u16; places::SQUARE_SIZE],
+    square: &[u16; tables::SQUARE_SIZE],
     n: usize,
     m: usize,
     k: u32,
@@ -53,7 +52,7 @@ pub fn run_on(area: &mut [i32], k: u32) -> Ran
     ensures { λ r. ⌜ r ≡ runOnAnswer k (now (area .entry)) ⌝ }
     ensures { λ _. ⌜ now (area .exit) ≡ runOnArea k (now (area .entry)) ⌝ }
 {
-    let mut square = [0u16; places::SQUARE_SIZE];
+    let mut square = [0u16; tables::SQUARE_SIZE];
     let Sizes::Right { n, m } = testing::test(area, &mut square) else {
         return Ran::Refused {
             number: 21,

@@ -1,20 +1,21 @@
 -- Laws on the answer of a start, one for each way that the code goes.
 --   start-read       == reading the table refused
---   start-8-none, start-8-many, start-9   == the table is accepted; s is 0, or above N; the area is too short
+--   start-8, start-9 == the table is accepted; s is no process; the area is too short
 --   start-ready      == all is accepted
 --   start-few        == N and M of an accepted table are small
 --   startable        == what all the checks leave
 -- Assumes nothing.
 use Prim.Native.Nat.{ℕ, zero, suc, _≤_, _<_}
+use mathlib.Core.Bool.{true, false}
 use mathlib.Core.List.{List}
 use mathlib.Core.Path.{_≡_, refl, sym, _∙_}
 use native.Mathlib.Omega.{arith}
 use borrow.Author.Tests.{ne-eqb, lt-ltb, le-ltb}
 use lib.ListN.{length}
 use lib.IntN.{ℤ}
-use Rattle.tables.specs.TableLaws.{isProcess-P, isProcess-not}
+use Rattle.tables.specs.TableLaws.{isProcess-P}
 use Rattle.tables.specs.declared.Reading.{Reading}
-use Rattle.tables.specs.Table.{fieldOf, nOf, mOf}
+use Rattle.tables.specs.Table.{fieldOf, nOf, mOf, mostProcesses, mostArcs, isProcess}
 use Rattle.tables.specs.Reading.{readNumber, readingOf}
 use Rattle.tables.specs.LayoutLaws.{accepted-P}
 use Rattle.tables.specs.Waits.{waitsOf}
@@ -52,33 +53,33 @@ module _ (bs : List ℕ) (s : ℕ) (w : List ℤ) where
     start-m : m ≡ mOf (fieldOf bs)
     start-m = accepted-told bs n m (sym ex ∙ e) .arcs
 
-    pub start-few : (n ≤ 128) × (m ≤ 512)
+    pub start-few : (n ≤ mostProcesses) × (m ≤ mostArcs)
     start-few = (accepted-told bs n m (sym ex ∙ e) .few, accepted-told bs n m (sym ex ∙ e) .arcs-few)
 
-    pub start-8-none : s ≡ 0 → Starts bs s w (Started.Refused 8) w
+    pub start-8 : isProcess n s ≡ false → Starts bs s w (Started.Refused 8) w
     unfolding startNumber
-    start-8-none h = refused 8 (rw (number, isProcess-not (nOf (fieldOf bs)) s (λ i. omega arith))) (λ z. omega arith)
+    start-8 h =
+        let p : isProcess (nOf (fieldOf bs)) s ≡ false = rw start-n at h in
+        refused 8 (rw (number, p)) (λ z. omega arith)
 
-    pub start-8-many : (s ≡ 0 → ⊥) → n < s → Starts bs s w (Started.Refused 8) w
-    unfolding startNumber
-    start-8-many d h = refused 8 (rw (number, isProcess-not (nOf (fieldOf bs)) s (λ i. omega (arith, start-n)))) (λ z. omega arith)
+    module _ (h : isProcess n s ≡ true) where
+      process : isProcess (nOf (fieldOf bs)) s ≡ true
+      process = rw start-n at h
 
-    module _ (d : s ≡ 0 → ⊥) (h : s ≤ n) where
       pub start-9 : length w < areaLength n m → Starts bs s w (Started.Refused 9) w
       unfolding startNumber
       start-9 u =
           refused 9
           (rw (
             number,
-            isProcess-P (nOf (fieldOf bs)) s .1 (omega arith, omega (arith, start-n)),
-            lt-ltb (length w)
-                (areaLength (nOf (fieldOf bs)) (mOf (fieldOf bs))) (omega (arith, start-n, start-m)),
+            process,
+            lt-ltb (length w) (areaLength (nOf (fieldOf bs)) (mOf (fieldOf bs))) (omega (arith, start-n, start-m)),
           ))
           (λ z. omega arith)
 
       module _ (u : areaLength n m ≤ length w) where
         pub startable : Startable bs n m s w
-        startable = record { accepted = accepted-P bs .0 number; n-is = start-n; m-is = start-m; low = omega arith; high = h; long = u }
+        startable = record { accepted = accepted-P bs .0 number; n-is = start-n; m-is = start-m; start-in = isProcess-P n s .0 h; long = u }
 
         pub start-ready : (l : List ℤ) → l ≡ stored (fieldOf bs) (startRun (waitsOf (fieldOf bs)) s) w → Starts bs s w Started.Ready l
         unfolding startNumber startAnswer startArea
@@ -86,8 +87,7 @@ module _ (bs : List ℕ) (s : ℕ) (w : List ℤ) where
             let z : startNumber bs s w ≡ 0 =
             rw (
               number,
-              isProcess-P (nOf (fieldOf bs)) s .1 (omega arith, omega (arith, start-n)),
-              le-ltb (length w)
-                  (areaLength (nOf (fieldOf bs)) (mOf (fieldOf bs))) (omega (arith, start-n, start-m)),
+              process,
+              le-ltb (length w) (areaLength (nOf (fieldOf bs)) (mOf (fieldOf bs))) (omega (arith, start-n, start-m)),
             ) in
             rw z (refl, f)

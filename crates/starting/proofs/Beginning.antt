@@ -12,7 +12,7 @@ use native.Mathlib.Omega.{arith}
 use lib.ListN.{length}
 use lib.IntN.{ℤ}
 use Rattle.tables.specs.declared.Chain.the-variants.{Out, In}
-use Rattle.tables.specs.Table.{Fields, fieldOf, nOf, mOf, IsProcess}
+use Rattle.tables.specs.Table.{Fields, fieldOf, nOf, mOf, mostProcesses, IsProcess}
 use Rattle.tables.specs.Sound.{Sound}
 use Rattle.tables.specs.Waits.{waitsOf}
 use Rattle.tables.specs.WaitsLaws.{waitsOf-sound}
@@ -59,10 +59,10 @@ module _ {w : List ℤ} {sq : List ℕ} {n m s : ℕ} (k : Unbegun w sq n m s) w
 
   process : IsProcess (waitsOf (fieldsIn w) .n) s
   unfolding waitsOf
-  process = (k .low, omega (arith, k .high, k .ready .n-is))
+  process = rw (k .ready .n-is) at (k .start-in)
 
-  pub few : (n ≤ 128) × (s ≤ 128)
-  few = omega (arith, k .high, k .ready .n-is, table .right .sizes .1)
+  pub few : (n ≤ mostProcesses) × (s ≤ mostProcesses)
+  few = omega (arith, k .start-in, k .ready .n-is, table .right .sizes .1)
 
   -- the start's record, and what putting it asks
   module _ (x : Process) (e : x ≡ startedFrom sq n s) where
@@ -112,7 +112,7 @@ module _ {bs : List ℕ} {n m s : ℕ} {w : List ℤ} (k : Startable bs n m s w)
 
   fit : Storable (fieldOf bs) (quiet (fieldOf bs) s)
   unfolding waitsOf
-  fit = quiet-fit (fieldOf bs) (k .accepted .right) s (k .low, omega (arith, k .high, k .n-is))
+  fit = quiet-fit (fieldOf bs) (k .accepted .right) s (rw (k .n-is) at (k .start-in))
 
   pub laid-unbegun : (sq : List ℕ) → Square (fieldOf bs) sq → Unbegun laid sq n m s
   laid-unbegun sq h =
@@ -124,8 +124,7 @@ module _ {bs : List ℕ} {n m s : ℕ} {w : List ℤ} (k : Startable bs n m s w)
           n-is = k .n-is ∙ sym (ap nOf fields);
           m-is = k .m-is ∙ sym (ap mOf fields);
         };
-        low = k .low;
-        high = k .high;
+        start-in = k .start-in;
         run =
             ap runIn is
             ∙ runIn-stored (fieldOf bs) (quiet (fieldOf bs) s) w (k .accepted .right) (accepted-table bs (k .accepted) .shut) (fit .held) (fit .formed)

@@ -13,10 +13,11 @@ use lib.IntN.{ℤ, pos}
 use lib.Dec.{ltb}
 use mathlib.Core.Bool.{Bool, true, false}
 use Rattle.base.specs.Choice.{choose}
-use Rattle.base.specs.ChoiceLaws.{Same, same, apart, same?}
+use Rattle.base.specs.ChoiceLaws.{same?}
+use Rattle.base.specs.Checks.{Same, same, apart}
 use Rattle.tables.specs.Table.{Fields}
 use Rattle.steps.specs.Step.{idle}
-use Rattle.areas.specs.Places.{fieldPlace}
+use Rattle.areas.specs.Places.{headSize, fieldPlace}
 use Rattle.areas.specs.Area.{fieldTotalOf, recordPlace, linkPlace, headWord, flagsOf, recordWord, slotWord, linkWord, arcWord, wordOf, stored, areaOf}
 use Rattle.areas.specs.StoredLaws.{stored-of}
 use Rattle.areas.specs.WordLaws.{wordOf-head, wordOf-field, wordOf-record, wordOf-arc, place?}
@@ -45,21 +46,22 @@ cleared-more old new n h c =
 pub copied-none : (t : Fields) (old : List ℤ) → Copied t old 0 old
 copied-none t old = record { long = refl; fields = λ j h. absurd (omega arith); before = λ k h. refl; behind = λ k h. refl }
 
-pub copied-more : (t : Fields) (old new : List ℤ) (n : ℕ) → 14 + n < length old → Copied t old n new → Copied t old (n + 1) (set new (14 + n) (pos (t n)))
+pub copied-more : (t : Fields) (old new : List ℤ) (n : ℕ) → headSize + n < length old → Copied t old n new
+    → Copied t old (n + 1) (set new (headSize + n) (pos (t n)))
 copied-more t old new n h c =
     record {
-      long = length-set new (14 + n) (pos (t n)) ∙ c .long;
+      long = length-set new (headSize + n) (pos (t n)) ∙ c .long;
       fields = λ j u. at j u (same? j n);
       before = λ k u. other k (λ e. omega arith) ∙ c .before k u;
       behind = λ k u. other k (λ e. omega arith) ∙ c .behind k (omega arith);
     }
   where
-    other : (k : ℕ) → (k ≡ 14 + n → ⊥) → getD (set new (14 + n) (pos (t n))) k (pos 0) ≡ getD new k (pos 0)
-    other k d = getD-set-other new (14 + n) k (pos (t n)) (pos 0) d
+    other : (k : ℕ) → (k ≡ headSize + n → ⊥) → getD (set new (headSize + n) (pos (t n))) k (pos 0) ≡ getD new k (pos 0)
+    other k d = getD-set-other new (headSize + n) k (pos (t n)) (pos 0) d
 
-    at : (j : ℕ) → j < n + 1 → Same j n → getD (set new (14 + n) (pos (t n))) (fieldPlace j) (pos 0) ≡ pos (t j)
-    at j u (same e _) = rw e (getD-set-same new (14 + n) (pos (t n)) (pos 0) (omega (arith, c .long)))
-    at j u (apart d _) = other (14 + j) (λ e. d (omega arith)) ∙ c .fields j (omega arith)
+    at : (j : ℕ) → j < n + 1 → Same j n → getD (set new (headSize + n) (pos (t n))) (fieldPlace j) (pos 0) ≡ pos (t j)
+    at j u (same e _) = rw e (getD-set-same new (headSize + n) (pos (t n)) (pos 0) (omega (arith, c .long)))
+    at j u (apart d _) = other (fieldPlace j) (λ e. d (omega arith)) ∙ c .fields j (omega arith)
 
 -- ---- the words of the quiet run
 
@@ -124,7 +126,7 @@ module _ (t : Fields) (s : ℕ) where
     word : (k : ℕ) → k < areaOf t → Place t k → getD laid k (pos 0) ≡ wordOf t (quiet t s) k
     unfolding recordPlace linkPlace
     word k h (in-head u) = head k u ∙ sym (wordOf-head t (quiet t s) k u)
-    word k h (in-table j u e) = rw e (others (14 + j) (omega arith) ∙ copied .fields j u ∙ sym (wordOf-field t (quiet t s) j u))
+    word k h (in-table j u e) = rw e (others (fieldPlace j) (omega arith) ∙ copied .fields j u ∙ sym (wordOf-field t (quiet t s) j u))
     word k h (in-record p j l u v e) =
         past k (omega arith) h
         ∙ sym (quiet-record p j)

@@ -4,20 +4,13 @@
 --   startedBy                == the answer with a number
 -- Assumes nothing.
 use Prim.Native.Nat.{ℕ, zero, suc}
-use mathlib.Core.Bool.{not}
-use mathlib.Core.List.{List}
-use lib.Dec.{eqb, ltb}
-use lib.ListN.{length}
-use lib.IntN.{ℤ}
+use mathlib.Core.{Bool.not, List.List}
+use lib.{Dec.eqb, Dec.ltb, ListN.length, IntN.ℤ}
 use Rattle.base.specs.Choice.{choose}
-use Rattle.tables.specs.Table.{fieldOf, nOf, mOf, isProcess}
-use Rattle.tables.specs.Reading.{readNumber}
-use Rattle.tables.specs.Waits.{waitsOf}
+use Rattle.tables.specs.{Table.fieldOf, Table.nOf, Table.mOf, Table.isProcess, Reading.readNumber, Waits.waitsOf}
 use Rattle.checks.specs.Run.{startRun}
-use Rattle.starting.specs.declared.Started.{Started}
-use Rattle.starting.specs.declared.Started.the-variants.{Ready, Refused}
-use Rattle.areas.specs.Places.{areaLength}
-use Rattle.areas.specs.Area.{stored}
+use Rattle.areas.specs.{Places.areaLength, Area.stored}
+use Rattle.starting.specs.declared.Started.{Started, the-variants.Ready, the-variants.Refused}
 
 -- "Reading a table checks 1 to 7 in order, start 1 to 9."
 unfoldable pub startNumber : List ℕ → ℕ → List ℤ → ℕ

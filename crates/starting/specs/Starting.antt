@@ -6,7 +6,7 @@
 --   Startable bs n m s w    == what the checks 1 to 9 leave: an accepted table with its N and M, a process of it, and words enough
 --   Unbegun w sq n m s      == the area w holds the quiet run of its table, ready to begin
 --   Cleared old n new  == the first n words are 0, the others as before
---   Copied t old n new == the words from 14 on are the first n fields of t, the others as before
+--   Copied t old n new == the words behind the heading are the first n fields of t, the others as before
 -- Assumes nothing.
 use Prim.Native.Nat.{ℕ, _+_, _≤_, _<_}
 use mathlib.Core.List.{List, []}
@@ -15,13 +15,13 @@ use lib.ListN.{length, getD}
 use lib.IntN.{ℤ, pos}
 use Rattle.base.specs.Sums.{countTo}
 use Rattle.tables.specs.declared.Chain.the-variants.{Out, In}
-use Rattle.tables.specs.Table.{Fields, fieldOf, nOf, mOf}
+use Rattle.tables.specs.Table.{Fields, fieldOf, nOf, mOf, IsProcess}
 use Rattle.tables.specs.Layout.{MeetsLayout}
 use Rattle.tables.specs.Waits.{waitsOf}
 use Rattle.steps.specs.declared.Process.{Process}
 use Rattle.steps.specs.Step.{idle}
 use Rattle.checks.specs.Run.{Run, started}
-use Rattle.areas.specs.Places.{areaLength, fieldPlace}
+use Rattle.areas.specs.Places.{headSize, fieldPlace, areaLength}
 use Rattle.areas.specs.Area.{fieldsIn, runIn}
 use Rattle.areas.specs.Replaced.{putProcess}
 use Rattle.areas.specs.Squares.{joinsBy}
@@ -56,14 +56,12 @@ pub record Startable (bs : List ℕ) (n m s : ℕ) (w : List ℤ) : Type 0 where
   pub accepted : MeetsLayout bs
   pub n-is : n ≡ nOf (fieldOf bs)
   pub m-is : m ≡ mOf (fieldOf bs)
-  pub low : 1 ≤ s
-  pub high : s ≤ n
+  pub start-in : IsProcess n s
   pub long : areaLength n m ≤ length w
 
 pub record Unbegun (w : List ℤ) (sq : List ℕ) (n m s : ℕ) : Type 0 where
   pub ready : Ready w sq n m
-  pub low : 1 ≤ s
-  pub high : s ≤ n
+  pub start-in : IsProcess n s
   pub run : runIn w ≡ quiet (fieldsIn w) s
 
 pub record Cleared (old : List ℤ) (n : ℕ) (new : List ℤ) : Type 0 where
@@ -74,5 +72,5 @@ pub record Cleared (old : List ℤ) (n : ℕ) (new : List ℤ) : Type 0 where
 pub record Copied (t : Fields) (old : List ℤ) (n : ℕ) (new : List ℤ) : Type 0 where
   pub long : length new ≡ length old
   pub fields : (j : ℕ) → j < n → getD new (fieldPlace j) (pos 0) ≡ pos (t j)
-  pub before : (k : ℕ) → k < 14 → getD new k (pos 0) ≡ getD old k (pos 0)
-  pub behind : (k : ℕ) → 14 + n ≤ k → getD new k (pos 0) ≡ getD old k (pos 0)
+  pub before : (k : ℕ) → k < headSize → getD new k (pos 0) ≡ getD old k (pos 0)
+  pub behind : (k : ℕ) → headSize + n ≤ k → getD new k (pos 0) ≡ getD old k (pos 0)

@@ -18,11 +18,12 @@ use lib.IntN.{ℤ}
 use Rattle.machine.specs.Machine as Machines
 use Rattle.tables.specs.TableLaws.{isProcess-P}
 use Rattle.base.specs.Choice.{choose}
-use Rattle.base.specs.ChoiceLaws.{Tested, passed, failed, tested, Same, same, apart, same?}
+use Rattle.base.specs.ChoiceLaws.{tested, same?}
+use Rattle.base.specs.Checks.{Tested, passed, failed, Same, same, apart}
 use Rattle.base.specs.SumLaws.{countTo-most}
 use Rattle.tables.specs.declared.Chain.{Chain}
 use Rattle.tables.specs.declared.Chain.the-variants.{Out, In}
-use Rattle.tables.specs.Table.{Fields, fieldOf, nOf, mOf, IsProcess, isProcess}
+use Rattle.tables.specs.Table.{Fields, fieldOf, nOf, mOf, mostProcesses, IsProcess, isProcess}
 use Rattle.tables.specs.Reading.{readNumber}
 use Rattle.tables.specs.Layout.{Right, MeetsLayout}
 use Rattle.tables.specs.LayoutLaws.{accepted-P}
@@ -31,7 +32,7 @@ use Rattle.tables.specs.Sound.{Sound}
 use Rattle.tables.specs.WaitsLaws.{waitsOf-sound}
 use Rattle.tables.specs.Chains.{joins}
 use Rattle.steps.specs.declared.Message.the-variants.{Suc, Pre}
-use Rattle.steps.specs.Step.{inRange, small, idle}
+use Rattle.steps.specs.Step.{mostNum, inRange, small, idle}
 use Rattle.checks.specs.Run.{knot, fatherRight, one, started, startRun}
 use Rattle.areas.specs.Places.{areaLength}
 use Rattle.areas.specs.Contained.{Shut}
@@ -51,7 +52,7 @@ use Rattle.starting.specs.Starting.{quiet, begun, sucSent, startedFrom, 
 pub started-inRange : (w : Waits) → Sound w → (s : ℕ) → inRange (started w s) ≡ true
 unfolding inRange small started outDegree inDegree
 started-inRange w d s =
-    le-leb (outDegree w s + inDegree w s) 256
+    le-leb (outDegree w s + inDegree w s) mostNum
     (omega (arith, countTo-most (w .n) (λ q. w .waits s q), countTo-most (w .n) (λ q. w .waits q s), d .few))
 
 pub started-father : (w v : Waits) (s : ℕ) → fatherRight v s (started w s) ≡ true
@@ -59,7 +60,8 @@ unfolding fatherRight started
 started-father w v s = refl
 
 -- by the square of arcs
-pub startedFrom-is : (t : Fields) (sq : List ℕ) → Square t sq → nOf t ≤ 128 → (s : ℕ) → s ≤ 128 → startedFrom sq (nOf t) s ≡ started (waitsOf t) s
+pub startedFrom-is : (t : Fields) (sq : List ℕ) → Square t sq → nOf t ≤ mostProcesses → (s : ℕ) → s ≤ mostProcesses
+    → startedFrom sq (nOf t) s ≡ started (waitsOf t) s
 unfolding startedFrom started
 startedFrom-is t sq q few s h = rw (degreeBy-is t sq q Out s few h, degreeBy-is t sq q In s few h)
 
@@ -105,6 +107,7 @@ module _ (t : Fields) (right : Right t) (s : ℕ) (process : IsProcess (waitsOf 
               count = omega arith;
               records = λ p _. refl;
               short = λ a b _ _. omega arith;
+              joined = λ a b _ _ _. refl;
               messages = λ a b _ _. refl;
             });
         sound = waitsOf-sound t right;
@@ -186,7 +189,6 @@ startNumber-startable bs s w e =
           accepted = accepted-P bs .0 d;
           n-is = refl;
           m-is = refl;
-          low = isProcess-P n s .0 p .0;
-          high = isProcess-P n s .0 p .1;
+          start-in = isProcess-P n s .0 p;
           long = ltb-false (length w) (areaLength n m) l;
         }

@@ -7,13 +7,14 @@ use lenses::sending;
 use steps::Process;
 use tables::Chain;
 use tables::Reading;
+use tables::is_process;
 ghost use mathlib.Core.Path.{_≡_};
 ghost use Prim.Native.Nat.{_+_, _*_, _≤_};
 ghost use lib.ListN.{length};
-ghost use Rattle.tables.specs.Table.{fieldOf};
+ghost use Rattle.tables.specs.Table.{fieldOf, mostProcesses};
 ghost use Rattle.tables.specs.Waits.{waitsOf};
 ghost use Rattle.checks.specs.Run.{startRun};
-ghost use Rattle.areas.specs.Places.{mostProcesses, headSize};
+ghost use Rattle.areas.specs.Places.{headSize};
 ghost use Rattle.areas.specs.Area.{stored, fieldsIn, keeping};
 ghost use Rattle.starting.specs.Starting.{Startable, Unbegun, Cleared, Copied, quiet, startedFrom};
 ghost use Rattle.starting.specs.StartCall.{startAnswer, startArea};
@@ -61,7 +62,7 @@ fn lay_out(table: &[u8], n: usize, m: usize, s: usize, area: &mut [i32])
 }
 
 // The start's record: both flags, and the number of probes that it sends.
-fn first_record(square: &[u16; places::SQUARE_SIZE], n: usize, s: usize) -> Process
+fn first_record(square: &[u16; tables::SQUARE_SIZE], n: usize, s: usize) -> Process
     requires { ⌜ (n ≤ mostProcesses) × (s ≤ mostProcesses) ⌝ }
     ensures { λ r. ⌜ r ≡ startedFrom (now (square .entry)) n s ⌝ }
 {
@@ -78,7 +79,7 @@ fn first_record(square: &[u16; places::SQUARE_SIZE], n: usize, s: usize) -> Proc
 }
 
 // Begins the run: the start's record, then suc to each successor, then pre to each predecessor.
-fn begin(area: &mut [i32], square: &[u16; places::SQUARE_SIZE], n: usize, m: usize, s: usize)
+fn begin(area: &mut [i32], square: &[u16; tables::SQUARE_SIZE], n: usize, m: usize, s: usize)
     requires { ⌜ Unbegun (now area) (now square) n m s ⌝ }
     ensures { λ _. ⌜ now (area .exit) ≡ keeping (now (area .entry)) (startRun (waitsOf (fieldsIn (now (area .entry)))) s) ⌝ }
 {
@@ -93,7 +94,7 @@ fn set_up(table: &[u8], n: usize, m: usize, s: usize, area: &mut [i32])
     requires { ⌜ Startable (now table) n m s (now area) ⌝ }
     ensures { λ _. ⌜ now (area .exit) ≡ stored (fieldOf (now (table .entry))) (startRun (waitsOf (fieldOf (now (table .entry)))) s) (now (area .entry)) ⌝ }
 {
-    let mut square = [0u16; places::SQUARE_SIZE];
+    let mut square = [0u16; tables::SQUARE_SIZE];
     squares::fill(table, n, m, &mut square);
     lay_out(table, n, m, s, area);
     begin(area, &square, n, m, s);
@@ -107,10 +108,7 @@ pub fn start(table: &[u8], s: usize, area: &mut [i32]) -> Started
     match table_reader::read(table) {
         Reading::Refused(r) => Started::Refused(r),
         Reading::Accepted { n, m } => {
-            if s == 0 {
-                return Started::Refused(8);
-            }
-            if s > n {
+            if !is_process(s, n) {
                 return Started::Refused(8);
             }
             if area.len() < places::area_length(n, m) {

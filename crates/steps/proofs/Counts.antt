@@ -19,10 +19,11 @@ use mir.Syntax.{w32}
 use mir.Val.{toZ, ofZ}
 use mir.Facts.{toZ-ofZ}
 use borrow.Author.Tests.{leb-true, le-leb, lt-leb, ltb-true, ltb-false}
-use Rattle.base.specs.ChoiceLaws.{Tested, passed, failed, tested}
+use Rattle.base.specs.ChoiceLaws.{tested}
+use Rattle.base.specs.Checks.{Tested, passed, failed}
 use Rattle.base.specs.Choice.{choose}
 use Rattle.steps.specs.declared.Process.{Process}
-use Rattle.steps.specs.Step.{small, newSubordinate}
+use Rattle.steps.specs.Step.{mostCount, small, newSubordinate}
 
 pub signed-back : (z : ℤ) → mag z < 2 ^ 31 → toZ w32 (ofZ w32 z) ≡ z
 signed-back z h = toZ-ofZ {w = w32} {z = z} (record { sfits = h })
@@ -30,9 +31,9 @@ signed-back z h = toZ-ofZ {w = w32} {z = z} (record { sfits = h })
 pub small-back : {b : Bool} (z : ℤ) → mag z < 2 ^ 31 → b ≡ small (toZ w32 (ofZ w32 z)) → b ≡ small z
 small-back z h e = rw (signed-back z h) at e
 
-small-mag : (z : ℤ) → small z ≡ true → natAbs z ≤ 128
+small-mag : (z : ℤ) → small z ≡ true → natAbs z ≤ mostCount
 unfolding small
-small-mag z e = leb-true (natAbs z) 128 e
+small-mag z e = leb-true (natAbs z) mostCount e
 
 pub mag-abs : (z : ℤ) → mag z ≤ natAbs z
 mag-abs (pos n) = omega arith
@@ -41,15 +42,15 @@ mag-abs (negsuc n) = omega arith
 pub small-fits : (z : ℤ) → small z ≡ true → mag z < 2 ^ 31
 small-fits z e = omega (arith, small-mag z e, mag-abs z)
 
-pub small-below : (z : ℤ) → ltZ z (negsuc 127) ≡ true → small z ≡ false
+pub small-below : (z : ℤ) → ltZ z (negsuc (mostCount - 1)) ≡ true → small z ≡ false
 unfolding small
 small-below (pos n) e = absurd (false≢true e)
-small-below (negsuc n) e = lt-leb (suc n) 128 (omega (arith, ltb-true 127 n e))
+small-below (negsuc n) e = lt-leb (suc n) mostCount (omega (arith, ltb-true (mostCount - 1) n e))
 
-pub small-test : (z : ℤ) → ltZ z (negsuc 127) ≡ false → leZ z (pos 128) ≡ small z
+pub small-test : (z : ℤ) → ltZ z (negsuc (mostCount - 1)) ≡ false → leZ z (pos mostCount) ≡ small z
 unfolding small
 small-test (pos n) e = refl
-small-test (negsuc n) e = sym (le-leb (suc n) 128 (omega (arith, ltb-false 127 n e)))
+small-test (negsuc n) e = sym (le-leb (suc n) mostCount (omega (arith, ltb-false (mostCount - 1) n e)))
 
 sub-abs : (a b : ℕ) → natAbs (subℕ a b) ≤ a + b
 sub-abs a b = at (tested (ltb a b))
@@ -69,8 +70,8 @@ small-sum x y p q = omega (arith, small-mag x p, small-mag y q, sum-abs x y, mag
 
 pub small-change : (new old : ℕ) → new ≤ 1 → old ≤ 1 → small (pos new -ℤ pos old) ≡ true
 unfolding small
-small-change new zero p q = le-leb (new + 0) 128 (omega arith)
-small-change new (suc old) p q = le-leb (natAbs (subℕ new (suc old))) 128 (omega (arith, sub-abs new (suc old)))
+small-change new zero p q = le-leb (new + 0) mostCount (omega arith)
+small-change new (suc old) p q = le-leb (natAbs (subℕ new (suc old))) mostCount (omega (arith, sub-abs new (suc old)))
 
 -- a flag as a signed number
 pub flag-back : (v : ℕ) → v ≤ 1 → toZ w32 v ≡ pos v

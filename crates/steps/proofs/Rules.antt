@@ -16,13 +16,15 @@ use mir.Syntax.{w32}
 use mir.Val.{toZ, ofZ}
 use borrow.Author.Tests.{leb-true}
 use Rattle.base.specs.Choice.{choose}
-use Rattle.base.specs.ChoiceLaws.{Same, same, apart, same?, and-left, and-right}
+use Rattle.base.specs.ChoiceLaws.{same?, and-left, and-right}
+use Rattle.base.specs.Checks.{Same, same, apart}
+use Rattle.tables.specs.Table.{mostProcesses}
 use Rattle.steps.specs.declared.Message.{Message}
 use Rattle.steps.specs.declared.Message.the-variants.{Ack}
 use Rattle.steps.specs.declared.Process.{Process}
 use Rattle.steps.specs.declared.Stepped.{Stepped}
 use Rattle.steps.specs.Step.{Turn, withSubordinate, withCs, small, inRange, countSmall, lentInRange, numSuffices, fitting, answer}
-use Rattle.steps.specs.Step.{newSubordinate, gained, rule1, setSucceeding, setPreceding, rule3}
+use Rattle.steps.specs.Step.{mostNum, newSubordinate, gained, rule1, setSucceeding, setPreceding, rule3}
 use Rattle.steps.specs.Within.{Addable, settled}
 use Rattle.steps.proofs.Counts.{signed-back}
 
@@ -37,25 +39,25 @@ and-five a b c d e h =
 pub record Ranged (x : Process) : Type 0 where
   pub flag : x .subordinate ≤ 1
   pub count : small (x .cs) ≡ true
-  pub few : x .num ≤ 256
+  pub few : x .num ≤ mostNum
 
 pub ranged : (x : Process) → inRange x ≡ true → Ranged x
 unfolding inRange
 ranged x e =
-    let h = and-five (leb (x .succeeding) 1) (leb (x .preceding) 1) (leb (x .subordinate) 1) (small (x .cs)) (leb (x .num) 256) e in
-    record { flag = leb-true (x .subordinate) 1 (h .2); count = h .3; few = leb-true (x .num) 256 (h .4) }
+    let h = and-five (leb (x .succeeding) 1) (leb (x .preceding) 1) (leb (x .subordinate) 1) (small (x .cs)) (leb (x .num) mostNum) e in
+    record { flag = leb-true (x .subordinate) 1 (h .2); count = h .3; few = leb-true (x .num) mostNum (h .4) }
 
 pub record Lent (m : Message) (o i : ℕ) (x : Process) : Type 0 where
   pub process : inRange x ≡ true
   pub count : countSmall m ≡ true
-  pub out : o ≤ 128
-  pub into : i ≤ 128
+  pub out : o ≤ mostProcesses
+  pub into : i ≤ mostProcesses
 
 pub lent : (m : Message) (o i : ℕ) (x : Process) → lentInRange m o i x ≡ true → Lent m o i x
 unfolding lentInRange
 lent m o i x e =
-    let h = and-five (inRange x) (leb (x .father) 128) (countSmall m) (leb o 128) (leb i 128) e in
-    record { process = h .0; count = h .2; out = leb-true o 128 (h .3); into = leb-true i 128 (h .4) }
+    let h = and-five (inRange x) (leb (x .father) mostProcesses) (countSmall m) (leb o mostProcesses) (leb i mostProcesses) e in
+    record { process = h .0; count = h .2; out = leb-true o mostProcesses (h .3); into = leb-true i mostProcesses (h .4) }
 
 pub rule1-num : (p : ℕ) (x : Process) → rule1 p x .process .num ≡ x .num
 unfolding rule1

@@ -29,7 +29,7 @@ use Rattle.steps.specs.declared.Probes.{Probes}
 use Rattle.steps.specs.declared.Probes.the-variants.{Sucs, Pres}
 use Rattle.steps.specs.declared.Reply.{Reply}
 use Rattle.steps.specs.declared.Reply.the-variants.{To}
-use Rattle.steps.specs.Step.{Turn, newSubordinate}
+use Rattle.steps.specs.Step.{mostCount, mostNum, Turn, newSubordinate}
 
 -- a suc probe or a pre probe; every other message is an acknowledgement
 abbrev pub isProbe : Message → Bool
@@ -145,5 +145,5 @@ pub record RecordInRange (x : Process) : Type 0 where
   pub succeeding : x .succeeding ≤ 1
   pub preceding : x .preceding ≤ 1
   pub subordinate : x .subordinate ≤ 1
-  pub cs : natAbs (x .cs) ≤ 128
-  pub num : x .num ≤ 256
+  pub cs : natAbs (x .cs) ≤ mostCount
+  pub num : x .num ≤ mostNum

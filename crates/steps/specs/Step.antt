@@ -1,4 +1,5 @@
 -- The step of one process, in the words and order of 01, "Steps (002, section 3.3)".
+--   mostCount, mostNum  == "cs (−128 to 128), num (0 to 256)": the largest of each
 --   inRange x           == "succeeding, preceding, subordinate (0 or 1 each), cs (−128 to 128), num (0 to 256)"
 --   small z             == "The count may be negative (−128 to 128)": z is in that range
 --   idle                == "All values 0"
@@ -15,23 +16,25 @@ use mathlib.Core.Bool.{Bool, true, not, _&&_, _||_}
 use lib.Dec.{eqb, leb, ltb}
 use lib.IntN.{ℤ, pos, _+ℤ_, _-ℤ_, natAbs}
 use Rattle.base.specs.Choice.{choose}
-use Rattle.steps.specs.declared.Message.{Message}
-use Rattle.steps.specs.declared.Message.the-variants.{Suc, Pre, Ack}
-use Rattle.steps.specs.declared.Process.{Process}
-use Rattle.steps.specs.declared.Probes.{Probes}
-use Rattle.steps.specs.declared.Probes.the-variants.{Sucs, Pres}
-use Rattle.steps.specs.declared.Reply.{Reply}
-use Rattle.steps.specs.declared.Reply.the-variants.{To}
-use Rattle.steps.specs.declared.Stepped.{Stepped}
-use Rattle.steps.specs.declared.Stepped.the-variants.{Taken, Refused}
+use Rattle.tables.specs.Table.{mostProcesses}
+use Rattle.steps.specs.declared.{Message.Message, Message.the-variants.Suc, Message.the-variants.Pre, Message.the-variants.Ack, Process.Process}
+use Rattle.steps.specs.declared.{Probes.Probes, Probes.the-variants.Sucs, Probes.the-variants.Pres, Reply.Reply, Reply.the-variants.To}
+use Rattle.steps.specs.declared.{Stepped.Stepped, Stepped.the-variants.Taken, Stepped.the-variants.Refused}
+
+-- "cs (−128 to 128), num (0 to 256)"
+abbrev pub mostCount : ℕ
+mostCount = 128
+
+abbrev pub mostNum : ℕ
+mostNum = 256
 
 -- "The count may be negative (−128 to 128)": the range of counts and of cs
 unfoldable pub small : ℤ → Bool
-small z = leb (natAbs z) 128
+small z = leb (natAbs z) mostCount
 
 -- "succeeding, preceding, subordinate (0 or 1 each), cs (−128 to 128), num (0 to 256)"
 unfoldable pub inRange : Process → Bool
-inRange x = leb (x .succeeding) 1 && leb (x .preceding) 1 && leb (x .subordinate) 1 && small (x .cs) && leb (x .num) 256
+inRange x = leb (x .succeeding) 1 && leb (x .preceding) 1 && leb (x .subordinate) 1 && small (x .cs) && leb (x .num) mostNum
 
 -- "an acknowledgement with its count": a probe has none to be out of range
 unfoldable pub countSmall : Message → Bool
@@ -142,13 +145,13 @@ fitting m x t = numSuffices m x && inRange (t .process) && replyFits (t .reply)
 
 -- "record or count out of range, father over 128 or a degree over 128"
 unfoldable pub lentInRange : Message → ℕ → ℕ → Process → Bool
-lentInRange m o i x = inRange x && leb (x .father) 128 && countSmall m && leb o 128 && leb i 128
+lentInRange m o i x = inRange x && leb (x .father) mostProcesses && countSmall m && leb o mostProcesses && leb i mostProcesses
 
 -- "One process's step checks 21, 25, 22": the first that is met, or 0
 unfoldable pub stepNumber : Message → ℕ → ℕ → ℕ → Process → ℕ
 stepNumber m o i p x =
     choose (not (lentInRange m o i x)) 21
-    (choose (eqb p 0 || ltb 128 p) 25
+    (choose (eqb p 0 || ltb mostProcesses p) 25
     (choose (not (fitting m x (turn m o i p x))) 22
     0))
 

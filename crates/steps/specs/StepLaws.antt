@@ -18,7 +18,8 @@ use borrow.Author.Tests.{leb-true, le-leb, ne-eqb, le-ltb}
 use lib.Dec.{eqb, leb}
 use lib.IntN.{ℤ, pos, _+ℤ_, _-ℤ_, natAbs}
 use Rattle.base.specs.Choice.{choose, bit}
-use Rattle.base.specs.ChoiceLaws.{and-left, and-right, Same, same, apart, same?, Tested, passed, failed, tested}
+use Rattle.base.specs.ChoiceLaws.{and-left, and-right, same?, tested}
+use Rattle.base.specs.Checks.{Same, same, apart, Tested, passed, failed}
 use Rattle.base.specs.Sums.{spot}
 use Rattle.base.specs.Parts.{above, below}
 use Rattle.machine.specs.WeightLaws.{heir-none, heir-some, heir-start, spot-zero}
@@ -30,8 +31,9 @@ use Rattle.steps.specs.declared.Probes.{Probes}
 use Rattle.steps.specs.declared.Probes.the-variants.{Sucs, Pres}
 use Rattle.steps.specs.declared.Reply.{Reply}
 use Rattle.steps.specs.declared.Reply.the-variants.{To}
+use Rattle.tables.specs.Table.{mostProcesses}
 use Rattle.steps.specs.Step.{small, inRange, Turn, newSubordinate, gained, rule1, setSucceeding, setPreceding, rule3, rule4, acknowledged, turn}
-use Rattle.steps.specs.Step.{startTurn, lentInRange, fitting, stepNumber, answer, stepped}
+use Rattle.steps.specs.Step.{mostCount, mostNum, startTurn, lentInRange, fitting, stepNumber, answer, stepped}
 use Rattle.steps.specs.Effect.{Grown, RecordInRange, kindSucs, kindPres, isProbe, isSuc, isPre, countOf, sucsOf, presOf, replyCount, acksTo}
 use Rattle.steps.specs.Effect.{heirTo, both, Known, Effect, Named, outNeeded, inNeeded}
 
@@ -467,34 +469,36 @@ turn-needed Pre o i p x = ap (λ (t : Turn). rule4 (rule3 t)) (setPreceding-need
 turn-needed (Ack c) o i p x = refl
 
 -- a degree that is not used is 0
-choose-few : (t : Bool) {o : ℕ} → o ≤ 128 → choose t o 0 ≤ 128
+choose-few : (t : Bool) {o : ℕ} → o ≤ mostProcesses → choose t o 0 ≤ mostProcesses
 choose-few true h = h
 choose-few false h = omega arith
 
-out-few : (m : Message) (x : Process) {o : ℕ} → o ≤ 128 → outNeeded m x o ≤ 128
+out-few : (m : Message) (x : Process) {o : ℕ} → o ≤ mostProcesses → outNeeded m x o ≤ mostProcesses
 out-few Suc x h = choose-few (eqb (x .succeeding) 0) h
 out-few Pre x h = omega arith
 out-few (Ack c) x h = omega arith
 
-in-few : (m : Message) (x : Process) {i : ℕ} → i ≤ 128 → inNeeded m x i ≤ 128
+in-few : (m : Message) (x : Process) {i : ℕ} → i ≤ mostProcesses → inNeeded m x i ≤ mostProcesses
 in-few Suc x h = omega arith
 in-few Pre x h = choose-few (eqb (x .preceding) 0) h
 in-few (Ack c) x h = omega arith
 
-lent-needed : (m : Message) (o i : ℕ) (x : Process) → o ≤ 128 → i ≤ 128 → lentInRange m (outNeeded m x o) (inNeeded m x i) x ≡ lentInRange m o i x
+lent-needed : (m : Message) (o i : ℕ) (x : Process) → o ≤ mostProcesses → i ≤ mostProcesses
+    → lentInRange m (outNeeded m x o) (inNeeded m x i) x ≡ lentInRange m o i x
 unfolding lentInRange
 lent-needed m o i x h k =
-    rw (le-leb (outNeeded m x o) 128 (out-few m x h), le-leb (inNeeded m x i) 128 (in-few m x k), le-leb o 128 h, le-leb i 128 k)
+    rw (le-leb (outNeeded m x o) _ (out-few m x h), le-leb (inNeeded m x i) _ (in-few m x k), le-leb o mostProcesses h, le-leb i mostProcesses k)
 
-pub stepped-needed : (m : Message) (o i p : ℕ) (x : Process) → o ≤ 128 → i ≤ 128 → stepped m (outNeeded m x o) (inNeeded m x i) p x ≡ stepped m o i p x
+pub stepped-needed : (m : Message) (o i p : ℕ) (x : Process) → o ≤ mostProcesses → i ≤ mostProcesses
+    → stepped m (outNeeded m x o) (inNeeded m x i) p x ≡ stepped m o i p x
 unfolding stepped stepNumber
 stepped-needed m o i p x h k = rw (lent-needed m o i x h k, turn-needed m o i p x)
 
 pub stepped-inside :
-    (m : Message) (o i p : ℕ) (x : Process) → lentInRange m o i x ≡ true → (p ≡ 0 → ⊥) → p ≤ 128 →
+    (m : Message) (o i p : ℕ) (x : Process) → lentInRange m o i x ≡ true → (p ≡ 0 → ⊥) → p ≤ mostProcesses →
     stepped m o i p x ≡ answer (choose (not (fitting m x (turn m o i p x))) 22 0) (turn m o i p x)
 unfolding stepped stepNumber
-stepped-inside m o i p x e n h = rw (e, ne-eqb p 0 n, le-ltb 128 p h)
+stepped-inside m o i p x e n h = rw (e, ne-eqb p 0 n, le-ltb mostProcesses p h)
 
 -- ---- a record in range
 
@@ -504,8 +508,8 @@ inRange-P x e =
     let s : Bool = leb (x .succeeding) 1 in
     let p : Bool = leb (x .preceding) 1 in
     let u : Bool = leb (x .subordinate) 1 in
-    let c : Bool = leb (natAbs (x .cs)) 128 in
-    let n : Bool = leb (x .num) 256 in
+    let c : Bool = leb (natAbs (x .cs)) mostCount in
+    let n : Bool = leb (x .num) mostNum in
     let e₄ : (s && p && u && c) ≡ true = and-left (s && p && u && c) n e in
     let e₃ : (s && p && u) ≡ true = and-left (s && p && u) c e₄ in
     let e₂ : (s && p) ≡ true = and-left (s && p) u e₃ in
@@ -513,6 +517,6 @@ inRange-P x e =
       succeeding = leb-true (x .succeeding) 1 (and-left s p e₂);
       preceding = leb-true (x .preceding) 1 (and-right s p e₂);
       subordinate = leb-true (x .subordinate) 1 (and-right (s && p) u e₃);
-      cs = leb-true (natAbs (x .cs)) 128 (and-right (s && p && u) c e₄);
-      num = leb-true (x .num) 256 (and-right (s && p && u && c) n e);
+      cs = leb-true (natAbs (x .cs)) mostCount (and-right (s && p && u) c e₄);
+      num = leb-true (x .num) mostNum (and-right (s && p && u && c) n e);
     }

@@ -1,13 +1,24 @@
 // Messages, process records, and one process's step (01, section "Steps"), by value: a function for each rule.
 // step takes any values whatever and refuses with 21, 25 or 22; start_step refuses with 22. No sum wraps.
-// The code stands on base alone, a law of it on machine.
+// The code stands on tables for the largest N, a law of it on machine.
 ghost use mathlib.Core.Path.{_≡_};
 ghost use mathlib.Core.Bool.{true};
 ghost use Prim.Native.Nat.{_≤_};
 ghost use lib.IntN.{pos, _+ℤ_, _-ℤ_};
-ghost use Rattle.steps.specs.Step.{small, inRange, countSmall, lentInRange, numSuffices, replyFits, newSubordinate, rule1};
+ghost use Rattle.tables.specs.Table.{mostProcesses};
+ghost use Rattle.steps.specs.Step.{mostNum, small, inRange, countSmall, lentInRange, numSuffices, replyFits, newSubordinate, rule1};
 ghost use Rattle.steps.specs.Step.{setSucceeding, setPreceding, rule3, rule4, acknowledged, turn, stepped, startTurn, startStepped};
 ghost use Rattle.steps.specs.Within.{Addable, settled};
+
+// "cs (−128 to 128), num (0 to 256)"
+pub const MOST_COUNT: i32 = 128;
+
+pub const LEAST_COUNT: i32 = -MOST_COUNT;
+
+pub const MOST_NUM: u32 = 256;
+
+// The largest number of a process, and of its successors or predecessors, as a record holds them.
+const MOST_PROCESSES: u32 = tables::MOST_PROCESSES as u32;
 
 pub enum Message {
     Suc,
@@ -58,10 +69,10 @@ pub enum Stepped {
 fn is_small(count: i32) -> bool
     ensures { λ r. ⌜ r ≡ small count ⌝ }
 {
-    if count < -128 {
+    if count < LEAST_COUNT {
         return false;
     }
-    count <= 128
+    count <= MOST_COUNT
 }
 
 // The sum of two counts in range.
@@ -98,7 +109,7 @@ pub fn is_in_range(process: Process) -> bool
     if !is_small(process.cs) {
         return false;
     }
-    process.num <= 256
+    process.num <= MOST_NUM
 }
 
 // A probe has no count to be out of range.
@@ -119,16 +130,16 @@ fn is_lent_in_range(process: Process, message: Message, out_degree: u32, in_degr
     if !is_in_range(process) {
         return false;
     }
-    if process.father > 128 {
+    if process.father > MOST_PROCESSES {
         return false;
     }
     if !is_count_small(message) {
         return false;
     }
-    if out_degree > 128 {
+    if out_degree > MOST_PROCESSES {
         return false;
     }
-    in_degree <= 128
+    in_degree <= MOST_PROCESSES
 }
 
 // Rule 1: "If num is 0, father becomes p. Otherwise it acknowledges to p with cs, and cs becomes 0."
@@ -170,8 +181,8 @@ fn rule1(sender: u32, process: Process) -> Turn
 
 // Rule 2: "A suc probe when not succeeding sets it, sends suc to all successors and adds their number to num."
 fn set_succeeding(out_degree: u32, turn: Turn) -> Turn
-    requires { ⌜ «out_degree» ≤ 128 ⌝ }
-    requires { ⌜ turn .process .num ≤ 256 ⌝ }
+    requires { ⌜ «out_degree» ≤ mostProcesses ⌝ }
+    requires { ⌜ turn .process .num ≤ mostNum ⌝ }
     ensures { λ r. ⌜ r ≡ setSucceeding «out_degree» turn ⌝ }
 {
     let process = turn.process;
@@ -196,8 +207,8 @@ fn set_succeeding(out_degree: u32, turn: Turn) -> Turn
 
 // Rule 2: "A pre probe does the same with preceding and predecessors."
 fn set_preceding(in_degree: u32, turn: Turn) -> Turn
-    requires { ⌜ «in_degree» ≤ 128 ⌝ }
-    requires { ⌜ turn .process .num ≤ 256 ⌝ }
+    requires { ⌜ «in_degree» ≤ mostProcesses ⌝ }
+    requires { ⌜ turn .process .num ≤ mostNum ⌝ }
     ensures { λ r. ⌜ r ≡ setPreceding «in_degree» turn ⌝ }
 {
     let process = turn.process;
@@ -411,7 +422,7 @@ pub fn step(
     if sender == 0 {
         return Stepped::Refused(25);
     }
-    if sender > 128 {
+    if sender > MOST_PROCESSES {
         return Stepped::Refused(25);
     }
     if !is_num_sufficient(message, process) {

@@ -9,7 +9,7 @@ use mathlib.Core.Path.{_≡_, refl, sym, ap, _∙_}
 use native.Mathlib.Omega.{arith}
 use lib.ListN.{length}
 use Rattle.tables.specs.declared.Reading.{Reading}
-use Rattle.tables.specs.Table.{Fields, fieldOf, nOf, mOf, SizesFit, tableLength}
+use Rattle.tables.specs.Table.{Fields, fieldOf, nOf, mOf, mostProcesses, mostArcs, SizesFit, tableLength}
 use Rattle.tables.specs.TableLaws.{sizesFit-not}
 use Rattle.tables.specs.Layout.{Sizes}
 use Rattle.tables.specs.Reading.{sizesRight, fieldsNumber, readNumber, answer, readingOf}
@@ -46,7 +46,7 @@ module _ (bs : List ℕ) where
     pub readingOf-2 : (SizesFit n m → ⊥) → Reading.Refused 2 ≡ readingOf bs
     readingOf-2 h = refused 2 (readNumber-2 bs long (sizes-not (fieldOf bs) (λ s. h (omega arith, omega arith, omega arith)))) (λ e. omega arith)
 
-    module _ (l : n ≡ 0 → ⊥) (u : n ≤ 128) (h : m ≤ 512) where
+    module _ (l : n ≡ 0 → ⊥) (u : n ≤ mostProcesses) (h : m ≤ mostArcs) where
       sizes : sizesRight (fieldOf bs) ≡ true
       sizes = sizesRight-P (fieldOf bs) .1 (omega arith, omega arith, omega arith)
 

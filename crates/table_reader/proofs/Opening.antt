@@ -18,7 +18,8 @@ use Rattle.tables.specs.Table.{fieldOf, nOf, isProcess, first}
 use Rattle.tables.specs.TableLaws.{isProcess-P}
 use Rattle.tables.specs.Reading.{readNumber, readingOf}
 use Rattle.tables.specs.Walking.{orElse, openNumber, openAnswer, openedOf}
-use Rattle.tables.specs.ReadingLaws.{Accepts, accepted-told, Refuses, refused-told}
+use Rattle.tables.specs.ReadingLaws.{accepted-told, refused-told}
+use Rattle.tables.specs.ReadingFacts.{Accepts, Refuses}
 
 openAnswer-refused : (q r k : ℕ) → q ≡ r → (r ≡ 0 → ⊥) → Opened.Refused r ≡ openAnswer q k
 unfolding openAnswer

@@ -189,11 +189,11 @@ fn arcs_unlike(s: &[u8], n: usize, m: usize) -> bool
     requires { ⌜ allTo m (endsRight (fieldOf (now s))) ≡ true ⌝ }
     ensures { λ r. ⌜ r ≡ allTo m (unlikeBefore (fieldOf (now (s .entry)))) ⌝ }
 {
-    let mut met = [false; 16641];
+    let mut met = [false; tables::SQUARE_SIZE];
     let end = m + 1;
     for k in 1..end {
         let a = arc_at(s, n, k);
-        let cell = a.from * 129 + a.to;
+        let cell = a.from * tables::SIDE + a.to;
         if met[cell] {
             return false;
         }
@@ -241,10 +241,10 @@ pub fn read(s: &[u8]) -> Reading
     if n == 0 {
         return Reading::Refused(2);
     }
-    if n > 128 {
+    if n > tables::MOST_PROCESSES {
         return Reading::Refused(2);
     }
-    if m > 512 {
+    if m > tables::MOST_ARCS {
         return Reading::Refused(2);
     }
     if s.len() != 4 + 4 * n + 8 * m {

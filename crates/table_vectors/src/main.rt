@@ -1,20 +1,31 @@
-// Runs vectors of wait tables (01, "Wait table") through the crates `table_reader` and `table_writer` and prints what they
-// answer, a line for each answer.
+// Runs vectors of wait tables (01, "Wait table") through the crates `table_reader`, `table_writer` and `walks` and prints what they answer.
 //
 // Standard input is a sequence of cases. A case is a byte for its kind, then 16 bits for the number of its bytes, then those bytes.
 // Every 16 bits are unsigned, low byte first.
-//   R  the bytes are read as a table. It prints `read accepted N M`, or `read refused NUMBER`.
+//   R  the bytes are read as a table. It prints `read accepted N M`, or `read refused NUMBER`. Then the chains are walked: for the processes
+//      0 to N + 1 of an accepted table, and for process 1 of a refused one, a line `out P:` and a line `in P:` with `refused NUMBER` if
+//      the opening was refused, and `ARC>NEXT` for each step up to the end: the arc that the walk stands at and what the step gives,
+//      `end` at the end. Last `next out:` and `next in:`, what a step gives from each arc number 0 to M + 1, from 65535 and from the
+//      largest number, M being what the bytes say, but at most 513.
 //   W  the bytes are N, the output's length in bytes and the entries of a list, 16 bits each. The table is written into an output of
 //      that length that holds the mark 165 throughout. It prints `write refused NUMBER`, or `write LENGTH` with the table's length,
 //      and then, on the same line, `kept` if every byte of the output that must keep its value still holds the mark, else `changed`.
-//      A written table is read back as by R; if it has at most 16 arcs there is a line `arc K: FROM TO` for each; and `sum NUMBER`
-//      is the Adler-32 of the whole output.
+//      A written table is read back, `read accepted N M`; if it has at most 16 arcs there is a line `arc K: FROM TO` for each, and its
+//      chains are walked as by R; and `sum NUMBER` is the Adler-32 of the whole output.
 // A whole case of another kind, or a W whose bytes are odd in number or under 4, prints `no such case`. If bytes are left that make
 // no whole case, `input ends early` is the last line. No case is refused for its length: any 16 bits will do.
 //
 // The program promises only that it is safe and ends: what it prints is held to the file stdout, which tools/table_vectors.py makes
-// with the file stdin. It stands on those two and on the kit's `io` and `libc`. A part of an array is written from 0, `[0..end]`, which
+// with the file stdin. It stands on those three and on the kit's `io` and `libc`. A part of an array is written from 0, `[0..end]`, which
 // asks only for the bounds.
+mod output;
+mod walking;
+
+use crate::output::print;
+use crate::output::print_number;
+use crate::walking::print_both;
+use crate::walking::print_steps;
+use crate::walking::print_walks;
 use table_writer::Writing;
 use tables::Reading;
 ghost use Prim.Native.Nat.{_≤_};
@@ -31,14 +42,6 @@ enum Heading {
     Case(u8, u16),
     Short,
     End,
-}
-
-fn print(text: &[u8]) {
-    io::write_all(libc::STDOUT_FILENO, text);
-}
-
-fn print_number(n: u64) {
-    io::print_decimal(libc::STDOUT_FILENO, n);
 }
 
 // 16 bits, unsigned, low byte first.
@@ -94,24 +97,33 @@ fn print_kept(is_kept: bool) {
     }
 }
 
-// Prints the answer of reading the bytes, and gives the number of arcs, 0 if they are refused.
-fn print_reading(s: &[u8]) -> usize {
+fn print_accepted(n: usize, m: usize) {
+    print(b"read accepted ");
+    print_number(n as u64);
+    print(b" ");
+    print_number(m as u64);
+    print(b"\n");
+}
+
+fn print_refused(number: u32) {
+    print(b"read refused ");
+    print_number(number as u64);
+    print(b"\n");
+}
+
+// Prints the answer of reading the bytes, the walks along their chains and the steps from their arcs.
+fn print_reading(s: &[u8]) {
     match table_reader::read(s) {
         Reading::Accepted { n, m } => {
-            print(b"read accepted ");
-            print_number(n as u64);
-            print(b" ");
-            print_number(m as u64);
-            print(b"\n");
-            m
+            print_accepted(n, m);
+            print_walks(s, n);
         }
         Reading::Refused(number) => {
-            print(b"read refused ");
-            print_number(number as u64);
-            print(b"\n");
-            0
+            print_refused(number);
+            print_both(s, 1);
         }
     }
+    print_steps(s);
 }
 
 // Prints the ends of arc k, or nothing if the bytes have no such arc.
@@ -152,9 +164,15 @@ fn print_arcs(s: &[u8], m: usize) {
 
 // Prints the table in the bytes as it is read back.
 fn print_table(s: &[u8]) {
-    let m = print_reading(s);
-    if m <= FEW {
-        print_arcs(s, m);
+    match table_reader::read(s) {
+        Reading::Accepted { n, m } => {
+            print_accepted(n, m);
+            if m <= FEW {
+                print_arcs(s, m);
+                print_walks(s, n);
+            }
+        }
+        Reading::Refused(number) => print_refused(number),
     }
 }
 
@@ -221,9 +239,7 @@ fn write_case(s: &[u8]) {
 
 fn run_case(kind: u8, s: &[u8]) {
     match kind {
-        b'R' => {
-            print_reading(s);
-        }
+        b'R' => print_reading(s),
         b'W' => write_case(s),
         _ => no_such_case(),
     }

@@ -14,14 +14,16 @@ use lib.Seq.{getD-set-same, getD-set-other, ext-getD, getD-append-add, getD-drop
 use borrow.Author.Tests.{ltb-true, ltb-false}
 use native.Mathlib.Omega.{arith}
 use native.Mathlib.Numerals.{add-one}
-use Rattle.base.specs.ChoiceLaws.{Same, same, apart, same?, Tested, passed, failed, tested}
+use Rattle.base.specs.ChoiceLaws.{same?, tested}
+use Rattle.base.specs.Checks.{Same, same, apart, Tested, passed, failed}
 use Rattle.tables.specs.declared.Chain.{Chain}
 use Rattle.tables.specs.declared.Chain.the-variants.{Out, In}
-use Rattle.tables.specs.Table.{Fields, tableLength}
-use Rattle.table_writer.specs.Writing.{pairs, end, front, processField, arcField, bytesOf, writtenField, fieldCount, tableOver}
-use Rattle.table_writer.specs.Putting.{putField, putArc, putFields, slot, Fronts}
+use Rattle.tables.specs.Table.{Fields, mostProcesses, fieldTotal, tableLength}
+use Rattle.table_writer.specs.Writing.{pairs, end, front, processField, arcField, bytesOf, writtenField, tableOver}
+use Rattle.table_writer.specs.Putting.{putField, putArc, putFields, slot, slots, Fronts}
 use Rattle.table_writer.specs.FrontLaws.{front-hit, front-miss, writtenField-process, writtenField-arc}
-use Rattle.table_writer.specs.BytesLaws.{byteOf, bytesOf-length, bytesOf-byte}
+use Rattle.table_writer.specs.BytesLaws.{bytesOf-length, bytesOf-byte}
+use Rattle.table_writer.specs.Putting.{byteOf}
 
 -- ---- one field
 
@@ -116,15 +118,15 @@ module _ (list : List ℕ) (k : ℕ) where
           ∙ sym (front-miss c list p k (λ w. q (e ∙ w)))
 
   -- "Each arc is put at the front of its two chains": both slots of the next arc are set to it
-  pub fronts-next : (x y : ℕ) (l : List ℕ) → x ≤ 128 → y ≤ 128 → x ≡ end Out list (k + 1) → y ≡ end In list (k + 1)
+  pub fronts-next : (x y : ℕ) (l : List ℕ) → x ≤ mostProcesses → y ≤ mostProcesses → x ≡ end Out list (k + 1) → y ≡ end In list (k + 1)
       → Fronts list k l → Fronts list (k + 1) (set (set l (2 * x) (k + 1)) (2 * y + 1) (k + 1))
   unfolding slot
   fronts-next x y l u v p q h = record { long = simp length-set (h .long); at = at }
     where
-      long : length l ≡ 258
+      long : length l ≡ slots
       long = h .long
 
-      at : (c : Chain) (r : ℕ) → r ≤ 128 → getD (set (set l (2 * x) (k + 1)) (2 * y + 1) (k + 1)) (slot c r) 0 ≡ front c list r (k + 1)
+      at : (c : Chain) (r : ℕ) → r ≤ mostProcesses → getD (set (set l (2 * x) (k + 1)) (2 * y + 1) (k + 1)) (slot c r) 0 ≡ front c list r (k + 1)
       at Out r w =
           getD-set-other (set l (2 * x) (k + 1)) (2 * y + 1) (2 * r) (k + 1) 0 (omega arith)
           ∙ rw (add-one k) (front-put Out l x (omega (arith, long)) (rw (add-one k) at p) r (h .at Out r w))
@@ -133,16 +135,17 @@ module _ (list : List ℕ) (k : ℕ) where
           (front-put In (set l (2 * x) (suc k)) y (simp length-set (omega (arith, long))) (rw (add-one k) at q) r
           (getD-set-other l (2 * x) (2 * r + 1) (suc k) 0 (omega arith) ∙ h .at In r w))
 
-pub fronts-none : (list : List ℕ) (n : ℕ) (l : List ℕ) → n ≡ 258 → l ≡ replicate n 0 → Fronts list 0 l
+pub fronts-none : (list : List ℕ) (n : ℕ) (l : List ℕ) → n ≡ slots → l ≡ replicate n 0 → Fronts list 0 l
 unfolding slot front
 fronts-none list n l e f = record { long = ap length f ∙ length-replicate n 0 ∙ e; at = at }
   where
-    at : (c : Chain) (p : ℕ) → p ≤ 128 → getD l (slot c p) 0 ≡ front c list p 0
+    at : (c : Chain) (p : ℕ) → p ≤ mostProcesses → getD l (slot c p) 0 ≡ front c list p 0
     at Out p u = rw f (getD-replicate n (2 * p) 0 0 (omega arith))
     at In p u = rw f (getD-replicate n (2 * p + 1) 0 0 (omega arith))
 
 -- the record of the next arc: what were the fronts before it are what follows it
-pub arc-put : (n : ℕ) (list : List ℕ) (k from to : ℕ) (firsts l out : List ℕ) → from ≤ 128 → to ≤ 128 → from ≡ end Out list (k + 1) → to ≡ end In list (k + 1)
+pub arc-put : (n : ℕ) (list : List ℕ) (k from to : ℕ) (firsts l out : List ℕ) → from ≤ mostProcesses → to ≤ mostProcesses
+    → from ≡ end Out list (k + 1) → to ≡ end In list (k + 1)
     → Fronts list k firsts → out ≡ putFields (writtenField n list) (2 + 2 * n) (4 * k) l
     → putArc out (2 + 2 * n + 4 * k) from to (getD firsts (2 * from) 0) (getD firsts (2 * to + 1) 0) ≡ putFields (writtenField n list) (2 + 2 * n)
     (4 * (k + 1)) l
@@ -220,7 +223,7 @@ holds-bytes t f old new room h = ext-getD 0 new (bytesOf t f ++ drop (2 * f) old
         ∙ ap (λ (i : ℕ). getD old i 0) (omega arith))
 
 -- the process records as they are written are the fronts once all arcs have been put
-records-are : (n : ℕ) (list firsts : List ℕ) → n ≤ 128 → Fronts list (pairs list) firsts → (j : ℕ) → 2 ≤ j → j < 2 + 2 * n
+records-are : (n : ℕ) (list firsts : List ℕ) → n ≤ mostProcesses → Fronts list (pairs list) firsts → (j : ℕ) → 2 ≤ j → j < 2 + 2 * n
     → getD firsts j 0 ≡ writtenField n list j
 unfolding slot processField
 records-are n list firsts u h j p q = at (j % 2) refl (omega arith)
@@ -234,7 +237,7 @@ records-are n list firsts u h j p q = at (j % 2) refl (omega arith)
     at (suc (suc i)) e s = absurd (omega arith)
 
 -- the table is written once all arcs, the process records, N and M are put
-pub tableOver-of : (n : ℕ) (list firsts out a b c d : List ℕ) → n ≤ 128 → tableLength n (pairs list) ≤ length out → Fronts list (pairs list) firsts
+pub tableOver-of : (n : ℕ) (list firsts out a b c d : List ℕ) → n ≤ mostProcesses → tableLength n (pairs list) ≤ length out → Fronts list (pairs list) firsts
     → a ≡ putFields (writtenField n list) (2 + 2 * n) (4 * pairs list) out
     → b ≡ putFields (λ j. getD firsts j 0) 2 (2 * n) a
     → c ≡ putField b 0 n
@@ -246,14 +249,14 @@ tableOver-of n list firsts out a b c d u room h p q r s =
     (rw (s ∙ ap (λ (l : List ℕ). putField l 1 (pairs list)) r ∙ head) (holds-put t 0 2 2 f out b (omega arith) (omega arith) (omega arith) upper))
     ∙ ap (λ (k : ℕ). bytesOf t f ++ drop k out) twice
   where
-    twice : 2 * fieldCount n (pairs list) ≡ tableLength n (pairs list)
+    twice : 2 * fieldTotal n (pairs list) ≡ tableLength n (pairs list)
     twice = omega arith
 
     t : Fields
     t = writtenField n list
 
     f : ℕ
-    f = fieldCount n (pairs list)
+    f = fieldTotal n (pairs list)
 
     arcs : Holds t (2 + 2 * n) f out a
     arcs = rw p (holds-put t (2 + 2 * n) (4 * pairs list) f f out out (omega arith) (omega arith) (omega arith) (holds-none t f out))

@@ -1,5 +1,4 @@
 -- Laws of fields written as bytes.
---   byteOf v i       == byte i of a field: the low one at 0, the high one at 1
 --   bytesOf-length   == two bytes a field
 --   bytesOf-byte     == each byte of each field
 --   bytesOf-field    == a field is read as it was written
@@ -10,14 +9,11 @@ use mathlib.Core.Path.{_≡_, refl, ap, _∙_}
 use lib.ListN.{length, getD, length-append, List·getD-append}
 use lib.Seq.{getD-append-add}
 use native.Mathlib.Omega.{arith}
-use Rattle.base.specs.ChoiceLaws.{Same, same, apart, same?}
+use Rattle.base.specs.ChoiceLaws.{same?}
+use Rattle.base.specs.Checks.{Same, same, apart}
 use Rattle.tables.specs.Table.{Fields, fieldOf}
 use Rattle.table_writer.specs.Writing.{bytesOf}
-
--- "16 bits, unsigned, low byte first"
-abbrev pub byteOf : ℕ → ℕ → ℕ
-byteOf v zero = v % 256
-byteOf v (suc i) = v / 256
+use Rattle.table_writer.specs.Putting.{byteOf}
 
 two-bytes : (v i : ℕ) → i < 2 → getD (v % 256 ∷ v / 256 ∷ []) i 0 ≡ byteOf v i
 two-bytes v zero u = refl

@@ -1,5 +1,4 @@
 -- The chains of a table that carries a list: each chain falls through its process's own arcs, from the last to the first.
---   Carries n list t   == the fields say N, M, and for each chain the ends, the fronts and what stood at the front before
 --   carries-chain      == each chain "meets each arc with from = p once and meets nothing else"
 -- Assumes nothing.
 use Prim.Native.Nat.{ℕ, zero, suc, _+_, _-_, _≤_, _<_}
@@ -8,19 +7,14 @@ use mathlib.Core.Path.{_≡_, refl, sym, _∙_}
 use lib.Dec.{ltb}
 use borrow.Author.Tests.{ltb-true, ltb-false}
 use native.Mathlib.Omega.{arith}
-use Rattle.base.specs.ChoiceLaws.{Same, same, apart, same?, Tested, passed, failed, tested}
+use Rattle.base.specs.ChoiceLaws.{same?, tested}
+use Rattle.base.specs.Checks.{Same, same, apart, Tested, passed, failed}
 use Rattle.tables.specs.declared.Chain.{Chain}
-use Rattle.tables.specs.Table.{Fields, nOf, mOf, IsProcess, first, arcAt, near, next, follow, place}
+use Rattle.tables.specs.Table.{Fields, IsProcess, arcAt, near, follow, place}
 use Rattle.tables.specs.Layout.{IsArc, Meets, ChainRight}
 use Rattle.table_writer.specs.Writing.{pairs, end, front}
+use Rattle.table_writer.specs.Putting.{Carries}
 use Rattle.table_writer.specs.FrontLaws.{front-le, front-own, front-last}
-
-pub record Carries (n : ℕ) (list : List ℕ) (t : Fields) : Type 0 where
-  pub n-is : nOf t ≡ n
-  pub m-is : mOf t ≡ pairs list
-  pub first-is : (c : Chain) (p : ℕ) → IsProcess n p → first c t p ≡ front c list p (pairs list)
-  pub near-is : (c : Chain) (k : ℕ) → 1 ≤ k → k ≤ pairs list → near c (arcAt t k) ≡ end c list k
-  pub next-is : (c : Chain) (k : ℕ) → 1 ≤ k → k ≤ pairs list → next c (arcAt t k) ≡ front c list (end c list k) (k - 1)
 
 -- arc k stands on p's chain
 record OwnPair (c : Chain) (list : List ℕ) (p k : ℕ) : Type 0 where

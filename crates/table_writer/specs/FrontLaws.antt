@@ -9,7 +9,8 @@ use mathlib.Core.List.{List}
 use mathlib.Core.Path.{_≡_, sym, _∙_}
 use borrow.Author.Tests.{lt-ltb, le-ltb, ne-eqb, eq-eqb}
 use native.Mathlib.Omega.{arith}
-use Rattle.base.specs.ChoiceLaws.{Same, same, apart, same?}
+use Rattle.base.specs.ChoiceLaws.{same?}
+use Rattle.base.specs.Checks.{Same, same, apart}
 use Rattle.tables.specs.declared.Chain.{Chain}
 use Rattle.tables.specs.Table.{IsProcess}
 use Rattle.table_writer.specs.Writing.{end, front, processField, arcField, writtenField}

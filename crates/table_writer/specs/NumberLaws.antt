@@ -14,15 +14,18 @@ use lib.ListN.{length}
 use borrow.Author.Tests.{ltb-false, eqb-true, lt-ltb, le-ltb, eq-eqb, ne-eqb, not-true, not-false}
 use native.Mathlib.Omega.{arith}
 use Rattle.base.specs.Choice.{choose}
-use Rattle.base.specs.ChoiceLaws.{Tested, passed, failed, tested, and-left, and-right, and-both}
+use Rattle.base.specs.ChoiceLaws.{tested, and-left, and-right, and-both}
+use Rattle.base.specs.Checks.{Tested, passed, failed}
 use Rattle.base.specs.Sums.{allTo}
-use Rattle.base.specs.SumLaws.{allTo-at, allTo-of, anyTo-of, Found, anyTo-found}
+use Rattle.base.specs.SumLaws.{allTo-at, allTo-of, anyTo-of, anyTo-found}
+use Rattle.base.specs.Sums.{Found}
 use Rattle.tables.specs.declared.Chain.{Chain}
 use Rattle.tables.specs.declared.Chain.the-variants.{Out, In}
 use Rattle.table_writer.specs.declared.Writing.the-variants.{Written, Refused}
 use Rattle.tables.specs.Table.{SizesFit, sizesFit, tableLength, IsProcess, isProcess}
 use Rattle.tables.specs.TableLaws.{sizesFit-P, sizesFit-not, isProcess-P}
 use Rattle.table_writer.specs.Writing.{Fit, pairs, end, given, unlike, endsFit, tableOver, writeNumber, outputFor, written, writingFor, writingOf}
+use Rattle.table_writer.specs.Refusals.{EndsAre, Differ}
 use Rattle.table_writer.specs.Putting.{EntriesUpTo}
 
 -- ---- the checks as facts
@@ -37,7 +40,7 @@ all-passed false false false true e h = absurd (omega arith)
 all-passed false false false false true h = absurd (omega arith)
 all-passed false false false false false h = (refl, refl, refl, refl, refl)
 
-endsFit-each : (n : ℕ) (list : List ℕ) (k : ℕ) → endsFit n list k ≡ true → (c : Chain) → IsProcess n (end c list k)
+pub endsFit-each : (n : ℕ) (list : List ℕ) (k : ℕ) → endsFit n list k ≡ true → (c : Chain) → IsProcess n (end c list k)
 unfolding endsFit
 endsFit-each n list k e Out = isProcess-P n _ .0 (and-left (isProcess n (end Out list k)) (isProcess n (end In list k)) e)
 endsFit-each n list k e In = isProcess-P n _ .0 (and-right (isProcess n (end Out list k)) (isProcess n (end In list k)) e)
@@ -51,7 +54,7 @@ pub endsFit-both : (n : ℕ) (list : List ℕ) (k : ℕ) → isProcess n (end Ou
 unfolding endsFit
 endsFit-both n list k e f = rw (e, f)
 
-unlike-differ : (list : List ℕ) (j k : ℕ) → 1 ≤ j → j < k → unlike list k ≡ true → end Out list j ≡ end Out list k → end In list j ≡ end In list k → ⊥
+pub unlike-differ : (list : List ℕ) (j k : ℕ) → 1 ≤ j → j < k → unlike list k ≡ true → end Out list j ≡ end Out list k → end In list j ≡ end In list k → ⊥
 unfolding unlike given
 unlike-differ list j k l u e f g =
     false≢true (sym (not-true _ e) ∙ anyTo-of (k - 1) _ j l (omega arith) (and-both _ _ (eq-eqb _ _ f) (eq-eqb _ _ g)))
@@ -106,7 +109,7 @@ endsFit-below n list b u e c k l v =
     omega arith
 
 -- a list that fits is not refused
-unlike-of : (list : List ℕ) (k : ℕ) → ((j : ℕ) → 1 ≤ j → j < k → end Out list j ≡ end Out list k → end In list j ≡ end In list k → ⊥) → 1 ≤ k
+pub unlike-of : (list : List ℕ) (k : ℕ) → ((j : ℕ) → 1 ≤ j → j < k → end Out list j ≡ end Out list k → end In list j ≡ end In list k → ⊥) → 1 ≤ k
     → unlike list k ≡ true
 unfolding unlike given
 unlike-of list k h l = at (tested (given list (k - 1) (end Out list k) (end In list k)))
@@ -123,14 +126,18 @@ unlike-of list k h l = at (tested (given list (k - 1) (end Out list k) (end In l
     at (passed e) = absurd (met (anyTo-found (k - 1) _ e))
     at (failed e) = rw e
 
+pub ends-true : (n : ℕ) (list : List ℕ) → EndsAre n list → allTo (pairs list) (endsFit n list) ≡ true
+ends-true n list p =
+    allTo-of (pairs list) (endsFit n list) (λ k l u. endsFit-both n list k
+    (isProcess-P n (end Out list k) .1 (p Out k l u))
+    (isProcess-P n (end In list k) .1 (p In k l u)))
+
+pub differ-true : (list : List ℕ) → Differ list → allTo (pairs list) (unlike list) ≡ true
+differ-true list d = allTo-of (pairs list) (unlike list) (λ k l u. unlike-of list k (λ j v w. d j k v w u) l)
+
 fit-writeNumber : (n : ℕ) (list : List ℕ) (space : ℕ) → Fit n list space → writeNumber n list space ≡ 0
 fit-writeNumber n list space f =
-    writeNumber-0 n list space (f .even) (f .sizes)
-    (allTo-of (pairs list) (endsFit n list) (λ k l u. endsFit-both n list k
-    (isProcess-P n (end Out list k) .1 (f .ends Out k l u))
-    (isProcess-P n (end In list k) .1 (f .ends In k l u))))
-    (allTo-of (pairs list) (unlike list) (λ k l u. unlike-of list k (λ j v w. f .differ j k v w u) l))
-    (f .room)
+    writeNumber-0 n list space (f .even) (f .sizes) (ends-true n list (f .ends)) (differ-true list (f .differ)) (f .room)
 
 pub writeNumber-P : (n : ℕ) (list : List ℕ) (space : ℕ) → (writeNumber n list space ≡ 0) ↔ Fit n list space
 writeNumber-P n list space = (writeNumber-fit n list space, fit-writeNumber n list space)

@@ -5,7 +5,6 @@
 --   processField, arcField   == the fields of a process record, and of an arc record
 --   writtenField n list j   == field j of the table
 --   bytesOf t j         == the first j fields, low byte first
---   fieldCount n m      == how many fields a table has
 --   tableOver n list out   == the table, and then what the output held past it
 --   given list k a b    == one of the first k pairs is a and b
 --   endsFit, unlike     == the tests of the checks 4 and 7 on one pair
@@ -27,7 +26,7 @@ use Rattle.tables.specs.declared.Chain.{Chain}
 use Rattle.tables.specs.declared.Chain.the-variants.{Out, In}
 use Rattle.table_writer.specs.declared.Writing.{Writing}
 use Rattle.table_writer.specs.declared.Writing.the-variants.{Written, Refused}
-use Rattle.tables.specs.Table.{Fields, fieldOf, nOf, mOf, SizesFit, sizesFit, tableLength, IsProcess, isProcess, arcAt}
+use Rattle.tables.specs.Table.{Fields, fieldOf, nOf, mOf, SizesFit, sizesFit, fieldTotal, tableLength, IsProcess, isProcess, arcAt}
 use Rattle.tables.specs.Layout.{MeetsLayout}
 use Rattle.tables.specs.Waits.{Waits, waitsOf}
 
@@ -74,13 +73,9 @@ unfoldable pub bytesOf : Fields → ℕ → List ℕ
 bytesOf t zero = []
 bytesOf t (suc j) = bytesOf t j ++ (t j % 256 ∷ t j / 256 ∷ [])
 
--- two fields, then two for each process and four for each arc
-abbrev pub fieldCount : ℕ → ℕ → ℕ
-fieldCount n m = 2 + 2 * n + 4 * m
-
 -- "Output bytes past the table keep their values."
 unfoldable pub tableOver : ℕ → List ℕ → List ℕ → List ℕ
-tableOver n list out = bytesOf (writtenField n list) (fieldCount n (pairs list)) ++ drop (tableLength n (pairs list)) out
+tableOver n list out = bytesOf (writtenField n list) (fieldTotal n (pairs list)) ++ drop (tableLength n (pairs list)) out
 
 -- ---- the checks
 

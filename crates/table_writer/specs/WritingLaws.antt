@@ -10,24 +10,26 @@ use lib.ListN.{length, getD, take, replicate}
 use lib.Seq.{take-at}
 use borrow.Author.Tests.{ltb-true, ltb-false}
 use native.Mathlib.Omega.{arith}
-use Rattle.base.specs.ChoiceLaws.{Same, same, apart, same?, Tested, passed, failed, tested}
+use Rattle.base.specs.ChoiceLaws.{same?, tested}
+use Rattle.base.specs.Checks.{Same, same, apart, Tested, passed, failed}
 use Rattle.base.specs.Sums.{allTo, anyTo}
 use Rattle.base.specs.SumLaws.{anyTo-cong}
 use Rattle.tables.specs.declared.Chain.{Chain}
 use Rattle.tables.specs.declared.Chain.the-variants.{Out, In}
-use Rattle.tables.specs.Table.{Fields, fieldOf, nOf, mOf, tableLength, IsProcess, isProcess, first, arcAt, near, next}
+use Rattle.tables.specs.Table.{Fields, fieldOf, nOf, mOf, fieldTotal, tableLength, IsProcess, isProcess, first, arcAt, near, next}
 use Rattle.tables.specs.Layout.{IsArc, Ends, Alike, Right}
 use Rattle.tables.specs.Waits.{waitsOf}
 use Rattle.table_writer.specs.Writing.{Fit, givenWaits, WrittenRight, pairs, end, front, given, unlike, endsFit, processField, arcField}
-use Rattle.table_writer.specs.Writing.{writtenField, fieldCount, bytesOf, tableOver, writeNumber, outputFor, written}
+use Rattle.table_writer.specs.Writing.{writtenField, bytesOf, tableOver, writeNumber, outputFor, written}
 use Rattle.table_writer.specs.FrontLaws.{front-le, writtenField-process, writtenField-arc}
 use Rattle.table_writer.specs.BytesLaws.{bytesOf-length, bytesOf-field}
 use Rattle.table_writer.specs.NumberLaws.{writeNumber-P}
-use Rattle.table_writer.specs.FrontChainLaws.{Carries, carries-chain}
+use Rattle.table_writer.specs.FrontChainLaws.{carries-chain}
+use Rattle.table_writer.specs.Putting.{Carries}
 
 -- ---- the fields that are written carry the list
 
-carries : (n : ℕ) (list : List ℕ) (t : Fields) → ((j : ℕ) → j < fieldCount n (pairs list) → t j ≡ writtenField n list j) → Carries n list t
+carries : (n : ℕ) (list : List ℕ) (t : Fields) → ((j : ℕ) → j < fieldTotal n (pairs list) → t j ≡ writtenField n list j) → Carries n list t
 unfolding first near next arcAt processField arcField
 carries n list t agree = record { n-is = n-is; m-is = agree 1 (omega arith) ∙ m-written; first-is = first-is; near-is = near-is; next-is = next-is }
   where
@@ -129,13 +131,13 @@ module _ (n : ℕ) (list : List ℕ) (t : Fields) (h : Carries n list t) where
   unfolding waitsOf givenWaits
   carries-waits = λ i. record { n = h .n-is i; waits = λ a b. same-waits a b i }
 
-bytes-right : (n : ℕ) (list : List ℕ) (space : ℕ) → Fit n list space → WrittenRight n list (bytesOf (writtenField n list) (fieldCount n (pairs list)))
+bytes-right : (n : ℕ) (list : List ℕ) (space : ℕ) → Fit n list space → WrittenRight n list (bytesOf (writtenField n list) (fieldTotal n (pairs list)))
 unfolding near end
 bytes-right n list space f =
     let w : Fields = writtenField n list in
-    let bs : List ℕ = bytesOf w (fieldCount n (pairs list)) in
-    let h : Carries n list (fieldOf bs) = carries n list (fieldOf bs) (bytesOf-field w (fieldCount n (pairs list))) in
-    let long : length bs ≡ 2 * fieldCount n (pairs list) = bytesOf-length w (fieldCount n (pairs list)) in
+    let bs : List ℕ = bytesOf w (fieldTotal n (pairs list)) in
+    let h : Carries n list (fieldOf bs) = carries n list (fieldOf bs) (bytesOf-field w (fieldTotal n (pairs list))) in
+    let long : length bs ≡ 2 * fieldTotal n (pairs list) = bytesOf-length w (fieldTotal n (pairs list)) in
     let n-is : nOf (fieldOf bs) ≡ n = h .n-is in
     let m-is : mOf (fieldOf bs) ≡ pairs list = h .m-is in
     record {
@@ -148,11 +150,11 @@ bytes-right n list space f =
     }
 
 written-bytes : (n : ℕ) (list out : List ℕ) → writeNumber n list (length out) ≡ 0
-    → take (tableLength n (pairs list)) (written n list out) ≡ bytesOf (writtenField n list) (fieldCount n (pairs list))
+    → take (tableLength n (pairs list)) (written n list out) ≡ bytesOf (writtenField n list) (fieldTotal n (pairs list))
 unfolding written outputFor tableOver
 written-bytes n list out e =
-    rw e (take-at (bytesOf (writtenField n list) (fieldCount n (pairs list))) _ (tableLength n (pairs list))
-    (bytesOf-length (writtenField n list) (fieldCount n (pairs list)) ∙ omega arith))
+    rw e (take-at (bytesOf (writtenField n list) (fieldTotal n (pairs list))) _ (tableLength n (pairs list))
+    (bytesOf-length (writtenField n list) (fieldTotal n (pairs list)) ∙ omega arith))
 
 pub written-right : (n : ℕ) (list out : List ℕ) → writeNumber n list (length out) ≡ 0
     → WrittenRight n list (take (tableLength n (pairs list)) (written n list out))

@@ -5,10 +5,14 @@ ghost use mathlib.Core.Path.{_≡_};
 ghost use Prim.Native.Nat.{_+_, _*_, _<_, _≤_};
 ghost use lib.ListN.{length, getD};
 ghost use Rattle.base.specs.Sums.{allTo};
+ghost use Rattle.tables.specs.Table.{mostProcesses};
 ghost use Rattle.table_writer.specs.Writing.{Fit, pairs, end, endsFit, unlike, writtenField, tableOver, writeNumber, written, writingOf};
 ghost use Rattle.table_writer.specs.Putting.{putField, putArc, putFields, Fronts, EntriesUpTo};
 use tables::Chain;
 use tables::is_process;
+
+// The first fields of the process records, which stand at 2p and 2p + 1, from p 0 to the largest N.
+const SLOTS: usize = 2 * (tables::MOST_PROCESSES + 1);
 
 // The answer of writing a table: its length in bytes, or the number of the refusal.
 pub enum Writing {
@@ -51,19 +55,19 @@ fn ends_fit(n: usize, list: &[u16]) -> bool
     true
 }
 
-// Check 7 is not met: no two pairs are alike. A square of 129 rows of 129 cells has one for each pair of numbers up to 128, which says
-// whether that pair was passed.
+// Check 7 is not met: no two pairs are alike. A square has a cell for each pair of numbers up to the largest N, which says whether that
+// pair was passed.
 fn all_unlike(list: &[u16]) -> bool
-    requires { ⌜ EntriesUpTo (now list) 128 ⌝ }
+    requires { ⌜ EntriesUpTo (now list) mostProcesses ⌝ }
     ensures { λ r. ⌜ r ≡ allTo (pairs (now (list .entry))) (unlike (now (list .entry))) ⌝ }
 {
     let m = list.len() / 2;
-    let mut seen = [false; 16641];
+    let mut seen = [false; tables::SQUARE_SIZE];
     let mut k = 0;
     while k < m {
         let from = from_of(list, k) as usize;
         let to = to_of(list, k) as usize;
-        let cell = 129 * from + to;
+        let cell = tables::SIDE * from + to;
         if seen[cell] {
             return false;
         }
@@ -84,10 +88,10 @@ fn write_number(n: usize, list: &[u16], space: usize) -> u32
     if n < 1 {
         return 2;
     }
-    if 128 < n {
+    if tables::MOST_PROCESSES < n {
         return 2;
     }
-    if 512 < m {
+    if tables::MOST_ARCS < m {
         return 2;
     }
     if !ends_fit(n, list) {
@@ -124,7 +128,7 @@ fn put_arc(out: &mut [u8], at: usize, from: u16, to: u16, next_out: u16, next_in
 
 // Each arc is put at the front of its two chains, in list order. `firsts` holds the fronts as the process records do: that of p's
 // out-chain at 2p and that of its in-chain at 2p + 1.
-fn put_arcs(n: usize, list: &[u16], out: &mut [u8], firsts: &mut [u16; 258])
+fn put_arcs(n: usize, list: &[u16], out: &mut [u8], firsts: &mut [u16; SLOTS])
     requires { ⌜ Fit n (now list) (length (now out)) ⌝ }
     requires { ⌜ Fronts (now list) 0 (now firsts) ⌝ }
     ensures { λ r. ⌜ now (out .exit) ≡ putFields (writtenField n (now (list .entry))) (2 + 2 * n) (4 * pairs (now (list .entry))) (now (out .entry)) ⌝ }
@@ -152,8 +156,8 @@ fn put_arcs(n: usize, list: &[u16], out: &mut [u8], firsts: &mut [u16; 258])
 }
 
 // The process records: fields 2 to 2n + 1.
-fn put_firsts(n: usize, firsts: &[u16; 258], out: &mut [u8])
-    requires { ⌜ (n ≤ 128) × (4 + 4 * n ≤ length (now out)) ⌝ }
+fn put_firsts(n: usize, firsts: &[u16; SLOTS], out: &mut [u8])
+    requires { ⌜ (n ≤ mostProcesses) × (4 + 4 * n ≤ length (now out)) ⌝ }
     ensures { λ r. ⌜ now (out .exit) ≡ putFields (λ j. getD (now (firsts .entry)) j 0) 2 (2 * n) (now (out .entry)) ⌝ }
 {
     let end = 2 + 2 * n;
@@ -169,7 +173,7 @@ fn put_table(n: usize, list: &[u16], out: &mut [u8])
     requires { ⌜ Fit n (now list) (length (now out)) ⌝ }
     ensures { λ r. ⌜ now (out .exit) ≡ tableOver n (now (list .entry)) (now (out .entry)) ⌝ }
 {
-    let mut firsts = [0u16; 258];
+    let mut firsts = [0u16; SLOTS];
     put_arcs(n, list, out, &mut firsts);
     put_firsts(n, &firsts, out);
     put(out, 0, n as u16);

@@ -13,13 +13,15 @@ use lib.Dec.{eqb}
 use lib.ListN.{length, getD}
 use native.Mathlib.Omega.{arith}
 use Rattle.base.specs.Choice.{bit}
-use Rattle.base.specs.ChoiceLaws.{bit-≤1, Same, same, apart, same?, bit-apart}
+use Rattle.base.specs.ChoiceLaws.{bit-≤1, same?, bit-apart}
+use Rattle.base.specs.Checks.{Same, same, apart}
 use Rattle.base.specs.Counts.{occ}
 use Rattle.tables.specs.declared.Chain.{Chain}
 use Rattle.tables.specs.Table.{Fields, mOf, first, arcAt, near, next, follow, place}
 use Rattle.tables.specs.Layout.{IsArc}
 use Rattle.tables.specs.Reading.{left, wrong, walked}
 use Rattle.tables.specs.Chains.{Follows, stop, go, steps, along, Own}
+use Rattle.tables.specs.ChainFacts.{Onward, Rest, WalkedLeft, ForeignAt, ManyAt}
 
 -- ---- steps
 
@@ -82,19 +84,8 @@ follows-steps (suc i) (go f) = follows-steps i f
 pub follows-end : {c : Chain} {t : Fields} {ks : List ℕ} → Follows c t 0 ks → ks ≡ []
 follows-end f = follows-same f stop
 
-pub record Onward (c : Chain) (t : Fields) (k : ℕ) (ks : List ℕ) : Type 0 where
-  pub rest : List ℕ
-  pub is : ks ≡ suc k ∷ rest
-  pub follows : Follows c t (next c (arcAt t (suc k))) rest
-
 pub follows-on : {c : Chain} {t : Fields} {k : ℕ} {ks : List ℕ} → Follows c t (suc k) ks → Onward c t k ks
 follows-on (go {ks = rest} f) = record { rest = rest; is = refl; follows = f }
-
--- the rest of a chain from one of its arcs on
-pub record Rest (c : Chain) (t : Fields) (j : ℕ) (ks : List ℕ) : Type 0 where
-  pub arcs : List ℕ
-  pub follows : Follows c t j arcs
-  pub short : length arcs ≤ length ks
 
 follows-rest : {c : Chain} {t : Fields} {k : ℕ} {ks : List ℕ} (j : ℕ) → Follows c t k ks → 1 ≤ occ j ks → Rest c t j ks
 unfolding occ
@@ -139,12 +130,6 @@ own-more c t p k ks e own j h = at (same? k j)
     at (same q _) = subst (λ (x : ℕ). near c (arcAt t x) ≡ p) q e
     at (apart q _) = own j (omega (arith, bit-apart k j q))
 
--- the walk came to the chain's end
-pub record WalkedLeft (c : Chain) (t : Fields) (p l k r : ℕ) : Type 0 where
-  pub follows : Follows c t k (along c t l k)
-  pub count : length (along c t l k) + r ≡ l
-  pub own : Own c t p (along c t l k)
-
 pub walked-left : (c : Chain) (t : Fields) (p l k r : ℕ) → walked c t p l k ≡ left r → WalkedLeft c t p l k r
 unfolding walked along occ
 walked-left c t p zero zero r e = let z : 0 ≡ r = cc in record { follows = stop; count = omega arith; own = own-none c t p }
@@ -159,14 +144,6 @@ walked-left c t p (suc l) (suc k) r e = at (same? (near c (arcAt t (suc k))) p) 
         → WalkedLeft c t p (suc l) (suc k) r
     at (same q b) rest = more q (rest (rw b at e))
     at (apart q b) rest = let e′ : wrong ≡ left r = rw b at e in let z : _≡_ {A = ℕ} 0 1 = cc in absurd (omega arith)
-
--- a foreign arc, i steps on
-abbrev pub ForeignAt : Chain → Fields → ℕ → ℕ → Type 0
-ForeignAt c t p k = (i : ℕ) × (j : ℕ) × (steps c t k i ≡ suc j) × (near c (arcAt t (suc j)) ≡ p → ⊥)
-
--- more than l arcs, the first of which are p's own
-abbrev pub ManyAt : Chain → Fields → ℕ → ℕ → ℕ → Type 0
-ManyAt c t p l k = (length (along c t (suc l) k) ≡ suc l) × Own c t p (along c t (suc l) k)
 
 -- the walk went wrong: at a foreign arc, or at one arc too many
 pub walked-wrong : (c : Chain) (t : Fields) (p l k : ℕ) → walked c t p l k ≡ wrong → ForeignAt c t p k ⊎ ManyAt c t p l k

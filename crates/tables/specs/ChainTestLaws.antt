@@ -15,20 +15,25 @@ use lib.ListN.{length, getD}
 use borrow.Author.Tests.{leb-true, leb-false, eqb-true}
 use native.Mathlib.Omega.{arith}
 use Rattle.base.specs.Choice.{bit}
-use Rattle.base.specs.ChoiceLaws.{Same, same, apart, same?, Tested, passed, failed, tested, bit-same, bit-apart}
+use Rattle.base.specs.ChoiceLaws.{same?, tested, bit-same, bit-apart}
+use Rattle.base.specs.Checks.{Same, same, apart, Tested, passed, failed}
 use Rattle.base.specs.Sums.{sumTo, anyTo}
-use Rattle.base.specs.SumLaws.{sumTo-cong, sumTo-add, sumTo-zero, sumTo-part, sumTo-most, sumTo-swap, Found, anyTo-of, anyTo-found, Part, sumTo-some}
+use Rattle.base.specs.SumLaws.{sumTo-cong, sumTo-add, sumTo-zero, sumTo-part, sumTo-most, sumTo-swap, anyTo-of, anyTo-found, sumTo-some}
+use Rattle.base.specs.Sums.{Found, Part}
 use Rattle.base.specs.SumLaws.{sumTo-one, sumTo-full, sumTo-least}
 use Rattle.base.specs.Counts.{occ, InRange}
-use Rattle.base.specs.CountLaws.{occ-of, Standing, occ-found, StandingTwice, occ-twice, occ-once, occ-length}
+use Rattle.base.specs.CountLaws.{occ-of, occ-found, occ-twice, occ-once, occ-length}
+use Rattle.base.specs.Counts.{Standing, StandingTwice}
 use Rattle.tables.specs.declared.Chain.{Chain}
 use Rattle.tables.specs.declared.Chain.the-variants.{Out, In}
 use Rattle.tables.specs.Table.{Fields, nOf, mOf, IsProcess, first, arcAt, near, next, place}
 use Rattle.tables.specs.Layout.{IsArc, Ends, Meets, ChainRight, Twice, Foreign, Misses, Faulty}
 use Rattle.tables.specs.Reading.{Left, left, wrong, walked, thenWalked, walkedTo, noneLeft, chainsRight}
 use Rattle.tables.specs.Chains.{Follows, along, met, Own, Inside, Listed}
-use Rattle.tables.specs.ChainLaws.{place-steps, along-steps, along-arcs, follows-along, follows-steps, follows-once, WalkedLeft, walked-left}
-use Rattle.tables.specs.ChainLaws.{ForeignAt, ManyAt, walked-wrong}
+use Rattle.tables.specs.ChainLaws.{place-steps, along-steps, along-arcs, follows-along, follows-steps, follows-once, walked-left}
+use Rattle.tables.specs.ChainFacts.{WalkedLeft}
+use Rattle.tables.specs.ChainLaws.{walked-wrong}
+use Rattle.tables.specs.ChainFacts.{ForeignAt, ManyAt}
 
 pub inside-of : (t : Fields) → ((k : ℕ) → IsArc t k → Ends t k) → ((c : Chain) (p : ℕ) → IsProcess (nOf t) p → first c t p ≤ mOf t)
     → ((c : Chain) (k : ℕ) → IsArc t k → next c (arcAt t k) ≤ mOf t) → (c : Chain) → Inside c t

@@ -13,7 +13,8 @@ use lib.Dec.{eqb}
 use lib.ListN.{length}
 use native.Mathlib.Nat.{mul-one, mul-comm, mul-left-comm}
 use Rattle.base.specs.Choice.{bit}
-use Rattle.base.specs.ChoiceLaws.{Same, same, apart, same?, Tested, passed, failed, tested, bit-same, bit-apart}
+use Rattle.base.specs.ChoiceLaws.{same?, tested, bit-same, bit-apart}
+use Rattle.base.specs.Checks.{Same, same, apart, Tested, passed, failed}
 use Rattle.base.specs.Sums.{sumTo, countTo}
 use Rattle.base.specs.SumLaws.{sumTo-cong, sumTo-swap, sumTo-pick}
 use Rattle.base.specs.Counts.{occ, sumOver}

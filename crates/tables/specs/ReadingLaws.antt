@@ -1,8 +1,6 @@
 -- What the number and the answer of reading a table tell.
 --   readNumber-1 to readNumber-4   == the number, by the first check that fails; from check 4 on it is that of the fields
---   Accepts bs n m     == all that an accepted table is known by: its N and M, their ranges, its length, and that no check fails
 --   accepted-told      == the answer Accepted n m tells Accepts bs n m
---   Refuses bs r       == r is the number of the first check that fails
 --   refused-told       == the answer Refused r tells Refuses bs r
 -- Assumes nothing.
 use Prim.Native.Nat.{ℕ, zero, suc, _≤_, _<_}
@@ -13,10 +11,12 @@ use borrow.Author.Tests.{ltb-true, ltb-false, lt-ltb, le-ltb, eq-eqb, ne-eqb}
 use native.Mathlib.Omega.{arith}
 use lib.Dec.{ltb}
 use lib.ListN.{length}
-use Rattle.base.specs.ChoiceLaws.{Tested, passed, failed, tested, Same, same, apart, same?}
+use Rattle.base.specs.ChoiceLaws.{tested, same?}
+use Rattle.base.specs.Checks.{Tested, passed, failed, Same, same, apart}
 use Rattle.tables.specs.declared.Reading.{Reading}
 use Rattle.tables.specs.Table.{fieldOf, nOf, mOf, tableLength}
 use Rattle.tables.specs.Reading.{sizesRight, fieldsNumber, readNumber, answer, readingOf}
+use Rattle.tables.specs.ReadingFacts.{Refuses, Accepts}
 use Rattle.tables.specs.LayoutLaws.{sizesRight-P}
 
 pub readNumber-1 : (bs : List ℕ) → length bs < 4 → readNumber bs ≡ 1
@@ -36,20 +36,6 @@ pub readNumber-4 : (bs : List ℕ) → 4 ≤ length bs → sizesRight (fieldOf b
     → readNumber bs ≡ fieldsNumber (fieldOf bs)
 unfolding readNumber
 readNumber-4 bs long h e = rw (le-ltb (length bs) 4 long, h, eq-eqb (length bs) (tableLength (nOf (fieldOf bs)) (mOf (fieldOf bs))) e)
-
-pub record Refuses (bs : List ℕ) (r : ℕ) : Type 0 where
-  pub number : readNumber bs ≡ r
-  pub some : r ≡ 0 → ⊥
-
-pub record Accepts (bs : List ℕ) (n m : ℕ) : Type 0 where
-  pub number : readNumber bs ≡ 0
-  pub processes : n ≡ nOf (fieldOf bs)
-  pub arcs : m ≡ mOf (fieldOf bs)
-  pub some : 1 ≤ n
-  pub few : n ≤ 128
-  pub arcs-few : m ≤ 512
-  pub long : length bs ≡ tableLength n m
-  pub fields : fieldsNumber (fieldOf bs) ≡ 0
 
 -- the first three checks passed
 record Passed (bs : List ℕ) : Type 0 where

@@ -2,7 +2,8 @@
 -- serve the bytes of a table and the words of a run area, which both give the field of each number.
 --   fieldOf bs j      == field j of bytes: "Each field is 16 bits, unsigned, low byte first"
 --   nOf t, mOf t      == "First N (processes, 1 to 128) and M (arcs, 0 to 512)"
---   SizesFit n m, sizesFit n m   == "N (processes, 1 to 128) and M (arcs, 0 to 512)", and the test of it
+--   mostProcesses, mostArcs      == the largest N and the largest M of that sentence
+--   SizesFit n m, sizesFit n m   == N and M are in the ranges of that sentence, and the test of it
 --   IsProcess n p, isProcess n p   == p is one of n processes ("Processes and arcs count from 1 in file order"), and the test of it
 --   first c t p       == "Then N process records: first-out, first-in", by chain
 --   arcAt t k         == "Then M arc records: from, to, next-out, next-in": the one place where an arc is looked up
@@ -11,16 +12,12 @@
 --                           chain's next field
 --   follow c t k      == the arc after arc k on the chain, 0 at its end
 --   place c t p i     == the arc that p's chain meets i steps after its first, 0 past its end
---   tableLength n m   == "The length is exactly 4 + 4N + 8M bytes"
+--   fieldTotal n m, tableLength n m   == how many fields a table has, and how many bytes: "The length is exactly 4 + 4N + 8M bytes"
 -- Assumes nothing.
 use Prim.Native.Nat.{ℕ, zero, suc, _+_, _-_, _*_, _≤_}
-use mathlib.Core.Bool.{Bool, _&&_}
-use mathlib.Core.List.{List}
-use lib.Dec.{eqb, leb}
-use lib.ListN.{getD}
-use Rattle.tables.specs.declared.Arc.{Arc}
-use Rattle.tables.specs.declared.Chain.{Chain}
-use Rattle.tables.specs.declared.Chain.the-variants.{Out, In}
+use mathlib.Core.{Bool.Bool, Bool._&&_, List.List}
+use lib.{Dec.eqb, Dec.leb, ListN.getD}
+use Rattle.tables.specs.declared.{Arc.Arc, Chain.Chain, Chain.the-variants.Out, Chain.the-variants.In}
 
 -- the fields of a table by number, from 0
 abbrev pub Fields : Type 0
@@ -37,11 +34,21 @@ nOf t = t 0
 abbrev pub mOf : Fields → ℕ
 mOf t = t 1
 
+abbrev pub mostProcesses : ℕ
+mostProcesses = 128
+
+abbrev pub mostArcs : ℕ
+mostArcs = 512
+
 abbrev pub SizesFit : ℕ → ℕ → Type 0
-SizesFit n m = (1 ≤ n) × (n ≤ 128) × (m ≤ 512)
+SizesFit n m = (1 ≤ n) × (n ≤ mostProcesses) × (m ≤ mostArcs)
 
 abbrev pub sizesFit : ℕ → ℕ → Bool
-sizesFit n m = leb 1 n && leb n 128 && leb m 512
+sizesFit n m = leb 1 n && leb n mostProcesses && leb m mostArcs
+
+-- N and M, then two fields for each process and four for each arc
+abbrev pub fieldTotal : ℕ → ℕ → ℕ
+fieldTotal n m = 2 + 2 * n + 4 * m
 
 -- "The length is exactly 4 + 4N + 8M bytes."
 abbrev pub tableLength : ℕ → ℕ → ℕ

@@ -13,11 +13,12 @@ use lib.Dec.{leb}
 use lib.ListN.{getD}
 use borrow.Author.Tests.{leb-true, le-leb}
 use native.Mathlib.Omega.{arith}
-use Rattle.base.specs.ChoiceLaws.{and-left, and-right, and-both, and-three, Tested, passed, failed, tested}
+use Rattle.base.specs.ChoiceLaws.{and-left, and-right, and-both, and-three, tested}
+use Rattle.base.specs.Checks.{Tested, passed, failed}
 use Rattle.base.specs.Checks.{Check, holds, fails}
 use Rattle.base.specs.CheckLaws.{check-of}
 use Rattle.tables.specs.declared.Arc.{Arc}
-use Rattle.tables.specs.Table.{Fields, fieldOf, nOf, SizesFit, sizesFit, IsProcess, isProcess, arcAt}
+use Rattle.tables.specs.Table.{Fields, fieldOf, nOf, mostProcesses, mostArcs, SizesFit, sizesFit, IsProcess, isProcess, arcAt}
 
 pub fieldOf-small : (bs : List ℕ) → ((i : ℕ) → getD bs i 0 < 256) → (j : ℕ) → fieldOf bs j < 65536
 unfolding fieldOf
@@ -46,10 +47,12 @@ arcAt-made t n k a b c d en low ea eb ec ed =
     }
 
 pub sizesFit-P : (n m : ℕ) → (sizesFit n m ≡ true) ↔ SizesFit n m
-sizesFit-P n m = (to, λ s. rw (le-leb 1 n (s .0), le-leb n 128 (s .1), le-leb m 512 (s .2)))
+sizesFit-P n m = (to, λ s. rw (le-leb 1 n (s .0), le-leb n mostProcesses (s .1), le-leb m mostArcs (s .2)))
   where
     to : sizesFit n m ≡ true → SizesFit n m
-    to e = let s = and-three (leb 1 n) (leb n 128) (leb m 512) e in (leb-true 1 n (s .0), leb-true n 128 (s .1), leb-true m 512 (s .2))
+    to e =
+        let s = and-three (leb 1 n) (leb n mostProcesses) (leb m mostArcs) e in
+        (leb-true 1 n (s .0), leb-true n mostProcesses (s .1), leb-true m mostArcs (s .2))
 
 pub sizesFit-not : (n m : ℕ) → (SizesFit n m → ⊥) → sizesFit n m ≡ false
 sizesFit-not n m h = at (tested (sizesFit n m))

@@ -17,7 +17,8 @@ use native.Mathlib.Omega.{arith}
 use Rattle.base.specs.Choice.{bit}
 use Rattle.base.specs.ChoiceLaws.{and-left, and-right, and-both, or-cases}
 use Rattle.base.specs.Sums.{sumTo, countTo, anyTo}
-use Rattle.base.specs.SumLaws.{sumTo-cong, sumTo-most, sumTo-swap, Found, anyTo-of, anyTo-found, countTo-one, sumTo-least, sumTo-times, sumTo-pick-two}
+use Rattle.base.specs.SumLaws.{sumTo-cong, sumTo-most, sumTo-swap, anyTo-of, anyTo-found, countTo-one, sumTo-least, sumTo-times, sumTo-pick-two}
+use Rattle.base.specs.Sums.{Found}
 use Rattle.tables.specs.Table.{Fields, nOf, mOf, IsProcess, arcAt, saysWait}
 use Rattle.tables.specs.Layout.{IsArc, Right}
 use Rattle.tables.specs.Waits.{Waits, waitsOf, outDegree, neighbours}

@@ -1,7 +1,17 @@
-// Wait tables (01, "Wait table"): what a table is (specs), the types of the answers, and the one test of a process. The crate
-// `table_reader` reads and follows tables, `table_writer` writes them. It stands on the crate `base` alone.
+// Wait tables (01, "Wait table"): what a table is (specs), its largest sizes, the types of the answers, and the one test of a process. The
+// crate `table_reader` reads and follows tables, `table_writer` writes them. It stands on the crate `base` alone.
 ghost use mathlib.Core.Path.{_≡_};
 ghost use Rattle.tables.specs.Table.{isProcess};
+
+// The largest N, and the largest M.
+pub const MOST_PROCESSES: usize = 128;
+
+pub const MOST_ARCS: usize = 512;
+
+// A square of pairs of ends: a row for each process and one for 0, and as many columns.
+pub const SIDE: usize = MOST_PROCESSES + 1;
+
+pub const SQUARE_SIZE: usize = SIDE * SIDE;
 
 // The two chains of a process.
 pub enum Chain {

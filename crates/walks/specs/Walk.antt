@@ -4,6 +4,8 @@
 --   gives w           == what a step of w gives: the next arc, or the end
 --   steppedWalk w     == w after a step
 --   stepsOn i w       == w after i steps
+--   stoodAfter i w    == what is seen of w after i steps: the number of its opening, the arc that it stands at, what the next step gives, and
+--                        the arc that it stands at then
 --   before k ks       == arc k before others, none if it is 0
 --   arcsMet f w       == the arcs that w stands at, from where it is until it stands at none; at most f of them
 --   WholeWalk table c p ks   == ks are the arcs of a walk along chain c of p, from its opening to the end, in chain order, each once
@@ -23,6 +25,7 @@ use Rattle.tables.specs.Layout.{IsArc}
 use Rattle.tables.specs.Walking.{openedOf, openedNumber, openedArc, nextOf, nextArc}
 use Rattle.tables.specs.Chains.{Follows}
 use Rattle.walks.specs.declared.Walk.{Walk}
+use Rattle.walks.specs.declared.Stood.{Stood}
 
 -- "Opening it names a process and its out- or in-chain, .. and stands at the chain's first arc, or 0 if it has none": one that was refused
 -- stands at 0 too
@@ -46,6 +49,15 @@ steppedWalk w = record { table = w .table; chain = w .chain; arc = nextArc (give
 unfoldable pub stepsOn : ℕ → Walk → Walk
 stepsOn zero w = w
 stepsOn (suc i) w = stepsOn i (steppedWalk w)
+
+abbrev pub stoodAfter : ℕ → Walk → Stood
+stoodAfter i w =
+    record {
+      number = w .number;
+      arc = stepsOn i w .arc;
+      next = gives (stepsOn i w);
+      then = steppedWalk (stepsOn i w) .arc;
+    }
 
 -- an arc before others, none if it is 0
 abbrev pub before : ℕ → List ℕ → List ℕ

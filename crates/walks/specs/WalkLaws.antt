@@ -3,6 +3,7 @@
 --   arcsMet-met     == that list is the chain's (met, crate tables), however many steps beyond M are allowed
 --   opened-P        == an opening is accepted exactly if the bytes meet the layout and p is a process of the table
 --   refused-stands  == a walk whose opening was refused stands at 0
+--   stepsOn-next    == one step more is a step of the walk that the others left
 --   keeps           == "Steps keep to the chain named", and to the table and the number
 --   gives-zero, gives-over, gives-past   == "from an arc number that is 0, over M or past the lent bytes it gives the end", on any bytes
 -- Assumes nothing.
@@ -17,7 +18,8 @@ use borrow.Author.Tests.{le-leb, leb-true}
 use native.Mathlib.Omega.{arith}
 use denote.Ref.{RefT, now}
 use Rattle.base.specs.Choice.{choose}
-use Rattle.base.specs.ChoiceLaws.{Tested, passed, failed, tested, and-left, and-right, bit-same}
+use Rattle.base.specs.ChoiceLaws.{tested, and-left, and-right, bit-same}
+use Rattle.base.specs.Checks.{Tested, passed, failed}
 use Rattle.tables.specs.declared.Chain.{Chain}
 use Rattle.tables.specs.declared.Next.{Next}
 use Rattle.tables.specs.declared.Opened.{Opened}
@@ -79,6 +81,11 @@ pub keeps : (i : ℕ) (w : Walk) → (stepsOn i w .table ≡ w .table) × (steps
 unfolding stepsOn
 keeps zero w = (refl, refl, refl)
 keeps (suc i) w = keeps i (steppedWalk w)
+
+pub stepsOn-next : (i : ℕ) (w : Walk) → stepsOn (suc i) w ≡ steppedWalk (stepsOn i w)
+unfolding stepsOn
+stepsOn-next zero w = refl
+stepsOn-next (suc i) w = stepsOn-next i (steppedWalk w)
 
 -- ---- opening
 

@@ -1,6 +1,6 @@
 // A walk along one chain (01, "Wait table"): it carries the table that it reads and the arc that it has come to. The functions over the
-// struct `Walk` are thin: each takes it apart and leaves the work to one on the slice and the numbers, in `places`. An opening is refused by
-// the rows 1 to 8. It stands on `base`, `tables` and `table_reader`.
+// struct `Walk` are thin: each takes it apart and leaves the work to one on the slice and the numbers, in `places`. Callers that hold no
+// walk have `next_from` and `stand_after`. An opening is refused by the rows 1 to 8. It stands on `base`, `tables` and `table_reader`.
 mod places;
 
 use crate::places::opening;
@@ -9,7 +9,7 @@ use tables::Chain;
 use tables::Next;
 ghost use mathlib.Core.Path.{_≡_};
 ghost use Rattle.tables.specs.Walking.{nextOf};
-ghost use Rattle.walks.specs.Walk.{openedWalk, gives, steppedWalk};
+ghost use Rattle.walks.specs.Walk.{openedWalk, gives, steppedWalk, stoodAfter};
 
 // The table, the chain that is followed, the arc that the walk stands at, 0 if at none, and the number of the opening's refusal, 0 if it
 // was accepted.
@@ -18,6 +18,15 @@ pub struct Walk<'a> {
     pub chain: Chain,
     pub arc: usize,
     pub number: u32,
+}
+
+// What is seen of a walk after some steps: the number of its opening, the arc that it stands at, what the next step gives, and the arc that
+// it stands at then.
+pub struct Stood {
+    pub number: u32,
+    pub arc: usize,
+    pub next: Next,
+    pub then: usize,
 }
 
 // "Opening it names a process and its out- or in-chain, checks 1 to 7, then 8 for that process, and stands at the chain's first arc, or 0
@@ -60,4 +69,24 @@ pub fn next_from(table: &[u8], chain: Chain, arc: usize) -> Next
         arc,
         number: 0,
     })
+}
+
+// A whole walk for callers that hold none: it is opened, makes that many steps, and one more. A step past the end stays at 0.
+pub fn stand_after(table: &[u8], chain: Chain, p: usize, steps: u16) -> Stood
+    ensures { λ r. ⌜ r ≡ stoodAfter steps (openedWalk (table .entry) chain p) ⌝ }
+{
+    let mut w = open_walk(table, chain, p);
+    let mut made: u16 = 0;
+    while made < steps {
+        step(&mut w);
+        made += 1;
+    }
+    let arc = w.arc;
+    let next = step(&mut w);
+    Stood {
+        number: w.number,
+        arc,
+        next,
+        then: w.arc,
+    }
 }

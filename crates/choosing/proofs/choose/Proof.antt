@@ -6,6 +6,7 @@ use mathlib.Core.Path.{_≡_, refl, sym, ap, _∙_}
 use mathlib.Core.Logic.{⊎-elim}
 use native.Mathlib.Omega.{arith}
 use lib.ListN.{length, getD}
+use Rattle.tables.specs.Table.{mostProcesses}
 use Rattle.checks.specs.Run.{Run}
 use Rattle.machine.specs.Calls.{nobody, pair, lowestReceiver, lowestSender, lowest}
 use Rattle.areas.specs.Area.{runIn}
@@ -82,7 +83,7 @@ scan-holds c =
 -- a sender is a process, and N is small
 sender
     : (c : tie.In-scan Inv-loop μ-loop Inv-scan μ-scan)
-    → let a = c .before .scan .a in let n = c .before .before .before .before .args .n in (1 ≤ a) × (a ≤ n) × (n ≤ 128)
+    → let a = c .before .scan .a in let n = c .before .before .before .before .args .n in (1 ≤ a) × (a ≤ n) × (n ≤ mostProcesses)
 sender c = omega (arith, ready-sizes (c .before .before .before .before .pre .0) .0)
 
 loop-holds : tie.Need-loop-holds Inv-loop μ-loop Inv-scan μ-scan

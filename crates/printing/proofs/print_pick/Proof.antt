@@ -1,4 +1,4 @@
--- `printing::print_pick` meets its contract: the area that a pick leaves is ready.
+-- `printing::print_pick` meets its contract: the area is the one that a pick leaves, and it is ready.
 -- Assumes nothing.
 use Prim.Native.Nat.{ℕ}
 use mathlib.Core.List.{List}
@@ -15,14 +15,18 @@ use Rattle.printing.proofs.print_pick.Tie as tie
 picked-ready : {w : List ℤ} {sq : List ℕ} {n m : ℕ} → Ready w sq n m → (a b : ℕ) {v : List ℤ} → v ≡ pickArea w a b → Ready v sq n m
 picked-ready {w} y a b e = rw e (pick-ready w (y .right) y a b)
 
-ready : (d : tie.After-pick-in) → let s = d .before .before in Ready (d .pick-in .last .0) (now (s .args .square)) (s .args .n) (s .args .m)
-ready d = let s = d .before .before in picked-ready (s .pre) (s .args .from) (s .args .to) (d .pick-in .ensures .1)
+picked : (d : tie.After-pick-in) → let s = d .before .before in
+    (d .pick-in .last .0 ≡ pickArea (now (s .args .area)) (s .args .from) (s .args .to)) ×
+    Ready (d .pick-in .last .0) (now (s .args .square)) (s .args .n) (s .args .m)
+picked d =
+    let s = d .before .before in
+    (d .pick-in .ensures .1, picked-ready (s .pre) (s .args .from) (s .args .to) (d .pick-in .ensures .1))
 
 returns : tie.Need-returns
-returns c = ready (c .before .before .before .before .before)
+returns c = picked (c .before .before .before .before .before)
 
 returns-2 : tie.Need-returns-2
-returns-2 c = ready (c .before .before .before .before .before)
+returns-2 c = picked (c .before .before .before .before .before)
 
 pub print-pick-spec : {M : Type 1} → statement M
 print-pick-spec =

@@ -14,7 +14,7 @@ put-process-requires : tie.Need-put-process-requires
 put-process-requires c κs =
     let k = c .before .before .pre in
     let x = c .before .first-record in
-    (k .ready, ((k .low, k .high), (record-inRange k (x .result) (x .ensures), record-father k (x .result) (x .ensures))))
+    (k .ready, (k .start-in, (record-inRange k (x .result) (x .ensures), record-father k (x .result) (x .ensures))))
 
 -- the area once the start's record is put
 first-stage : (c : tie.After-put-process) → let a = c .before .before .before .args in Stage (a .area .now) (a .square .now) (a .n) (a .m)
@@ -27,7 +27,7 @@ broadcast-requires : tie.Need-broadcast-requires
 broadcast-requires c κs =
     let k = c .before .before .before .before .before .pre in
     let stage = first-stage (c .before .before) in
-    (stage .ready, ((k .low, k .high), λ q l u j. put-room k stage q))
+    (stage .ready, (k .start-in, λ q l u j. put-room k stage q))
 
 -- the area once its suc probes are sent
 second-stage : (c : tie.After-broadcast) → let a = c .before .before .before .before .before .before .args in Stage (a .area .now) (a .square .now) (a .n)
@@ -40,7 +40,7 @@ broadcast-requires-2 : tie.Need-broadcast-requires-2
 broadcast-requires-2 c κs =
     let k = c .before .before .before .before .before .before .before .before .pre in
     let stage = second-stage (c .before .before) in
-    (stage .ready, ((k .low, k .high), λ q l u j. suc-room k stage q))
+    (stage .ready, (k .start-in, λ q l u j. suc-room k stage q))
 
 returns : tie.Need-returns
 returns c =

@@ -5,8 +5,8 @@ use mathlib.Core.Path.{_≡_, _∙_, subst}
 use native.Mathlib.Omega.{arith}
 use borrow.Author.Needs.{needs}
 use lib.ListN.{length-set}
-use Rattle.tables.specs.Table.{fieldOf}
-use Rattle.areas.specs.Places.{areaLength, fieldTotal}
+use Rattle.tables.specs.Table.{fieldOf, fieldTotal}
+use Rattle.areas.specs.Places.{areaLength}
 use Rattle.areas.specs.Area.{fieldTotalOf, areaOf}
 use Rattle.areas.proofs.Signs.{word-number}
 use Rattle.starting.specs.Starting.{Cleared, Copied}

@@ -4,6 +4,7 @@ use Prim.Native.Nat.{ℕ, _+_, _*_}
 use native.Mathlib.Omega.{arith}
 use borrow.Author.Needs.{needs}
 use lib.ListN.{length-replicate, getD-replicate}
+use Rattle.tables.specs.Pairs.{squareSide, squareSize}
 use Rattle.starting.proofs.Beginning.{laid-unbegun, laid-begun}
 use Rattle.starting.proofs.set_up.Statement.{statement}
 use Rattle.starting.proofs.set_up.Tie as tie
@@ -16,7 +17,7 @@ fill-requires c κs =
         (k .n-is, k .m-is),
         (
           omega (arith, k .accepted .long),
-          (λ a b u v. getD-replicate {A = ℕ} 16641 (a * 129 + b) 0 0 (omega arith), length-replicate {A = ℕ} 16641 0),
+          (λ a b u v. getD-replicate {A = ℕ} squareSize (a * squareSide + b) 0 0 (omega arith), length-replicate {A = ℕ} squareSize 0),
         ),
       ),
     )

@@ -9,7 +9,7 @@ use Rattle.base.specs.Sums.{allTo}
 use Rattle.base.specs.SumLaws.{allTo-at}
 use Rattle.base.specs.PrefixLaws.{allTo-none, allTo-more, allTo-stop, allTo-last}
 use Rattle.tables.specs.declared.Arc.{Arc}
-use Rattle.tables.specs.Table.{fieldOf, arcAt}
+use Rattle.tables.specs.Table.{fieldOf, mostProcesses, arcAt}
 use Rattle.tables.specs.Reading.{endsRight, unlikeBefore}
 use Rattle.table_reader.proofs.Checks.{ends-low}
 use Rattle.tables.specs.PairLaws.{seen-none}
@@ -24,8 +24,8 @@ Inv-loop s n m met₀ end k₀ met k =
 abbrev μ-loop : tie.MeasureT-loop
 μ-loop s n m met₀ end k₀ met k = end - k
 
--- the ends of the arc that was looked up are at most 128
-small : (c : tie.After-arc-at Inv-loop μ-loop) → (c .arc-at .result .from ≤ 128) × (c .arc-at .result .to ≤ 128)
+-- the ends of the arc that was looked up are within the square
+small : (c : tie.After-arc-at Inv-loop μ-loop) → (c .arc-at .result .from ≤ mostProcesses) × (c .arc-at .result .to ≤ mostProcesses)
 small c =
     let d = c .before .before .before .before in
     let t = fieldOf (now (d .args .s)) in

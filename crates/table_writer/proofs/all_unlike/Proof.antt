@@ -9,6 +9,8 @@ use Rattle.base.specs.Sums.{allTo}
 use Rattle.table_writer.specs.Writing.{unlike}
 use Rattle.tables.specs.declared.Chain.the-variants.{Out, In}
 use Rattle.base.specs.PrefixLaws.{allTo-none, allTo-next, allTo-stop}
+use Rattle.tables.specs.Table.{mostProcesses}
+use Rattle.tables.specs.Pairs.{squareSide}
 use Rattle.tables.specs.PairLaws.{seen-none, seen-next}
 use Rattle.table_writer.proofs.Unlike.{SeenPairs, unlike-cell}
 use Rattle.table_writer.proofs.all_unlike.Statement.{statement}
@@ -24,7 +26,7 @@ loop-holds : tie.Need-loop-holds Inv-loop μ-loop
 loop-holds c = (omega arith, allTo-none _, seen-none _ _)
 
 -- the pair that a turn reads is within the square
-small : (c : tie.After-to-of Inv-loop μ-loop) → (c .before .from-of .result ≤ 128) × (c .to-of .result ≤ 128)
+small : (c : tie.After-to-of Inv-loop μ-loop) → (c .before .from-of .result ≤ mostProcesses) × (c .to-of .result ≤ mostProcesses)
 small c =
     let pre = c .before .before .before .before .before .pre in
     let k : ℕ = c .before .before .before .loop .k in (
@@ -34,7 +36,7 @@ small c =
 
 -- what its cell says of the pair
 new : (c : tie.After-to-of Inv-loop μ-loop) (r : Bool)
-    → getD (c .before .before .before .loop .seen) (129 * c .before .from-of .result + c .to-of .result) false ≡ r
+    → getD (c .before .before .before .loop .seen) (squareSide * c .before .from-of .result + c .to-of .result) false ≡ r
     → unlike (c .before .before .before .before .before .args .list .now) (c .before .before .before .loop .k + 1) ≡ not r
 new c r e =
     let at = c .before .before .before .loop in

@@ -5,6 +5,7 @@ use mathlib.Core.Path.{_≡_, refl, _∙_}
 use native.Mathlib.Omega.{arith}
 use lib.ListN.{length}
 use Rattle.tables.specs.declared.Chain.the-variants.{Out, In}
+use Rattle.tables.specs.Table.{mostProcesses, mostArcs}
 use Rattle.table_writer.specs.Writing.{pairs, writtenField}
 use Rattle.table_writer.specs.Putting.{putFields, Fronts}
 use Rattle.table_writer.proofs.PuttingLaws.{arc-put, fronts-next}
@@ -24,9 +25,9 @@ loop-holds c = (omega arith, refl, refl, c .before .before .pre .1)
 
 -- what a turn knows of its pair
 record Small (from to k : ℕ) : Type 0 where
-  from-small : from ≤ 128
-  to-small : to ≤ 128
-  k-small : k < 512
+  from-small : from ≤ mostProcesses
+  to-small : to ≤ mostProcesses
+  k-small : k < mostArcs
 
 small : (c : tie.After-to-of Inv-loop μ-loop) → Small (c .before .from-of .result) (c .to-of .result) (c .before .before .before .loop .k)
 small c =

@@ -1,12 +1,13 @@
 -- `put_table` puts the arcs, the process records, N and M. Assumes nothing.
 use mathlib.Core.Path.{refl}
 use borrow.Author.Needs.{needs}
+use Rattle.table_writer.specs.Putting.{slots}
 use Rattle.table_writer.proofs.PuttingLaws.{fronts-none, tableOver-of}
 use Rattle.table_writer.proofs.put_table.Statement.{statement}
 use Rattle.table_writer.proofs.put_table.Tie as tie
 
 put-arcs-requires : tie.Need-put-arcs-requires
-put-arcs-requires c κs = (c .before .before .before .before .pre, fronts-none _ 258 _ refl refl)
+put-arcs-requires c κs = (c .before .before .before .before .pre, fronts-none _ slots _ refl refl)
 
 returns : tie.Need-returns
 returns c =

@@ -6,7 +6,7 @@ use native.Mathlib.Omega.{arith}
 use borrow.Author.Needs.{needs}
 use borrow.Author.Tests.{not-true, not-false}
 use Rattle.base.specs.Sums.{allTo}
-use Rattle.tables.specs.Table.{SizesFit}
+use Rattle.tables.specs.Table.{mostProcesses, SizesFit}
 use Rattle.table_writer.specs.Writing.{pairs, endsFit, unlike}
 use Rattle.table_writer.specs.NumberLaws.{writeNumber-10, writeNumber-2, writeNumber-4, writeNumber-7, writeNumber-11, writeNumber-0, endsFit-below}
 use Rattle.table_writer.proofs.write_number.Statement.{statement}
@@ -45,7 +45,7 @@ returns-5 c =
     (sym (c .before .ends-fit .ensures) ∙ not-true _ (c .if5 .taken)))
 
 all-unlike-requires : tie.Need-all-unlike-requires
-all-unlike-requires c κs = endsFit-below _ _ 128 (omega arith) (ends c)
+all-unlike-requires c κs = endsFit-below _ _ mostProcesses (omega arith) (ends c)
 
 returns-6 : tie.Need-returns-6
 returns-6 c =

@@ -7,8 +7,9 @@ use native.Mathlib.Omega.{arith}
 use lib.ListN.{length}
 use Rattle.base.specs.ChoiceLaws.{value-not, value-yes}
 use Rattle.tables.specs.declared.Arc.{Arc}
-use Rattle.tables.specs.Table.{Fields, arcAt}
-use Rattle.areas.specs.Places.{mostProcesses, linkSlots, linkSize, arcSize}
+use Rattle.tables.specs.Table.{Fields, mostProcesses, arcAt}
+use Rattle.areas.specs.Places.{linkSize, arcSize}
+use Rattle.areas.specs.Used.{linkSlots}
 use Rattle.areas.specs.Area.{linkPlace, arcOf, fieldsIn}
 use Rattle.area_tests.specs.AreaTests.{linkTest}
 use Rattle.area_tests.specs.AreaTestsLaws.{sizesTest-P}

@@ -7,7 +7,9 @@ use borrow.Author.Tests.{not-false}
 use mathlib.Core.List.{List}
 use lib.IntN.{ℤ, pos, natAbs}
 use lib.ListN.{getD}
-use Rattle.areas.specs.Places.{checkPlace, startPlace, countPlace}
+use Rattle.tables.specs.Table.{isProcess}
+use Rattle.areas.specs.Places.{startPlace, countPlace, fieldPlace}
+use Rattle.areas.specs.Used.{checkPlace}
 use Rattle.areas.specs.Area.{knotCheck, numberAt, sameWord}
 use Rattle.area_tests.specs.AreaTests.{counts}
 use Rattle.areas.proofs.Signs.{word-read}
@@ -42,6 +44,12 @@ start-sign c =
 start : (c : tie.After-number) → c .number .result ≡ numberAt (at-start c) startPlace
 start c = word-read natAbs (getD (at-start c) startPlace (pos 0)) (c .before .number-arg .given) (c .number .ensures)
 
+start-in : (c : tie.After-is-process)
+    → c .is-process .result ≡ isProcess (numberAt (at-start (c .before)) (fieldPlace 0)) (numberAt (at-start (c .before)) startPlace)
+start-in c =
+    let a = c .before .before .before .before .before .before .before .before .before in
+    rw (← a .pre .1, ← start (c .before)) (c .is-process .ensures)
+
 count-sign : (c : tie.After-is-number2) → c .is-number2 .result ≡ counts (at-count-sign c) countPlace
 count-sign c =
     word-read (λ z. sameWord z (pos (natAbs z))) (getD (at-count-sign c) countPlace (pos 0)) (c .before .is-number-arg2 .given) (c .is-number2 .ensures)
@@ -62,43 +70,38 @@ returns-2 c =
 returns-3 : tie.Need-returns-3
 returns-3 c =
     sym
-    (tells-no (headTest-parts (c .before .before .before .before .before .before .before .before .before .args .area .now))
-    (λ s. omega (arith, start (c .before), c .if3 .taken, s .low)))
+    (tells-no (headTest-parts (c .before .before .before .before .before .before .before .before .before .before .args .area .now))
+    (λ s. failing (start-in (c .before)) (c .if3 .taken) (s .start-in)))
 
 returns-4 : tie.Need-returns-4
 returns-4 c =
-    let a = c .before .before .before .before .before .before .before .before .before .before in
-    sym (tells-no (headTest-parts (a .args .area .now)) (λ s. omega (arith, start (c .before .before), a .pre .1, c .if4 .taken, s .high)))
+    sym
+    (tells-no (headTest-parts (c .before .before .before .before .before .before .before .before .before .before .before .before .before .args .area .now))
+    (λ s. failing (count-sign (c .before)) (c .if4 .taken) (s .count)))
 
 returns-5 : tie.Need-returns-5
 returns-5 c =
     sym
-    (tells-no (headTest-parts (c .before .before .before .before .before .before .before .before .before .before .before .before .before .args .area .now))
-    (λ s. failing (count-sign (c .before)) (c .if5 .taken) (s .count)))
-
-returns-6 : tie.Need-returns-6
-returns-6 c =
-    sym
     (tells-no
     (headTest-parts
     (c .before .before .before .before .before .before .before .before .before .before .before .before .before .before .before .before .args .area .now))
-    (λ s. omega (arith, count (c .before), c .if6 .taken, s .few)))
+    (λ s. omega (arith, count (c .before), c .if5 .taken, s .few)))
 
-returns-7 : tie.Need-returns-7
-returns-7 c =
+returns-6 : tie.Need-returns-6
+returns-6 c =
     let n2 = c .before .before in
     let i2 = n2 .before .before .before in
-    let n1 = i2 .before .before .before .before in
+    let p = i2 .before .before .before in
+    let n1 = p .before in
     let i1 = n1 .before .before .before in
     let s1 = i1 .before .before .before in
     let a = s1 .before .before in
     tells-last (headTest-parts (a .args .area .now)) (λ e. record {
       check = sym (check s1) ∙ not-false (s1 .is-same .result) (i1 .before .before .if1 .left);
       start = sym (start-sign i1) ∙ not-false (i1 .is-number .result) (n1 .before .before .if2 .left);
-      low = omega (arith, start n1, i2 .before .before .before .if3 .left);
-      high = omega (arith, start n1, a .pre .1, i2 .before .before .if4 .left);
-      count = sym (count-sign i2) ∙ not-false (i2 .is-number2 .result) (n2 .before .before .if5 .left);
-      few = omega (arith, count n2, c .before .if6 .left);
+      start-in = sym (start-in p) ∙ not-false (p .is-process .result) (i2 .before .before .if3 .left);
+      count = sym (count-sign i2) ∙ not-false (i2 .is-number2 .result) (n2 .before .before .if4 .left);
+      few = omega (arith, count n2, c .before .if5 .left);
       free = sym (c .is-free .ensures) ∙ e;
     }) (λ s. c .is-free .ensures ∙ s .free)
 
@@ -115,13 +118,13 @@ is-head-spec =
     (λ c. search needs)
     (λ c κs. search needs)
     (λ c. search needs)
+    (λ c κs. search needs)
     returns-3
+    (λ c. search needs)
+    (λ c κs. search needs)
     returns-4
     (λ c. search needs)
     (λ c κs. search needs)
     returns-5
-    (λ c. search needs)
     (λ c κs. search needs)
-    returns-6
-    (λ c κs. search needs)
-    returns-7)
+    returns-6)

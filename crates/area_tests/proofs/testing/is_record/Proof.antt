@@ -16,7 +16,7 @@ use mir.Val.{toZ, ofZ}
 use Rattle.base.specs.ChoiceLaws.{value-yes}
 use Rattle.tables.specs.Waits.{waitsOf}
 use Rattle.checks.specs.Run.{fatherRight}
-use Rattle.areas.specs.Places.{recordSize}
+use Rattle.areas.specs.Places.{flagsPlace, numPlace, fatherPlace, recordSize}
 use Rattle.areas.specs.Area.{recordPlace, numberAt, fieldsIn, sameWord}
 use Rattle.areas.specs.Tells.{Tells}
 use Rattle.area_tests.specs.AreaTests.{counts, recordTest}
@@ -127,17 +127,17 @@ counted z = sameWord z (pos (natAbs z))
 sign : {r : Bool} (w : List ℤ) (k : ℕ) → mag (getD w k (pos 0)) < 2 ^ 31 → r ≡ counted (toZ w32 (ofZ w32 (getD w k (pos 0)))) → r ≡ counts w k
 sign w k h e = word-read counted (getD w k (pos 0)) h e
 
-flags-sign : (c : tie.After-is-number) → c .is-number .result ≡ counts (area (at-flags-sign c)) (word (at-flags-sign c))
-flags-sign c = sign (area (at-flags-sign c)) (word (at-flags-sign c)) (c .before .is-number-arg .given) (c .is-number .ensures)
+flags-sign : (c : tie.After-is-number) → c .is-number .result ≡ counts (area (at-flags-sign c)) (word (at-flags-sign c) + flagsPlace)
+flags-sign c = sign (area (at-flags-sign c)) (word (at-flags-sign c) + flagsPlace) (c .before .is-number-arg .given) (c .is-number .ensures)
 
-flags : (c : tie.After-number) → c .number .result ≡ numberAt (area (at-flags c)) (word (at-flags c))
-flags c = word-read natAbs (getD (area (at-flags c)) (word (at-flags c)) (pos 0)) (c .before .number-arg .given) (c .number .ensures)
+flags : (c : tie.After-number) → c .number .result ≡ numberAt (area (at-flags c)) (word (at-flags c) + flagsPlace)
+flags c = word-read natAbs (getD (area (at-flags c)) (word (at-flags c) + flagsPlace) (pos 0)) (c .before .number-arg .given) (c .number .ensures)
 
-num-sign : (c : tie.After-is-number2) → c .is-number2 .result ≡ counts (area (at-num c)) (word (at-num c) + 2)
-num-sign c = sign (area (at-num c)) (word (at-num c) + 2) (c .before .is-number-arg2 .given) (c .is-number2 .ensures)
+num-sign : (c : tie.After-is-number2) → c .is-number2 .result ≡ counts (area (at-num c)) (word (at-num c) + numPlace)
+num-sign c = sign (area (at-num c)) (word (at-num c) + numPlace) (c .before .is-number-arg2 .given) (c .is-number2 .ensures)
 
-father-sign : (c : tie.After-is-number3) → c .is-number3 .result ≡ counts (area (at-father c)) (word (at-father c) + 3)
-father-sign c = sign (area (at-father c)) (word (at-father c) + 3) (c .before .is-number-arg3 .given) (c .is-number3 .ensures)
+father-sign : (c : tie.After-is-number3) → c .is-number3 .result ≡ counts (area (at-father c)) (word (at-father c) + fatherPlace)
+father-sign c = sign (area (at-father c)) (word (at-father c) + fatherPlace) (c .before .is-number-arg3 .given) (c .is-number3 .ensures)
 
 returns-4 : tie.Need-returns-4
 returns-4 c =
@@ -191,10 +191,12 @@ is-record-spec =
     returns-2
     (λ c κs. search needs)
     returns-3
+    (λ c. omega (arith, within (c .before .before .before .before .before)))
     (λ c. search needs)
     (λ c. omega (arith, within (c .before .before .before .before .before)))
     (λ c κs. search needs)
     returns-4
+    (λ c. omega (arith, within (c .before .before .before .before .before .before .before .before)))
     (λ c. search needs)
     (λ c. omega (arith, within (c .before .before .before .before .before .before .before .before)))
     (λ c κs. search needs)

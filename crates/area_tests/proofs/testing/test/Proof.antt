@@ -16,7 +16,8 @@ use Rattle.tables.specs.Reading.{fieldsNumber}
 use Rattle.tables.specs.Layout.{Right}
 use Rattle.tables.specs.LayoutLaws.{fieldsNumber-P}
 use Rattle.areas.specs.Area.{fieldTotalOf, fieldsIn}
-use Rattle.areas.specs.Squares.{side, Square}
+use Rattle.tables.specs.Pairs.{squareSide}
+use Rattle.areas.specs.Squares.{Square}
 use Rattle.areas.specs.RunInLaws.{fieldsIn-n}
 use Rattle.area_tests.specs.AreaTests.{mostBytes, fieldTest, recordTest, arcTest}
 use Rattle.area_tests.specs.AreaTestsLaws.{sizesTest-P}
@@ -121,7 +122,7 @@ fill-requires c κs =
     let start = found (d .before) .before .before .before in
     let b = bounds _ _ _ (sized (found (d .before))) in (
       subst Right (sym (copied d)) (right (c .before .before)),
-      (of-bytes d, (omega (arith, d .before .fields-to-bytes .ensures .1 .1), (λ x y p q. start .pre .1 (x * side + y), start .pre .0))),
+      (of-bytes d, (omega (arith, d .before .fields-to-bytes .ensures .1 .1), (λ x y p q. start .pre .1 (x * squareSide + y), start .pre .0))),
     )
 
 -- ---- the square

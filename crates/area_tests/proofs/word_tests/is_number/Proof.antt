@@ -6,13 +6,14 @@ use lib.IntN.{ℤ, pos, negsuc, natAbs}
 use lib.Signed.{leZ}
 use borrow.Author.Tests.{eq-eqb}
 use Rattle.areas.specs.Area.{sameWord}
+use Rattle.areas.specs.WordTestLaws.{both-leb}
 use Rattle.steps.proofs.Counts.{signed-back}
 use Rattle.area_tests.proofs.word_tests.is_number.Statement.{statement}
 use Rattle.area_tests.proofs.word_tests.is_number.Tie as tie
 
 test : (z : ℤ) → leZ (pos 0) z ≡ sameWord z (pos (natAbs z))
 unfolding sameWord
-test (pos n) = leb·zero n ∙ sym (eq-eqb n n refl)
+test (pos n) = leb·zero n ∙ sym (both-leb n n ∙ eq-eqb n n refl)
 test (negsuc n) = refl
 
 returns : tie.Need-returns

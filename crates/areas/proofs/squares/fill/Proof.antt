@@ -8,10 +8,12 @@ use native.Mathlib.Omega.{arith}
 use lib.ListN.{length, getD, set, length-set}
 use lib.Seq.{getD-set-same, getD-set-other}
 use Rattle.base.specs.Choice.{choose}
-use Rattle.base.specs.ChoiceLaws.{Same, same, apart, same?}
+use Rattle.base.specs.ChoiceLaws.{same?}
+use Rattle.base.specs.Checks.{Same, same, apart}
 use Rattle.tables.specs.declared.Arc.{Arc}
-use Rattle.tables.specs.Table.{Fields, fieldOf, mOf, arcAt, saysWait}
+use Rattle.tables.specs.Table.{Fields, fieldOf, mOf, mostProcesses, arcAt, saysWait}
 use Rattle.tables.specs.Layout.{Right}
+use Rattle.tables.specs.Pairs.{squareSide, squareSize}
 use Rattle.areas.specs.Area.{arcIn, arcOf}
 use Rattle.areas.specs.Squares.{cell}
 use Rattle.areas.specs.ArcLaws.{arcIn-zero, arcIn-right}
@@ -20,34 +22,34 @@ use Rattle.areas.proofs.squares.fill.Tie as tie
 
 -- the square holds the arcs 1 to j
 abbrev Holds : Fields → List ℕ → ℕ → Type 0
-Holds t sq j = (a b : ℕ) → a ≤ 128 → b ≤ 128 → cell sq a b ≡ arcIn t a b j
+Holds t sq j = (a b : ℕ) → a ≤ mostProcesses → b ≤ mostProcesses → cell sq a b ≡ arcIn t a b j
 
 abbrev Inv-loop : tie.InvT-loop
-Inv-loop table n m square₀ end k₀ square k = (1 ≤ k) × (k ≤ end) × (length square ≡ 16641) × Holds (fieldOf table) square (k - 1)
+Inv-loop table n m square₀ end k₀ square k = (1 ≤ k) × (k ≤ end) × (length square ≡ squareSize) × Holds (fieldOf table) square (k - 1)
 
 abbrev μ-loop : tie.MeasureT-loop
 μ-loop table n m square₀ end k₀ square k = end - k
 
--- the ends of an arc are at most 128
-few : {arc : Arc} (t : Fields) (k : ℕ) → Right t → 1 ≤ k → k ≤ mOf t → arc ≡ arcAt t k → (arc .from ≤ 128) × (arc .to ≤ 128)
+-- the ends of an arc are within the square
+few : {arc : Arc} (t : Fields) (k : ℕ) → Right t → 1 ≤ k → k ≤ mOf t → arc ≡ arcAt t k → (arc .from ≤ mostProcesses) × (arc .to ≤ mostProcesses)
 few t k r l u e = rw e (omega (arith, r .sizes .1, r .ends k (l, u) .0 .1, r .ends k (l, u) .1 .1))
 
 -- one arc more
-more : (t : Fields) (sq : List ℕ) (k : ℕ) → Right t → 1 ≤ k → k ≤ mOf t → length sq ≡ 16641 → Holds t sq (k - 1)
-    → Holds t (set sq (arcAt t k .from * 129 + arcAt t k .to) k) (k + 1 - 1)
+more : (t : Fields) (sq : List ℕ) (k : ℕ) → Right t → 1 ≤ k → k ≤ mOf t → length sq ≡ squareSize → Holds t sq (k - 1)
+    → Holds t (set sq (arcAt t k .from * squareSide + arcAt t k .to) k) (k + 1 - 1)
 more t sq k r l u n h a b p q =
     let e : k + 1 - 1 ≡ suc (k - 1) = omega arith in
     let f : suc (k - 1) ≡ k = omega arith in
     rw (e, arcIn-right t a b (k - 1) r (omega arith), f) (at (same? (arcAt t k .from) a) (same? (arcAt t k .to) b))
   where
     place : ℕ
-    place = arcAt t k .from * 129 + arcAt t k .to
+    place = arcAt t k .from * squareSide + arcAt t k .to
 
-    other : (a * 129 + b ≡ place → ⊥) → getD (set sq place k) (a * 129 + b) 0 ≡ arcIn t a b (k - 1)
-    other d = getD-set-other sq place (a * 129 + b) k 0 d ∙ h a b p q
+    other : (a * squareSide + b ≡ place → ⊥) → getD (set sq place k) (a * squareSide + b) 0 ≡ arcIn t a b (k - 1)
+    other d = getD-set-other sq place (a * squareSide + b) k 0 d ∙ h a b p q
 
-    at : Same (arcAt t k .from) a → Same (arcAt t k .to) b → getD (set sq place k) (a * 129 + b) 0 ≡ choose (saysWait t a b k) k (arcIn t a b (k - 1))
-    at (same x i) (same y j) = rw (i, j, x, y) (getD-set-same sq (a * 129 + b) k 0 (omega arith))
+    at : Same (arcAt t k .from) a → Same (arcAt t k .to) b → getD (set sq place k) (a * squareSide + b) 0 ≡ choose (saysWait t a b k) k (arcIn t a b (k - 1))
+    at (same x i) (same y j) = rw (i, j, x, y) (getD-set-same sq (a * squareSide + b) k 0 (omega arith))
     at (same x i) (apart y j) = rw (i, j) (other (λ g. y (omega (arith, few t k r l u refl .1))))
     at (apart x i) (same y j) = rw i (other (λ g. x (omega (arith, few t k r l u refl .1))))
     at (apart x i) (apart y j) = rw i (other (λ g. x (omega (arith, few t k r l u refl .1))))
@@ -62,7 +64,7 @@ arc-at-requires : tie.Need-arc-at-requires Inv-loop μ-loop
 arc-at-requires c κs = (c .before .before .before .pre .1 .0 .0, (omega arith, omega arith))
 
 -- the ends of the arc that was read
-ends : (c : tie.After-arc-at Inv-loop μ-loop) → (c .arc-at .result .from ≤ 128) × (c .arc-at .result .to ≤ 128)
+ends : (c : tie.After-arc-at Inv-loop μ-loop) → (c .arc-at .result .from ≤ mostProcesses) × (c .arc-at .result .to ≤ mostProcesses)
 ends c =
     let start = c .before .before .before .before in
     few (fieldOf (start .args .table .now)) (c .before .before .loop .k) (start .pre .0) (omega arith) (omega arith) (c .arc-at .ensures)

@@ -7,7 +7,8 @@ use native.Mathlib.Omega.{arith}
 use borrow.Author.Needs.{needs}
 use borrow.Author.Tests.{eq-eqb, ne-eqb}
 use lib.Dec.{eqb}
-use Rattle.base.specs.ChoiceLaws.{Same, same, apart, same?}
+use Rattle.base.specs.ChoiceLaws.{same?}
+use Rattle.base.specs.Checks.{Same, same, apart}
 use Rattle.areas.specs.Squares.{cell}
 use Rattle.areas.proofs.squares.place.Statement.{statement}
 use Rattle.areas.proofs.squares.place.Tie as tie

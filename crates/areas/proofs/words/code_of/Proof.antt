@@ -9,10 +9,11 @@ use borrow.Author.Tests.{leb-true}
 use lib.Dec.{ltb}
 use lib.IntN.{ℤ, pos, negsuc, _+ℤ_}
 use lib.Signed.{mag}
-use Rattle.base.specs.ChoiceLaws.{Tested, passed, failed, tested}
+use Rattle.base.specs.ChoiceLaws.{tested}
+use Rattle.base.specs.Checks.{Tested, passed, failed}
 use Rattle.steps.specs.declared.Message.{Message}
 use Rattle.steps.specs.declared.Message.the-variants.{Ack}
-use Rattle.steps.specs.Step.{small, countSmall}
+use Rattle.steps.specs.Step.{mostCount, small, countSmall}
 use Rattle.areas.specs.Area.{codeOf}
 use Rattle.steps.proofs.Counts.{signed-back}
 use Rattle.areas.proofs.words.code_of.Statement.{statement}
@@ -21,11 +22,11 @@ use Rattle.areas.proofs.words.code_of.Tie as tie
 -- 256 and a count in range fits 32 bits
 fits : (z : ℤ) → small z ≡ true → mag (pos 256 +ℤ z) < 2 ^ 31
 unfolding small
-fits (pos n) e = omega (arith, leb-true n 128 e)
+fits (pos n) e = omega (arith, leb-true n mostCount e)
 fits (negsuc n) e = at (tested (ltb 256 (suc n)))
   where
     at : Tested (ltb 256 (suc n)) → mag (pos 256 +ℤ negsuc n) < 2 ^ 31
-    at (passed p) = rw p (omega (arith, leb-true (suc n) 128 e))
+    at (passed p) = rw p (omega (arith, leb-true (suc n) mostCount e))
     at (failed p) = rw p (omega arith)
 
 counted : {m : Message} (z : ℤ) → m ≡ Ack z → countSmall m ≡ true → small z ≡ true

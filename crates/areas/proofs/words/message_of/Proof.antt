@@ -9,7 +9,8 @@ use lib.Dec.{ltb}
 use lib.Signed.{mag}
 use mir.Syntax.{w32}
 use mir.Val.{toZ, ofZ}
-use Rattle.base.specs.ChoiceLaws.{Tested, passed, failed, tested}
+use Rattle.base.specs.ChoiceLaws.{tested}
+use Rattle.base.specs.Checks.{Tested, passed, failed}
 use Rattle.areas.specs.LinkLaws.{messageOf-suc, messageOf-pre, messageOf-ack}
 use Rattle.steps.proofs.Counts.{signed-back}
 use Rattle.areas.proofs.words.message_of.Statement.{statement}

@@ -1,5 +1,6 @@
 -- `areas::words::put_record` meets its contract: each value is in its range, so that it is itself as a word, and the four stores are one after another.
 -- Assumes nothing.
+use native.Mathlib.Nat.{add-zero}
 use native.Mathlib.Numerals.{add-one, add-two, add-three}
 use native.Mathlib.Omega.{arith}
 use borrow.Author.Needs.{needs}
@@ -31,6 +32,7 @@ returns c =
       signed-back (x .cs) (omega (arith, mag-abs (x .cs))),
       word-number (x .num) (omega arith),
       word-number (x .father) (omega arith),
+      add-zero,
       add-one,
       add-two,
       add-three,
@@ -42,6 +44,7 @@ put-record-spec =
     (tie.spec
     (λ c κs. search needs)
     cast-num
+    (λ c. search needs)
     (λ c. search needs)
     (λ c. search needs)
     (λ c. search needs)

@@ -9,6 +9,7 @@ use lib.ListN.{getD}
 use lib.Signed.{mag}
 use mir.Syntax.{w32}
 use mir.Val.{toZ, ofZ}
+use Rattle.areas.specs.Places.{flagsPlace, csPlace, numPlace, fatherPlace}
 use Rattle.areas.specs.Area.{numberAt}
 use Rattle.steps.proofs.Counts.{signed-back}
 use Rattle.areas.proofs.words.record_at.Statement.{statement}
@@ -25,18 +26,17 @@ returns c =
     let w = a .area .now in
     let k = a .k in
     rw (
-      numbered w k (read .before .before .number-arg .given) (read .before .number .ensures),
-      signed-back (getD w (k + 1) (pos 0)) (read .t6 .given),
-      numbered w
-          (k + 2) (c .before .before .before .number-arg2 .given) (c .before .before .number2 .ensures),
-      numbered w (k + 3) (c .before .number-arg3 .given)
-          (c .number3 .ensures),
+      numbered w (k + flagsPlace) (read .before .before .number-arg .given) (read .before .number .ensures),
+      signed-back (getD w (k + csPlace) (pos 0)) (read .t7 .given),
+      numbered w (k + numPlace) (c .before .before .before .number-arg2 .given) (c .before .before .number2 .ensures),
+      numbered w (k + fatherPlace) (c .before .number-arg3 .given) (c .number3 .ensures),
     )
 
 pub record-at-spec : {M : Type 1} → statement M
 record-at-spec =
     tie.close
     (tie.spec
+    (λ c. search needs)
     (λ c. search needs)
     (λ c. search needs)
     (λ c κs. search needs)

@@ -9,7 +9,8 @@ use native.Mathlib.Omega.{arith}
 use lib.IntN.{ℤ, pos}
 use lib.ListN.{length, getD, set, length-set}
 use lib.Seq.{ext-getD, getD-set-same, getD-set-other}
-use Rattle.base.specs.ChoiceLaws.{Same, same, apart, same?, Below, below, beyond, below?}
+use Rattle.base.specs.ChoiceLaws.{same?, below?}
+use Rattle.base.specs.Checks.{Same, same, apart, Below, below, beyond}
 use Rattle.steps.proofs.Counts.{signed-back}
 use Rattle.areas.specs.Writes.{movedWord, movedDown}
 use Rattle.areas.specs.WriteLaws.{movedWord-next, movedWord-last, movedWord-below, movedWord-past, movedDown-length, movedDown-at}

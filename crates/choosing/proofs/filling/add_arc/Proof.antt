@@ -3,12 +3,14 @@
 use Prim.Native.Nat.{_≤_}
 use native.Mathlib.Omega.{arith}
 use borrow.Author.Needs.{needs}
+use Rattle.tables.specs.Table.{mostProcesses}
 use Rattle.areas.specs.Area.{runIn}
 use Rattle.choosing.proofs.Fills.{arc-ends, added-small, arc-is}
 use Rattle.choosing.proofs.filling.add_arc.Statement.{statement}
 use Rattle.choosing.proofs.filling.add_arc.Tie as tie
 
-ends : (c : tie.After-arc-in) → let n = c .before .args .n in let x = c .arc-in .result in ((x .from ≤ n) × (x .to ≤ n)) × ((x .from ≤ 128) × (x .to ≤ 128))
+ends : (c : tie.After-arc-in)
+    → let n = c .before .args .n in let x = c .arc-in .result in ((x .from ≤ n) × (x .to ≤ n)) × ((x .from ≤ mostProcesses) × (x .to ≤ mostProcesses))
 ends c = let s = c .before in arc-ends (s .pre .0) (s .pre .1 .0) (c .arc-in .ensures)
 
 waiting-on-requires : tie.Need-waiting-on-requires

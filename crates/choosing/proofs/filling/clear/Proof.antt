@@ -3,6 +3,7 @@
 use Prim.Native.Nat.{_-_, _≤_}
 use native.Mathlib.Omega.{arith}
 use borrow.Author.Needs.{needs}
+use Rattle.tables.specs.Pairs.{squareSide}
 use Rattle.choosing.specs.Filling.{Cleared}
 use Rattle.choosing.specs.FillLaws.{cleared-none}
 use Rattle.choosing.proofs.Fills.{cleared-by, cleared-all}
@@ -10,10 +11,10 @@ use Rattle.choosing.proofs.filling.clear.Statement.{statement}
 use Rattle.choosing.proofs.filling.clear.Tie as tie
 
 abbrev Inv-loop : tie.InvT-loop
-Inv-loop memory₀ p₀ memory p = (p ≤ 129) × Cleared p memory
+Inv-loop memory₀ p₀ memory p = (p ≤ squareSide) × Cleared p memory
 
 abbrev μ-loop : tie.MeasureT-loop
-μ-loop memory₀ p₀ memory p = 129 - p
+μ-loop memory₀ p₀ memory p = squareSide - p
 
 loop-again : tie.Need-loop-again Inv-loop μ-loop
 loop-again c =

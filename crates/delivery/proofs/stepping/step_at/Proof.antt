@@ -8,13 +8,13 @@ use borrow.Author.Needs.{needs}
 use borrow.Author.Tests.{eq-eqb, ne-eqb}
 use lib.IntN.{ℤ}
 use Rattle.base.specs.Sums.{countTo}
+use Rattle.tables.specs.Table.{mostProcesses}
 use Rattle.tables.specs.declared.Chain.the-variants.{Out, In}
 use Rattle.tables.specs.Waits.{outDegree, inDegree}
 use Rattle.steps.specs.declared.Message.{Message}
 use Rattle.steps.specs.declared.Process.{Process}
 use Rattle.steps.specs.declared.Stepped.{Stepped}
 use Rattle.steps.specs.Step.{stepped, startStepped}
-use Rattle.areas.specs.Places.{mostProcesses}
 use Rattle.areas.specs.Area.{runIn}
 use Rattle.areas.specs.Squares.{joinsBy}
 use Rattle.lenses.specs.Ready.{Ready}

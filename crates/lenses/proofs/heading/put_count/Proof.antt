@@ -1,4 +1,4 @@
--- `lenses::heading::put_count` meets its contract: a count of at most 2048 is itself as a word, and word 2 stands inside the area.
+-- `lenses::heading::put_count` meets its contract: a count in its range is itself as a word, and word 2 stands inside the area.
 -- Assumes nothing.
 use native.Mathlib.Omega.{arith}
 use borrow.Author.Needs.{needs}

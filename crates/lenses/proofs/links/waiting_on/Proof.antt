@@ -8,9 +8,10 @@ use native.Mathlib.Omega.{arith}
 use lib.IntN.{ℤ}
 use lib.ListN.{length}
 use Rattle.base.specs.ChoiceLaws.{value-not, value-yes}
+use Rattle.tables.specs.Table.{mostProcesses}
 use Rattle.tables.specs.Waits.{neighbours}
 use Rattle.steps.specs.declared.Message.{Message}
-use Rattle.areas.specs.Places.{mostProcesses, linkSlots}
+use Rattle.areas.specs.Used.{linkSlots}
 use Rattle.areas.specs.Area.{messagesAt, runIn}
 use Rattle.areas.specs.Squares.{joinedBy, placeBy}
 use Rattle.areas.specs.LinkLaws.{messagesAt-length}

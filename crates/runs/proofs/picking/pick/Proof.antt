@@ -2,13 +2,14 @@
 -- Assumes nothing.
 use mathlib.Core.Path.{refl}
 use borrow.Author.Needs.{needs}
+use Rattle.tables.specs.Pairs.{squareSize}
 use Rattle.runs.specs.CallLaws.{pick-21}
 use Rattle.runs.proofs.Tested.{fresh-long, fresh-empty, wrong-area, right-ready}
 use Rattle.runs.proofs.picking.pick.Statement.{statement}
 use Rattle.runs.proofs.picking.pick.Tie as tie
 
 test-requires : tie.Need-test-requires
-test-requires c κs = (fresh-long 16641 _ refl, fresh-empty 16641 _ refl)
+test-requires c κs = (fresh-long squareSize _ refl, fresh-empty squareSize _ refl)
 
 returns : tie.Need-returns
 returns c =

@@ -1,17 +1,18 @@
 -- `runs::reading::read_record` meets its contract: each way out is a law of CallLaws.
 -- Assumes nothing.
-use native.Mathlib.Omega.{arith}
 use mathlib.Core.Path.{refl, ap, _∙_}
 use borrow.Author.Needs.{needs}
+use Rattle.base.specs.ChoiceLaws.{value-not, value-yes}
+use Rattle.tables.specs.Pairs.{squareSize}
+use Rattle.tables.specs.TableLaws.{isProcess-P}
 use Rattle.checks.specs.declared.Reading.the-variants.{Found}
-use Rattle.lenses.specs.ReadyLaws.{ready-n}
 use Rattle.runs.specs.CallLaws.{read-21, read-25, read-found}
-use Rattle.runs.proofs.Tested.{fresh-long, fresh-empty, wrong-area, right-ready, process-zero, process-over, process-in}
+use Rattle.runs.proofs.Tested.{fresh-long, fresh-empty, wrong-area, right-ready, ready-process}
 use Rattle.runs.proofs.reading.read_record.Statement.{statement}
 use Rattle.runs.proofs.reading.read_record.Tie as tie
 
 test-requires : tie.Need-test-requires
-test-requires c κs = (fresh-long 16641 _ refl, fresh-empty 16641 _ refl)
+test-requires c κs = (fresh-long squareSize _ refl, fresh-empty squareSize _ refl)
 
 returns : tie.Need-returns
 returns c =
@@ -21,19 +22,11 @@ returns c =
 
 returns-2 : tie.Need-returns-2
 returns-2 c =
-    let told = c .before .before in
-    let test = told .before .before .test in
-    let a = told .before .before .before .before .args in
-    let y = right-ready (a .area .now) _ _ _ _ (test .ensures .0) (told .n .given .1) (test .ensures .1) in
-    read-25 (a .area .now) (y .right) (a .p) (process-zero (a .p) _ (c .if1 .taken))
-
-returns-3 : tie.Need-returns-3
-returns-3 c =
     let told = c .before .before .before in
     let test = told .before .before .test in
     let a = told .before .before .before .before .args in
     let y = right-ready (a .area .now) _ _ _ _ (test .ensures .0) (told .n .given .1) (test .ensures .1) in
-    read-25 (a .area .now) (y .right) (a .p) (process-over (a .p) _ (omega (arith, ready-n y, c .if2 .taken)))
+    read-25 (a .area .now) (y .right) (a .p) (value-not (ready-process y (a .p) (c .before .is-process .ensures)) (c .if1 .taken))
 
 process-requires : tie.Need-process-requires
 process-requires c κs =
@@ -41,16 +34,16 @@ process-requires c κs =
     let test = told .before .before .test in
     let a = told .before .before .before .before .args in
     let y = right-ready (a .area .now) _ _ _ _ (test .ensures .0) (told .n .given .1) (test .ensures .1) in
-    (y, (omega (arith, c .before .before .if1 .left), c .before .if2 .left))
+    (y, isProcess-P _ (a .p) .0 (value-yes (c .before .before .is-process .ensures) (c .before .if1 .left)))
 
-returns-4 : tie.Need-returns-4
-returns-4 c =
+returns-3 : tie.Need-returns-3
+returns-3 c =
     let told = c .before .before .before .before .before in
     let test = told .before .before .test in
     let a = told .before .before .before .before .args in
     let y = right-ready (a .area .now) _ _ _ _ (test .ensures .0) (told .n .given .1) (test .ensures .1) in
     ap Found (c .process .ensures) ∙ read-found (a .area .now) (y .right) (a .p)
-    (process-in (a .p) _ (c .before .before .before .if1 .left) (omega (arith, ready-n y, c .before .before .if2 .left)))
+    (value-yes (ready-process y (a .p) (c .before .before .before .is-process .ensures)) (c .before .before .if1 .left))
 
 pub read-record-spec : {M : Type 1} → statement M
 read-record-spec =
@@ -60,7 +53,7 @@ read-record-spec =
     (λ c. search needs)
     (λ c. search needs)
     returns
+    (λ c κs. search needs)
     returns-2
-    returns-3
     process-requires
-    returns-4)
+    returns-3)

@@ -5,6 +5,7 @@ use mathlib.Core.Path.{refl, sym, ap, _∙_}
 use native.Mathlib.Omega.{arith}
 use borrow.Author.Needs.{needs}
 use borrow.Author.Tests.{not-true, not-false}
+use Rattle.tables.specs.Pairs.{squareSize}
 use Rattle.areas.specs.Area.{runIn}
 use Rattle.lenses.specs.Ready.{Ready}
 use Rattle.lenses.specs.ReadyLaws.{right-storable, ready-n}
@@ -16,7 +17,7 @@ use Rattle.runs.proofs.reading.report.Statement.{statement}
 use Rattle.runs.proofs.reading.report.Tie as tie
 
 test-requires : tie.Need-test-requires
-test-requires c κs = (fresh-long 16641 _ refl, fresh-empty 16641 _ refl)
+test-requires c κs = (fresh-long squareSize _ refl, fresh-empty squareSize _ refl)
 
 returns : tie.Need-returns
 returns c =

@@ -8,6 +8,7 @@ use borrow.Author.Needs.{needs}
 use Rattle.areas.specs.Area.{runIn}
 use Rattle.lenses.proofs.Holding.{holding-ready, holding-length}
 use Rattle.choosing.specs.Memory.{Remembers}
+use Rattle.choosing.proofs.OnLink.{left-refusal, left-message}
 use Rattle.runs.proofs.Turns.{Turn, turn-first, turn-over, turn-spent, turn-refused, turn-next}
 use Rattle.runs.proofs.running.drive.Statement.{statement}
 use Rattle.runs.proofs.running.drive.Tie as tie
@@ -58,8 +59,11 @@ returns-3 c =
     let o = d .before .before .before in
     let i = o .before .before in
     let a = i .before .before in
-    turn-refused (a .before .pre .0) (a .loop .inv .0) (i .is-over .ensures) (o .before .if1 .left) (o .if2 .left) (d .deliver-next .ensures)
-    (c .before .number .given .1)
+    let y = a .before .pre .0 in
+    let t = a .loop .inv .0 in
+    let left = d .deliver-next .ensures in
+    turn-refused y t (i .is-over .ensures) (o .before .if1 .left) (o .if2 .left) (left .1 .0)
+    (left-refusal (holding-ready y (t .holds)) left (c .before .number .given .1))
 
 loop-again : tie.Need-loop-again Inv-loop μ-loop
 loop-again c =
@@ -67,8 +71,11 @@ loop-again c =
     let o = d .before .before .before in
     let i = o .before .before in
     let a = i .before .before in
-    let next = turn-next (a .before .pre .0) (a .loop .inv .0) (i .is-over .ensures) (o .before .if1 .left) (o .if2 .left) (d .deliver-next .ensures) in
-    (next (c .enum-told .given .1), d .deliver-next .ensures .1 .1 .0)
+    let y = a .before .pre .0 in
+    let t = a .loop .inv .0 in
+    let left = d .deliver-next .ensures in
+    let next = turn-next y t (i .is-over .ensures) (o .before .if1 .left) (o .if2 .left) (left .1 .0) in
+    (next (left-message (holding-ready y (t .holds)) left (c .enum-told .given .1)), left .1 .1 .0)
 
 pub drive-spec : {M : Type 1} → statement M
 drive-spec =

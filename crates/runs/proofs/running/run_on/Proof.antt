@@ -2,6 +2,7 @@
 -- Assumes nothing.
 use mathlib.Core.Path.{refl, _∙_}
 use borrow.Author.Needs.{needs}
+use Rattle.tables.specs.Pairs.{squareSize}
 use Rattle.lenses.specs.Ready.{Ready}
 use Rattle.runs.specs.CallLaws.{runOn-21, runOn-on}
 use Rattle.runs.proofs.Tested.{fresh-long, fresh-empty, wrong-area, right-ready}
@@ -9,7 +10,7 @@ use Rattle.runs.proofs.running.run_on.Statement.{statement}
 use Rattle.runs.proofs.running.run_on.Tie as tie
 
 test-requires : tie.Need-test-requires
-test-requires c κs = (fresh-long 16641 _ refl, fresh-empty 16641 _ refl)
+test-requires c κs = (fresh-long squareSize _ refl, fresh-empty squareSize _ refl)
 
 returns : tie.Need-returns
 returns c =

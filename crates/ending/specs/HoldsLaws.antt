@@ -1,5 +1,4 @@
 -- All invariants together: a run that holds them is well formed, a delivery from it is accepted and holds them again.
---   Holds r          == every invariant of r, for its own waits and start
 --   holds-start      == start gives them
 --   holds-after      == every delivery keeps them
 --   holds-count      == the deliveries made are at most D
@@ -8,16 +7,17 @@
 --   holds-upheld     == what the machine asks of a check's invariants
 -- Assumes nothing.
 use Prim.Native.Nat.{ℕ, _≤_}
-use mathlib.Core.Bool.{Bool, true, false, not, _&&_}
-use mathlib.Core.List.{List, _∷_, _++_}
-use mathlib.Core.Path.{_≡_, refl, subst}
+use mathlib.Core.Bool.{Bool, true, false, not, _&&_, false≢true}
+use mathlib.Core.List.{List, [], _∷_, _++_}
+use mathlib.Core.Path.{_≡_, refl, sym, _∙_, subst}
 use mathlib.Core.Logic.{⊎-elim}
 use native.Mathlib.Omega.{arith}
-use borrow.Author.Tests.{eqb-true, eqb-false, le-leb, eq-eqb}
-use lib.Dec.{eqb, leb}
+use borrow.Author.Tests.{eqb-true, le-leb, eq-eqb}
+use lib.Dec.{eqb}
 use lib.IntN.{ℤ}
 use Rattle.base.specs.Choice.{choose, bit}
-use Rattle.base.specs.ChoiceLaws.{and-both, and-left, or-left, or-right, Same, same, apart, same?, Tested, passed, failed, tested}
+use Rattle.base.specs.ChoiceLaws.{and-both, and-left, or-left, or-right, same?, tested}
+use Rattle.base.specs.Checks.{Same, same, apart, Tested, passed, failed}
 use Rattle.tables.specs.Waits.{Waits, outDegree, inDegree, neighbours}
 use Rattle.tables.specs.Sound.{Sound}
 use Rattle.tables.specs.Table.{IsProcess, isProcess}
@@ -27,9 +27,8 @@ use Rattle.machine.specs.MovedLaws.{after-moved}
 use Rattle.machine.specs.Formed.{Formed}
 use Rattle.machine.specs.FormedLaws.{wellFormed-P, accepts-P, allRight-tail}
 use Rattle.machine.specs.Made.{Answered, none-refused, no-link, not-over}
-use Rattle.machine.specs.Diffusing.{Treed}
 use Rattle.machine.specs.DiffusingLaws.{diffusing-start, diffusing-kept}
-use Rattle.machine.specs.RestLaws.{ack-awaited, work-busy}
+use Rattle.machine.specs.RestLaws.{ack-awaited, link-neighbours, work-busy}
 use Rattle.machine.specs.TreeLaws.{treed-start, treed-kept}
 use Rattle.machine.specs.Upheld.{Upheld}
 use Rattle.steps.specs.declared.Message.{Message}
@@ -37,7 +36,7 @@ use Rattle.steps.specs.declared.Message.the-variants.{Suc, Pre, Ack}
 use Rattle.steps.specs.declared.Process.{Process}
 use Rattle.steps.specs.declared.Reply.{Reply}
 use Rattle.steps.specs.declared.Reply.the-variants.{To}
-use Rattle.steps.specs.Step.{inRange, small, countSmall, numSuffices, replyFits, fitting, newSubordinate}
+use Rattle.steps.specs.Step.{mostNum, inRange, small, countSmall, numSuffices, replyFits, fitting, newSubordinate}
 use Rattle.steps.specs.Effect.{isProbe, Effect}
 use Rattle.checks.specs.declared.Report.{Report}
 use Rattle.checks.specs.declared.Reading.{Reading}
@@ -48,22 +47,13 @@ use Rattle.checks.specs.Lists.{asked}
 use Rattle.checks.specs.Reach.{dOf}
 use Rattle.checks.specs.RunLaws.{turnAt-effect}
 use Rattle.ending.specs.Weights.{quota, Diffuses}
-use Rattle.ending.specs.Invariants.{Tidy, Worked, Spread, Summed}
-use Rattle.ending.specs.Counting.{quota-near, knot-begins, effect-counted, worked-start, worked-kept, link-short, num-small}
-use Rattle.ending.specs.Tidying.{tidy-start, tidy-kept}
-use Rattle.ending.specs.Spreading.{spread-start, spread-kept}
-use Rattle.ending.specs.SpreadEnd.{sends-most, dOf-most}
-use Rattle.ending.specs.Summing.{summed-start, summed-kept}
-use Rattle.ending.specs.SumBounds.{cs-small, counts-small}
-
-pub record Holds (r : Run) : Type 0 where
-  pub sound : Sound (r .waits)
-  pub tidy : Tidy (r .waits) (r .start) r
-  pub diffusing : Diffuses (r .waits) (r .start) r
-  pub worked : Worked (r .waits) r
-  pub treed : Treed knot (r .waits) (r .start) r
-  pub spread : Spread (r .waits) (r .start) r
-  pub summed : Summed (r .waits) (r .start) r
+use Rattle.ending.specs.Invariants.{Holds}
+use Rattle.ending.specs.CountingLaws.{quota-near, knot-begins, effect-counted, acknowledged-in, worked-start, worked-kept, link-short, num-small}
+use Rattle.ending.specs.TidyLaws.{tidy-start, tidy-kept}
+use Rattle.ending.specs.SpreadingLaws.{spread-start, spread-kept}
+use Rattle.ending.specs.SpreadEndLaws.{sends-most, dOf-most}
+use Rattle.ending.specs.SummedLaws.{summed-start, summed-kept}
+use Rattle.ending.specs.SumBoundLaws.{cs-small, counts-small}
 
 pub holds-start : (w : Waits) (s : ℕ) → Sound w → IsProcess (w .n) s → Holds (startRun w s)
 unfolding Machines.startRun
@@ -139,7 +129,7 @@ module _ (r : Run) (h : Holds r) where
       (le-leb (x .preceding) 1 (h .tidy .prec-bit i p)))
       (le-leb (x .subordinate) 1 sub))
       (cs-small (h .sound) (h .tidy) (h .summed) i p))
-      (le-leb (x .num) 256 (num-small (h .tidy) (h .diffusing) (h .sound) p))
+      (le-leb (x .num) mostNum (num-small (h .tidy) (h .diffusing) (h .sound) p))
 
   father-fits : (i : ℕ) → IsProcess (r .waits .n) i → fatherRight (r .waits) i (r .process i) ≡ true
   unfolding fatherRight
@@ -150,6 +140,11 @@ module _ (r : Run) (h : Holds r) where
       (λ e. or-right (eqb f 0) (neighbours (r .waits) i f) e)
       (h .diffusing .fathers i p)
 
+  apart-empty : (a b : ℕ) → IsProcess (r .waits .n) a → IsProcess (r .waits .n) b → neighbours (r .waits) a b ≡ false → (ms : List Message)
+      → r .link a b ≡ ms → ms ≡ []
+  apart-empty a b pa pb n [] l = refl
+  apart-empty a b pa pb n (m ∷ ms) l = absurd (false≢true (sym n ∙ link-neighbours (h .diffusing) (quota-near (r .waits)) pa pb l))
+
   parts : Formed knot r
   parts =
       record {
@@ -158,6 +153,7 @@ module _ (r : Run) (h : Holds r) where
         count = omega (arith, holds-count, dOf-most (r .waits) (r .start) (h .sound));
         records = λ i p. and-both _ _ (holds-range i p) (father-fits i p);
         short = λ a b pa pb. link-short (h .tidy) (h .diffusing) pa pb;
+        joined = λ a b pa pb n. apart-empty a b pa pb n (r .link a b) refl;
         messages = λ a b pa pb. counts-small (h .sound) (h .tidy) (h .summed) a b pa pb;
       }
 
@@ -186,20 +182,11 @@ module _ (r : Run) (h : Holds r) (a b : ℕ) (pa : IsProcess (r .waits .n) a) (p
   suffices Pre k = refl
   suffices (Ack c) k = le-leb 1 (r .process b .num) k
 
-  -- whom a step acknowledges is a process
-  replied-in : (p : ℕ) (c : ℤ) → turnAt r a b m .reply ≡ To p c → IsProcess (r .waits .n) p
-  replied-in p c e =
-      ⊎-elim
-      (λ (q : p ≡ a). rw q pa)
-      (λ (q : (eqb b (r .start) ≡ false) × (1 ≤ r .process b .num) × (p ≡ r .process b .father)).
-      rw (q .2) (h .diffusing .father-in b pb (λ s. eqb-false b (r .start) (q .0) s) (q .1)))
-      (effect r h a b pa pb m rest l .replies p c e)
-
   reply-fits : (y : Reply) → turnAt r a b m .reply ≡ y → replyFits y ≡ true
   unfolding replyFits Machines.after sentTo
   reply-fits Reply.Nothing e = refl
   reply-fits (To p c) e =
-      let ip : IsProcess (r .waits .n) p = replied-in p c e in
+      let ip : IsProcess (r .waits .n) p = acknowledged-in (h .diffusing) pa pb (effect r h a b pa pb m rest l) p c e in
       let k : countsSmall (after r a b m rest .link b p) ≡ true = counts-small (next .sound) (next .tidy) (next .summed) b p pb ip in
       and-both _ _ (le-leb 1 p (ip .0))
       (reply-small (Machines.taken r a b rest b p) (probesTo (r .waits) b (turnAt r a b m .probes) p) p c (rw (eq-eqb b b refl, e) at k))

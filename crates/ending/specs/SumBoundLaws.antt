@@ -12,7 +12,8 @@ use borrow.Author.Tests.{le-leb}
 use lib.Dec.{eqb}
 use lib.IntN.{ℤ, pos, negsuc}
 use Rattle.base.specs.Choice.{choose}
-use Rattle.base.specs.ChoiceLaws.{Same, same, apart, same?, and-both}
+use Rattle.base.specs.ChoiceLaws.{same?, and-both}
+use Rattle.base.specs.Checks.{Same, same, apart}
 use Rattle.base.specs.Sums.{sumTo, spot}
 use Rattle.base.specs.SumLaws.{spot-at, spot-off, sumTo-cong, sumTo-add, sumTo-zero, sumTo-part, sumTo-spot, sumTo-most}
 use Rattle.base.specs.Parts.{above, below}
@@ -25,7 +26,7 @@ use Rattle.machine.specs.Weights.{weight, total, sumOf}
 use Rattle.steps.specs.declared.Message.{Message}
 use Rattle.steps.specs.declared.Message.the-variants.{Suc, Pre, Ack}
 use Rattle.steps.specs.declared.Process.{Process}
-use Rattle.steps.specs.Step.{small, countSmall, newSubordinate}
+use Rattle.steps.specs.Step.{mostCount, small, countSmall, newSubordinate}
 use Rattle.steps.specs.Effect.{both}
 use Rattle.checks.specs.Run.{Run, countsSmall}
 use Rattle.ending.specs.Weights.{aboveOf, belowOf, bothOff}
@@ -33,19 +34,19 @@ use Rattle.ending.specs.Invariants.{Tidy, Summed}
 
 -- ---- one integer, one link
 
--- an integer whose two parts are at most 128 is in range
-small-of : (z : ℤ) → above z ≤ 128 → below z ≤ 128 → small z ≡ true
+-- an integer whose two parts are in range is in range
+small-of : (z : ℤ) → above z ≤ mostCount → below z ≤ mostCount → small z ≡ true
 unfolding small
-small-of (pos n) u l = le-leb n 128 u
-small-of (negsuc n) u l = le-leb (suc n) 128 l
+small-of (pos n) u l = le-leb n mostCount u
+small-of (negsuc n) u l = le-leb (suc n) mostCount l
 
-countSmall-of : (m : Message) → aboveOf m ≤ 128 → belowOf m ≤ 128 → countSmall m ≡ true
+countSmall-of : (m : Message) → aboveOf m ≤ mostCount → belowOf m ≤ mostCount → countSmall m ≡ true
 unfolding countSmall
 countSmall-of Suc u l = refl
 countSmall-of Pre u l = refl
 countSmall-of (Ack c) u l = small-of c u l
 
-countsSmall-of : (ms : List Message) → weight aboveOf ms ≤ 128 → weight belowOf ms ≤ 128 → countsSmall ms ≡ true
+countsSmall-of : (ms : List Message) → weight aboveOf ms ≤ mostCount → weight belowOf ms ≤ mostCount → countsSmall ms ≡ true
 unfolding allRight weight
 countsSmall-of [] u l = refl
 countsSmall-of (m ∷ ms) u l =
@@ -83,8 +84,8 @@ sumTo-alone n i f l u h = sumTo-cong n f (spot i (f i)) (λ k p q. at k p q (sam
     at k p q (apart e _) = rw (spot-off i (f i) k e) (h k p q e)
 
 module _ {w : Waits} {s : ℕ} {r : Run} (sound : Sound w) (tidy : Tidy w s r) (summed : Summed w s r) where
-  -- subordinates and processes with both flags are at most 128 together
-  few-flagged : sumOf (w .n) (λ x. x .subordinate) r + sumTo (w .n) (λ i. bothOff s i (r .process i)) ≤ 128
+  -- subordinates and processes with both flags are together at most as many as the largest N, and so as the largest count
+  few-flagged : sumOf (w .n) (λ x. x .subordinate) r + sumTo (w .n) (λ i. bothOff s i (r .process i)) ≤ mostCount
   unfolding sumOf
   few-flagged =
       let parts : sumTo (w .n) (λ i. r .process i .subordinate + bothOff s i (r .process i)) ≡ sumTo (w .n) (λ i. r .process i .subordinate) + sumTo
@@ -94,10 +95,10 @@ module _ {w : Waits} {s : ℕ} {r : Run} (sound : Sound w) (tidy : Tidy w s r) (
       (λ i p q. one-of-two (r .process i) (tidy .succ-bit i (p, q)) (tidy .prec-bit i (p, q)) (tidy .sub-is i (p, q)) s i) in
       omega (arith, sound .few)
 
-  few-above : sumOf (w .n) (λ x. above (x .cs)) r + total (w .n) aboveOf r ≤ 128
+  few-above : sumOf (w .n) (λ x. above (x .cs)) r + total (w .n) aboveOf r ≤ mostCount
   few-above = omega (arith, few-flagged, summed .balance, summed .falls)
 
-  few-below : sumOf (w .n) (λ x. below (x .cs)) r + total (w .n) belowOf r ≤ 128
+  few-below : sumOf (w .n) (λ x. below (x .cs)) r + total (w .n) belowOf r ≤ mostCount
   few-below = omega (arith, few-flagged, summed .falls)
 
   pub cs-small : (i : ℕ) → IsProcess (w .n) i → small (r .process i .cs) ≡ true

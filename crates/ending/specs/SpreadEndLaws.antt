@@ -1,5 +1,4 @@
 -- The flags where nothing waits, and the number of probes: what `Spread` says of the end.
---   NoneWaits w r       == no message waits on a link between processes
 --   succ-most, prec-most   == at any time the flags are set on reachable and on reaching processes alone
 --   succ-end, prec-end, sub-end   == then the flags say who is reachable, who reaches the start, and who is an outsider
 --   outsiders-sum       == and as many are subordinate as there are outsiders
@@ -11,7 +10,6 @@
 -- Assumes nothing.
 use Prim.Native.Nat.{ℕ, _+_, _*_, _≤_}
 use mathlib.Core.Bool.{Bool, true, false, not, _&&_, _||_, false≢true, and-true, and-false}
-use mathlib.Core.List.{[]}
 use mathlib.Core.Path.{_≡_, refl, ap, _∙_}
 use mathlib.Core.Logic.{_↔_, ⊎-elim}
 use native.Mathlib.Nat.{eq-zero-or-pos, add-le-add, mul-le-mul-left, mul-le-mul-right}
@@ -27,15 +25,12 @@ use Rattle.machine.specs.Weights.{weight, sumOf}
 use Rattle.steps.specs.declared.Message.{Message}
 use Rattle.steps.specs.declared.Process.{Process}
 use Rattle.steps.specs.Step.{newSubordinate}
-use Rattle.checks.specs.Run.{Run}
+use Rattle.checks.specs.Run.{Run, mostDeliveries}
 use Rattle.checks.specs.Reach.{reaches, inKnot, outsider, outsiders, dOf}
 use Rattle.checks.specs.ReachLaws.{from-in, to-in, reaches-forward, reaches-backward, reaches-P}
 use Rattle.ending.specs.Weights.{sends}
+use Rattle.ending.specs.Spreading.{Side, NoneWaits}
 use Rattle.ending.specs.Invariants.{Tidy, Spread}
-use Rattle.ending.specs.Spreading.{Side, suc-side, pre-side}
-
-abbrev NoneWaits : Waits → Run → Type 0
-NoneWaits w r = (a b : ℕ) → IsProcess (w .n) a → IsProcess (w .n) b → r .link a b ≡ []
 
 -- ---- flags
 
@@ -56,21 +51,21 @@ module _ {w : Waits} {flag : Process → ℕ} {μ : Message → ℕ} {e : ℕ �
 
 module _ {w : Waits} {s : ℕ} {r : Run} (ok : Sound w) (td : Tidy w s r) (sp : Spread w s r) where
   succ-most : (i : ℕ) → IsProcess (w .n) i → r .process i .succeeding ≤ bit (reaches w s i)
-  succ-most i iIn = side-most (suc-side sp) i (reaches w s i) iIn (td .succ-bit i iIn) (reaches-P w ok s i (td .start-in) .1)
+  succ-most i iIn = side-most (sp .sucs) i (reaches w s i) iIn (td .succ-bit i iIn) (reaches-P w ok s i (td .start-in) .1)
 
   prec-most : (i : ℕ) → IsProcess (w .n) i → r .process i .preceding ≤ bit (reaches w i s)
-  prec-most i iIn = side-most (pre-side sp) i (reaches w i s) iIn (td .prec-bit i iIn) (reaches-P w ok i s iIn .1)
+  prec-most i iIn = side-most (sp .pres) i (reaches w i s) iIn (td .prec-bit i iIn) (reaches-P w ok i s iIn .1)
 
   pub succ-end : NoneWaits w r → (i : ℕ) → IsProcess (w .n) i → r .process i .succeeding ≡ bit (reaches w s i)
   succ-end none i iIn =
       bit-exact (r .process i .succeeding) (reaches w s i) (succ-most i iIn)
-      (λ y. reaches-forward (λ x. 1 ≤ r .process x .succeeding) (λ a b e. side-next (suc-side sp) none a b (from-in ok a b e) (to-in ok a b e) e)
+      (λ y. reaches-forward (λ x. 1 ≤ r .process x .succeeding) (λ a b e. side-next (sp .sucs) none a b (from-in ok a b e) (to-in ok a b e) e)
       (reaches-P w ok s i (td .start-in) .0 y) (omega arith))
 
   pub prec-end : NoneWaits w r → (i : ℕ) → IsProcess (w .n) i → r .process i .preceding ≡ bit (reaches w i s)
   prec-end none i iIn =
       bit-exact (r .process i .preceding) (reaches w i s) (prec-most i iIn)
-      (λ y. reaches-backward (λ x. 1 ≤ r .process x .preceding) (λ a b e. side-next (pre-side sp) none b a (to-in ok a b e) (from-in ok a b e) e)
+      (λ y. reaches-backward (λ x. 1 ≤ r .process x .preceding) (λ a b e. side-next (sp .pres) none b a (to-in ok a b e) (from-in ok a b e) e)
       (reaches-P w ok i s iIn .0 y) (omega arith))
 
   pub sub-end : NoneWaits w r → (i : ℕ) → IsProcess (w .n) i → r .process i .subordinate ≡ bit (outsider w s i)
@@ -118,7 +113,7 @@ module _ (w : Waits) (s : ℕ) where
   in-sum = count-swap (w .n) (λ i j. w .waits j i)
 
   -- each of the two sums counts at most all arcs
-  pub dOf-most : Sound w → dOf w s ≤ 2048
+  pub dOf-most : Sound w → dOf w s ≤ mostDeliveries
   unfolding arcCount
   dOf-most ok =
       let n : ℕ = w .n in

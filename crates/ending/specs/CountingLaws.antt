@@ -2,20 +2,25 @@
 --   quota-near          == probes go to neighbours alone
 --   knot-begins         == the start sends what its num counts
 --   effect-counted      == the effect of a step is what the machine asks
+--   acknowledged-in     == whom a step acknowledges is a process
 --   worked-start, worked-kept   == every probe sent means two deliveries
+--   flag-most           == a flag times a test is at most the flag
 --   quota-small, link-short, num-small   == a pair has at most 2 probes out, a link at most 4 messages, and num is at most 256
 -- Assumes nothing.
 use Prim.Native.Nat.{ℕ, _+_, _*_, _≤_}
 use mathlib.Core.Bool.{Bool, true, false, _||_}
 use mathlib.Core.List.{_++_}
 use mathlib.Core.Path.{_≡_, refl, sym, ap, _∙_}
-use mathlib.Core.Logic.{_⊎_, inl, inr}
+use mathlib.Core.Logic.{_⊎_, inl, inr, ⊎-elim}
 use native.Mathlib.Nat.{add-mul, eq-zero-or-pos}
 use native.Mathlib.Omega.{arith}
+use borrow.Author.Tests.{eqb-false}
 use lib.Dec.{eqb}
 use lib.ListN.{length}
+use lib.IntN.{ℤ}
 use Rattle.base.specs.Choice.{choose, bit}
-use Rattle.base.specs.ChoiceLaws.{Same, same, apart, same?}
+use Rattle.base.specs.ChoiceLaws.{same?}
+use Rattle.base.specs.Checks.{Same, same, apart}
 use Rattle.base.specs.Sums.{sumTo, countTo, spot}
 use Rattle.base.specs.SumLaws.{sumTo-cong, sumTo-add, sumTo-spot, sumTo-most}
 use Rattle.tables.specs.Waits.{Waits, outDegree, inDegree, neighbours}
@@ -31,9 +36,10 @@ use Rattle.machine.specs.RestLaws.{link-most}
 use Rattle.steps.specs.declared.Message.{Message}
 use Rattle.steps.specs.declared.Message.the-variants.{Suc, Pre}
 use Rattle.steps.specs.declared.Process.{Process}
-use Rattle.steps.specs.Step.{Turn, idle}
+use Rattle.steps.specs.declared.Reply.the-variants.{To}
+use Rattle.steps.specs.Step.{mostNum, Turn, idle}
 use Rattle.steps.specs.Effect.{isProbe, sucsOf, presOf, Effect}
-use Rattle.checks.specs.Run.{Run, knot, one, started, sentTo, leaving}
+use Rattle.checks.specs.Run.{Run, mostWaiting, knot, one, started, sentTo, leaving}
 use Rattle.checks.specs.SentLaws.{first-weight, sent-probe, sent-ack, sum-probes}
 use Rattle.ending.specs.Weights.{edge, quota, sends, Diffuses}
 use Rattle.ending.specs.Invariants.{Tidy, Worked}
@@ -111,6 +117,12 @@ module _ (w : Waits) (s : ℕ) {a b : ℕ} {m : Message} {x : Process} {t : Turn
           rw (ef .preceding) (add-mul (x .preceding) (presOf t) (edge w q b)) in
           omega (arith, sent-probe w b t q)
 
+-- the acknowledged process is the sender, or the father of a busy process
+pub acknowledged-in : {w : Waits} {s : ℕ} {r : Run} {a b : ℕ} {m : Message} {t : Turn} {o i : ℕ} → Diffuses w s r → IsProcess (w .n) a → IsProcess (w .n) b
+    → Effect (eqb b s) m o i a (r .process b) t → (p : ℕ) (c : ℤ) → t .reply ≡ To p c → IsProcess (w .n) p
+acknowledged-in {w} {s} {r} {a} {b} df pa pb ef p c e =
+    ⊎-elim (λ f. rw f pa) (λ f. rw (f .2) (df .father-in b pb (eqb-false b s (f .0)) (f .1))) (ef .replies p c e)
+
 module _ {w : Waits} (s : ℕ) {r q : Run} {a b : ℕ} {m : Message} {t : Turn} (pa : IsProcess (w .n) a) (pb : IsProcess (w .n) b)
     (mv : Moved w r a b m (leaving w b t) q) (ef : Effect (eqb b s) m (outDegree w b) (inDegree w b) a (r .process b) t) where
   pub worked-kept : Worked w r → Worked w q
@@ -128,10 +140,10 @@ module _ {w : Waits} (s : ℕ) {r q : Run} {a b : ℕ} {m : Message} {t : Turn} 
 
 -- ---- ranges
 
--- a flag times an edge
-flag-edge : (v : ℕ) (c : Bool) → v ≤ 1 → v * bit c ≤ 1
-flag-edge v true h = omega arith
-flag-edge v false h = omega arith
+-- a flag times a test is at most the flag
+pub flag-most : (f : ℕ) (b : Bool) → f * bit b ≤ f
+flag-most f true = omega arith
+flag-most f false = omega arith
 
 module _ {w : Waits} {s : ℕ} {r : Run} (td : Tidy w s r) where
   quota-small : (i j : ℕ) → IsProcess (w .n) i → quota w i j (r .process i) ≤ 2
@@ -139,16 +151,17 @@ module _ {w : Waits} {s : ℕ} {r : Run} (td : Tidy w s r) where
   quota-small i j pi =
       omega (
         arith,
-        flag-edge (r .process i .succeeding) (w .waits i j) (td .succ-bit i pi),
-        flag-edge (r .process i .preceding) (w .waits j i)
-            (td .prec-bit i pi),
+        flag-most (r .process i .succeeding) (w .waits i j),
+        td .succ-bit i pi,
+        flag-most (r .process i .preceding) (w .waits j i),
+        td .prec-bit i pi,
       )
 
 module _ {w : Waits} {s : ℕ} {r : Run} (td : Tidy w s r) (df : Diffuses w s r) where
-  pub link-short : {a b : ℕ} → IsProcess (w .n) a → IsProcess (w .n) b → length (r .link a b) ≤ 4
+  pub link-short : {a b : ℕ} → IsProcess (w .n) a → IsProcess (w .n) b → length (r .link a b) ≤ mostWaiting
   link-short {a} {b} pa pb = omega (arith, link-most df pa pb, quota-small td a b pa, quota-small td b a pb)
 
-  pub num-small : Sound w → {i : ℕ} → IsProcess (w .n) i → r .process i .num ≤ 256
+  pub num-small : Sound w → {i : ℕ} → IsProcess (w .n) i → r .process i .num ≤ mostNum
   num-small so {i} pi =
       omega (arith, df .num i pi, sumTo-most (w .n) 2 (λ j. pending knot s r i j) (λ j l u. out j (l, u)), so .few)
     where

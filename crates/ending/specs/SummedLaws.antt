@@ -6,13 +6,13 @@ use Prim.Native.Nat.{ℕ, _+_, _≤_}
 use mathlib.Core.Bool.{Bool, true, false}
 use mathlib.Core.List.{[], _++_}
 use mathlib.Core.Path.{_≡_, refl, _∙_}
-use mathlib.Core.Logic.{⊎-elim}
 use native.Mathlib.Omega.{arith}
-use borrow.Author.Tests.{eqb-false, ne-eqb}
+use borrow.Author.Tests.{ne-eqb}
 use lib.Dec.{eqb}
 use lib.IntN.{ℤ, pos}
 use Rattle.base.specs.Choice.{choose}
-use Rattle.base.specs.ChoiceLaws.{Same, same, apart, same?}
+use Rattle.base.specs.ChoiceLaws.{same?}
+use Rattle.base.specs.Checks.{Same, same, apart}
 use Rattle.base.specs.SumLaws.{sumTo-zero}
 use Rattle.base.specs.Parts.{above, below}
 use Rattle.tables.specs.Waits.{Waits}
@@ -24,13 +24,13 @@ use Rattle.machine.specs.MovedLaws.{sumOf-moved, sum-moved, total-moved, start-
 use Rattle.steps.specs.declared.Message.{Message}
 use Rattle.steps.specs.declared.Message.the-variants.{Suc, Pre}
 use Rattle.steps.specs.declared.Process.{Process}
-use Rattle.steps.specs.declared.Reply.the-variants.{To}
 use Rattle.steps.specs.Step.{Turn, idle}
 use Rattle.steps.specs.Effect.{countOf, both, replyCount, Effect}
 use Rattle.checks.specs.Run.{Run, knot, one, started, startRun, leaving}
 use Rattle.checks.specs.SentLaws.{first-weight, sum-count}
 use Rattle.ending.specs.Weights.{aboveOf, belowOf, bothOff, Diffuses}
 use Rattle.ending.specs.Invariants.{Tidy, Summed}
+use Rattle.ending.specs.CountingLaws.{acknowledged-in}
 
 -- ---- the start
 
@@ -71,14 +71,15 @@ summed-start w s p =
 module _ {w : Waits} {s : ℕ} {r q : Run} {a b : ℕ} {m : Message} {t : Turn} {o i : ℕ} (tidy : Tidy w s r) (diffusing : Diffuses w s r)
     (summed : Summed w s r) (pa : IsProcess (w .n) a) (pb : IsProcess (w .n) b) (moved : Moved w r a b m (leaving w b t) q)
     (effect : Effect (eqb b s) m o i a (r .process b) t) where
-  -- the acknowledged process is the sender, or the father of a busy process
-  acknowledged-in : (p : ℕ) (c : ℤ) → t .reply ≡ To p c → IsProcess (w .n) p
-  acknowledged-in p c e = ⊎-elim (λ f. rw f pa) (λ f. rw (f .2) (diffusing .father-in b pb (eqb-false b s (f .0)) (f .1))) (effect .replies p c e)
-
   -- counts on links
   counts-moved : (g : ℤ → ℕ) → g (pos 0) ≡ 0
       → total (w .n) (λ n. g (countOf n)) q + g (countOf m) ≡ total (w .n) (λ n. g (countOf n)) r + g (replyCount (t .reply))
-  counts-moved g e = omega (arith, total-moved moved (pb .0) (pb .1) (pa .0) (pa .1) (λ n. g (countOf n)), sum-count w b t acknowledged-in g e)
+  counts-moved g e =
+      omega (
+        arith,
+        total-moved moved (pb .0) (pb .1) (pa .0) (pa .1) (λ n. g (countOf n)),
+        sum-count w b t (acknowledged-in diffusing pa pb effect) g e,
+      )
 
   -- the start keeps both flags
   start-both : b ≡ s → both (t .process) ≡ both (r .process b)

@@ -1,0 +1,64 @@
+-- The rows as tests, so that one computation proves them together. A reader need not believe these: RowLaws turns what they compute into
+-- RowOfTable (Rows).
+--   defined x       == the definitions of D, of knot and of outside give what the row says
+--   runs x          == the check from process 1 is over after D deliveries, and its report gives what the row says
+--   writable x      == the writer takes the row's list
+--   holds x         == all three
+--   agree, isKnot, isAt, overAfter, reports, all   == what these are made of
+-- Assumes nothing.
+use Prim.Native.Nat.{ℕ}
+use mathlib.Core.Bool.{Bool, true, false, not, _&&_}
+use mathlib.Core.List.{List, [], _∷_}
+use lib.Dec.{eqb}
+use lib.IntN.{ℤ, pos, negsuc}
+use Rattle.table_writer.specs.Writing.{writeNumber}
+use Rattle.machine.specs.declared.Ran.{Ran}
+use Rattle.machine.specs.declared.Ran.the-variants.{Spent}
+use Rattle.checks.specs.declared.Verdict.{Verdict}
+use Rattle.checks.specs.declared.Verdict.the-variants.{Knot, Free}
+use Rattle.checks.specs.declared.Report.{Report}
+use Rattle.checks.specs.Calls.{report}
+use Rattle.checks.specs.Reach.{inKnot, outsiders, dOf}
+use Rattle.ending.specs.Rows.{PRow, waitsFrom, tableSize, ranFrom}
+
+unfoldable pub agree : Bool → Bool → Bool
+agree true b = b
+agree false b = not b
+
+unfoldable pub isKnot : Verdict → Bool
+isKnot Knot = true
+isKnot Free = false
+
+-- an integer is this number
+unfoldable pub isAt : ℤ → ℕ → Bool
+isAt (pos n) k = eqb n k
+isAt (negsuc n) k = false
+
+-- D, the verdict and outside, by their definitions
+unfoldable pub defined : PRow → Bool
+defined x =
+    eqb (dOf (waitsFrom x) 1) (x .d) && agree (inKnot (waitsFrom x) 1) (x .knot) && eqb (outsiders (waitsFrom x) 1) (x .outside)
+
+unfoldable pub overAfter : ℕ → Ran → Bool
+overAfter d (Ran.Over made) = eqb made d
+overAfter d (Spent made) = false
+overAfter d (Ran.Refused n made) = false
+
+-- a report with the row's values, whichever process it names as escape
+unfoldable pub reports : PRow → Report → Bool
+reports x (Report.Over d v o e m) = eqb d (x .d) && agree (isKnot v) (x .knot) && isAt o (x .outside)
+reports x (Report.Refused n) = false
+
+unfoldable pub runs : PRow → Bool
+runs x = overAfter (x .d) (ranFrom (waitsFrom x) .answer) && reports x (report (ranFrom (waitsFrom x) .run) 0)
+
+-- the writer takes the row's list
+unfoldable pub writable : PRow → Bool
+writable x = eqb (writeNumber (x .n) (x .waits) (tableSize x)) 0
+
+unfoldable pub holds : PRow → Bool
+holds x = defined x && runs x && writable x
+
+unfoldable pub all : (PRow → Bool) → List PRow → Bool
+all p [] = true
+all p (x ∷ xs) = p x && all p xs

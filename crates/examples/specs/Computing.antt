@@ -1,0 +1,48 @@
+-- The definitions that examples compute.
+--   computing   == it has no value of its own: `unfolding computing` opens every definition that its own line names
+-- Assumes nothing.
+use Prim.{Unit, tt}
+use Rattle.base.specs.Sums.{sumTo, countTo, allTo, anyTo}
+use Rattle.tables.specs.Table.{fieldOf, isProcess, first, arcAt, near, next}
+use Rattle.tables.specs.Waits.{waitsOf, outDegree, inDegree, neighbours}
+use Rattle.tables.specs.Reading.{walked, walkedTo, chainsRight, sizesRight, endsRight, firstsRight, nextsRight, unlikeBefore, fieldsNumber, readNumber}
+use Rattle.tables.specs.Reading as Reads
+use Rattle.tables.specs.Walking.{orElse, openNumber, openAnswer, openedOf, arcInside, nextAnswer, nextOf}
+use Rattle.table_writer.specs.Writing.{end, front, processField, arcField, writtenField, bytesOf, tableOver, endsFit, given, unlike, writeNumber}
+use Rattle.table_writer.specs.Writing.{outputFor, written, writingFor, writingOf}
+use Rattle.machine.specs.Machine as Machines
+use Rattle.machine.specs.Calls as MachineCalls
+use Rattle.steps.specs.Step.{small, inRange, countSmall, rule1, setSucceeding, setPreceding, newSubordinate, gained, rule3, rule4, acknowledged}
+use Rattle.steps.specs.Step.{turn, startTurn, numSuffices, replyFits, fitting, lentInRange, stepNumber, stepped, startStepped}
+use Rattle.steps.specs.Step as Steps
+use Rattle.checks.specs.Run.{fatherRight, started, turnOf, replyTo, probesTo, sentTo}
+use Rattle.checks.specs.Calls.{reported, report, readRecord}
+use Rattle.areas.specs.Area.{recordPlace, linkPlace, arcIn, arcOf, linkOf, flagsOf, codeOf, slotWord, linkWord, hasBack, arcWord, wordOf, wordsTo, stored}
+use Rattle.areas.specs.Area.{fieldsIn, messagesAt, runIn, sameWord, holdsWords, areaRight}
+use Rattle.areas.specs.Area as Areas
+use Rattle.starting.specs.StartCall.{startNumber, startAnswer, startArea}
+use Rattle.runs.specs.AreaCalls.{pickAnswer, pickArea, runOnAnswer, runOnArea, reportAnswer, readAnswer}
+use Rattle.lending.specs.Lent.{lentAnswer, lentRecord}
+use Rattle.inputs.specs.Input.{startIn, tableFields, tableEnd, tableIn, inputNumber, begunNumber, begunArea}
+use Rattle.lines.specs.Text.{messageText, verdictLine, markLine}
+use Rattle.pickledune.specs.Interface.{chainOf, messageOf}
+use Rattle.examples.specs.States.{lowFirst, processFields, arcFields, table, one, both, fork, met1, met2, met3, met4, met5, met6, met7, input}
+use Rattle.examples.specs.States.{words, root, two, receiving, unlinked, area, answers}
+
+unfoldable pub computing : Unit {0}
+unfolding lowFirst processFields arcFields table one both fork met1 met2 met3 met4 met5 met6 met7 input words root two receiving unlinked area answers
+    sumTo countTo allTo anyTo fieldOf isProcess first arcAt near next waitsOf outDegree inDegree neighbours
+    walked walkedTo chainsRight sizesRight endsRight firstsRight nextsRight unlikeBefore fieldsNumber readNumber Reads.answer Reads.readingOf
+    orElse openNumber openAnswer openedOf arcInside nextAnswer nextOf
+    end front processField arcField writtenField bytesOf tableOver endsFit given unlike writeNumber outputFor written writingFor writingOf
+    Machines.allRight Machines.taken Machines.over Machines.linkRight Machines.wellFormed Machines.startRun Machines.after Machines.accepts
+    MachineCalls.delivered MachineCalls.deliver MachineCalls.pick MachineCalls.deliverOn MachineCalls.runFrom MachineCalls.runOn
+    MachineCalls.lowestReceiver MachineCalls.lowestSender MachineCalls.lowest
+    small inRange countSmall rule1 setSucceeding setPreceding newSubordinate gained rule3 rule4 acknowledged turn startTurn numSuffices replyFits
+    fitting lentInRange stepNumber Steps.answer stepped startStepped
+    fatherRight started turnOf replyTo probesTo sentTo reported report readRecord
+    recordPlace linkPlace arcIn arcOf linkOf flagsOf codeOf slotWord linkWord hasBack arcWord wordOf wordsTo stored fieldsIn Areas.messageOf
+    messagesAt runIn sameWord holdsWords areaRight
+    startNumber startAnswer startArea pickAnswer pickArea runOnAnswer runOnArea reportAnswer readAnswer lentAnswer lentRecord
+    startIn tableFields tableEnd tableIn inputNumber begunNumber begunArea messageText verdictLine markLine chainOf messageOf
+computing = tt

@@ -1,0 +1,141 @@
+-- The small tables, inputs, records, runs and areas that the examples compute on, written so that a reader sees each value.
+--   minus n             == the integer −n
+--   lowFirst fs         == fields as bytes: "Each field is 16 bits, unsigned, low byte first"
+--   table n m ps ks     == the bytes of a table: N, M, first-out and first-in of each process, from, to, next-out and next-in of each arc
+--   one, both, fork     == accepted tables: 1-2 with N 2; 1-2 and 2-1 with N 2; 1-2 and 1-3 with N 3
+--   met1 .. met7        == bytes that meet row 1 .. 7 of "Refused because of the input", and later rows too
+--   input s bs          == the check program's input: the start process, then these bytes
+--   words k             == k words, each 9
+--   root c n            == a start's record, with this cs and this num
+--   two s d x y forth back   == a run on the waits of one, with start s and d accepted deliveries: x and y are the records of 1 and of 2,
+--                          forth the messages from 1 to 2, back those from 2 to 1
+--   receiving y m       == such a run, not over, in which m waits on the link from 1 to 2 and y is the record of 2
+--   unlinked            == a run with a message between two processes that are no neighbours
+--   area r              == the 52 words that hold such a run
+--   answers r ps        == the answers of picks, each on the run that the last one left
+-- Assumes nothing.
+use Prim.Native.Nat.{ℕ, _/_, _%_}
+use mathlib.Core.Bool.{false, _&&_}
+use mathlib.Core.List.{List, [], _∷_, _++_}
+use lib.Dec.{eqb}
+use lib.ListN.{take, replicate}
+use lib.IntN.{ℤ, pos, negℤ}
+use Rattle.base.specs.Choice.{choose}
+use Rattle.tables.specs.Table.{fieldOf}
+use Rattle.tables.specs.Waits.{waitsOf}
+use Rattle.steps.specs.declared.Message.{Message}
+use Rattle.steps.specs.declared.Message.the-variants.{Ack}
+use Rattle.steps.specs.declared.Process.{Process}
+use Rattle.steps.specs.Step.{idle}
+use Rattle.checks.specs.declared.Delivery.{Delivery}
+use Rattle.checks.specs.Run.{Run}
+use Rattle.checks.specs.Calls.{Picked, pick}
+use Rattle.areas.specs.Area.{stored}
+use Rattle.pickledune.specs.Interface.{processOf}
+
+abbrev pub minus : ℕ → ℤ
+minus n = negℤ (pos n)
+
+-- ---- tables and inputs
+
+-- "Each field is 16 bits, unsigned, low byte first."
+unfoldable pub lowFirst : List ℕ → List ℕ
+lowFirst [] = []
+lowFirst (f ∷ fs) = f % 256 ∷ f / 256 ∷ lowFirst fs
+
+unfoldable pub processFields : List (ℕ × ℕ) → List ℕ
+processFields [] = []
+processFields (p ∷ ps) = p .0 ∷ p .1 ∷ processFields ps
+
+unfoldable pub arcFields : List (ℕ × ℕ × ℕ × ℕ) → List ℕ
+arcFields [] = []
+arcFields (k ∷ ks) = k .0 ∷ k .1 ∷ k .2 ∷ k .3 ∷ arcFields ks
+
+-- "First N .. and M .. Then N process records: first-out, first-in. Then M arc records: from, to, next-out, next-in."
+unfoldable pub table : ℕ → ℕ → List (ℕ × ℕ) → List (ℕ × ℕ × ℕ × ℕ) → List ℕ
+table n m ps ks = lowFirst (n ∷ m ∷ processFields ps ++ arcFields ks)
+
+unfoldable pub one : List ℕ
+one = table 2 1 ((1, 0) ∷ (0, 1) ∷ []) ((1, 2, 0, 0) ∷ [])
+
+unfoldable pub both : List ℕ
+both = table 2 2 ((1, 2) ∷ (2, 1) ∷ []) ((1, 2, 0, 0) ∷ (2, 1, 0, 0) ∷ [])
+
+-- "Each arc is put at the front of its two chains, in list order": the out-chain of 1 meets arc 2 and then arc 1
+unfoldable pub fork : List ℕ
+fork = table 3 2 ((2, 0) ∷ (0, 1) ∷ (0, 2) ∷ []) ((1, 2, 0, 0) ∷ (1, 3, 1, 0) ∷ [])
+
+-- met7 to met1: each is the one above it spoilt once more, and meets its own row and every later one; met1 alone misses 5 and 6
+
+-- two arcs 1-2
+unfoldable pub met7 : List ℕ
+met7 = table 2 2 ((2, 0) ∷ (0, 2) ∷ []) ((1, 2, 0, 0) ∷ (1, 2, 1, 1) ∷ [])
+
+-- the out-chain of 1 ends before arc 1
+unfoldable pub met6 : List ℕ
+met6 = table 2 2 ((2, 0) ∷ (0, 2) ∷ []) ((1, 2, 0, 0) ∷ (1, 2, 0, 1) ∷ [])
+
+-- first-in of 1 is 3
+unfoldable pub met5 : List ℕ
+met5 = table 2 2 ((2, 3) ∷ (0, 2) ∷ []) ((1, 2, 0, 0) ∷ (1, 2, 0, 1) ∷ [])
+
+-- to is 3 in both arcs
+unfoldable pub met4 : List ℕ
+met4 = table 2 2 ((2, 3) ∷ (0, 2) ∷ []) ((1, 3, 0, 0) ∷ (1, 3, 0, 1) ∷ [])
+
+-- the last byte is missing
+unfoldable pub met3 : List ℕ
+met3 = take 27 met4
+
+-- N is 129, and so every byte of the arcs is missing: from and to are 0 in both
+unfoldable pub met2 : List ℕ
+met2 = table 129 2 ((2, 3) ∷ (0, 2) ∷ []) ((1, 3, 0, 0) ∷ (1, 3, 0, 1) ∷ [])
+
+-- 3 bytes are left: every first and next is 0
+unfoldable pub met1 : List ℕ
+met1 = take 3 met2
+
+-- "start process (16 bits), table"
+unfoldable pub input : ℕ → List ℕ → List ℕ
+input s bs = s % 256 ∷ s / 256 ∷ bs
+
+-- ---- records, runs and areas
+
+unfoldable pub words : ℕ → List ℤ
+words k = replicate k (pos 9)
+
+-- "s gets succeeding and preceding"
+unfoldable pub root : ℤ → ℕ → Process
+root c n = processOf 1 1 0 c n 0
+
+unfoldable pub two : ℕ → ℕ → Process → Process → List Message → List Message → Run
+two s d x y forth back =
+    record {
+      waits = waitsOf (fieldOf one);
+      start = s;
+      count = d;
+      process = λ p. choose (eqb p 1) x (choose (eqb p 2) y idle);
+      link = λ a b. choose (eqb a 1 && eqb b 2) forth (choose (eqb a 2 && eqb b 1) back []);
+    }
+
+unfoldable pub receiving : Process → Message → Run
+receiving y m = two 1 0 (root (pos 0) 1) y (m ∷ []) []
+
+-- nobody waits for anybody, so there is no link, and yet a message from 2 to 1
+unfoldable pub unlinked : Run
+unlinked =
+    record {
+      waits = record { n = 2; waits = λ a b. false };
+      start = 1;
+      count = 0;
+      process = λ p. choose (eqb p 1) (root (pos 0) 1) idle;
+      link = λ a b. choose (eqb a 2 && eqb b 1) (Ack (pos 0) ∷ []) [];
+    }
+
+-- N is 2 and M is 1: "8N + 20M + 16" words
+unfoldable pub area : Run → List ℤ
+area r = stored (fieldOf one) r []
+
+unfoldable pub answers : Run → List (ℕ × ℕ) → List Delivery
+answers r [] = []
+answers r (p ∷ ps) = let q : Picked = pick r (p .0) (p .1) in q .answer ∷ answers (q .run) ps

@@ -1,0 +1,142 @@
+-- What follows from demand 3 for the calls on lent words.
+--   call-keeps        == a call that makes no delivery leaves every word: so does every refused call, whatever its number, but for a running
+--                        on that was refused after it had made some
+--   pick-keeps        == a refused pick leaves every word, whatever its number
+--   area-reports      == after every list that is over: what a report answers, of the words that the list left
+--   area-runs-out, area-over   == after every list: running on with as many deliveries as are left ends over, with their number
+--   area-runs-out-most, area-over-most   == .. as 2,048 do from wherever a list has come to
+-- Assumes nothing.
+use Prim.Native.Nat.{ℕ, _+_, _-_, _≤_}
+use mathlib.Core.Bool.{true}
+use mathlib.Core.List.{List}
+use mathlib.Core.Path.{_≡_, refl, sym, ap, _∙_}
+use native.Mathlib.Omega.{arith}
+use lib.IntN.{ℤ, pos}
+use Rattle.base.specs.Choice.{choose}
+use Rattle.base.specs.ChoiceLaws.{tested}
+use Rattle.base.specs.Checks.{Tested, passed, failed}
+use Rattle.tables.specs.Table.{fieldOf, IsProcess}
+use Rattle.tables.specs.Waits.{Waits, waitsOf}
+use Rattle.tables.specs.Sound.{Sound}
+use Rattle.tables.specs.WaitsLaws.{waitsOf-sound}
+use Rattle.machine.specs.declared.Ran.{Ran}
+use Rattle.machine.specs.Calls.{fixedOrder}
+use Rattle.machine.specs.Calls as MachineCalls
+use Rattle.machine.specs.Lists.{Call, picking, runningOn, reporting, reading, Passed}
+use Rattle.machine.specs.Made.{Made, none}
+use Rattle.machine.specs.MadeLaws.{pick-made, runOn-made}
+use Rattle.machine.specs.ChooserLaws.{fixedOrder-finds}
+use Rattle.checks.specs.declared.Delivery.{Delivery}
+use Rattle.checks.specs.declared.Verdict.the-variants.{Knot, Free}
+use Rattle.checks.specs.declared.Mark.the-variants.{Returned, Held}
+use Rattle.checks.specs.declared.Report.{Report}
+use Rattle.checks.specs.Run.{Run, knot, over, startRun}
+use Rattle.checks.specs.Calls.{pick, runOn, reported, reportNumber, reportEscape, deliveryMade}
+use Rattle.checks.specs.AnswerLaws.{deliveryOf-accepted}
+use Rattle.checks.specs.Reach.{inKnot, outsiders, dOf}
+use Rattle.checks.specs.Lists
+use Rattle.ending.specs.SpreadEndLaws.{dOf-most}
+use Rattle.ending.specs.EndingLaws.{ending-runs-out, ending-over}
+use Rattle.areas.specs.Area.{keeping, runIn, areaRight}
+use Rattle.lenses.specs.ReadyLaws.{right-storable}
+use Rattle.starting.specs.StartCall.{startNumber, startArea}
+use Rattle.runs.specs.AreaCalls.{pickAnswer, pickArea, runOnAnswer, runOnArea, Reported, areaPassedBy, areaPassed, asRun}
+use Rattle.runs.specs.AreaEnding.{begun, table, last, fits-last, list-left, area-run, area-ending}
+use Rattle.runs.specs.ListLaws.{run, call-stored, fit-call}
+use Rattle.runs.specs.CallLaws.{same, report-on, report-over}
+
+-- ---- refused calls
+
+-- no delivery, the same run
+none-made : {r q : Run} {k : ℕ} → Made knot r k q → k ≡ 0 → q ≡ r
+none-made none e = refl
+none-made (Made.more d a b pa pb m rest l ok) e = absurd (omega arith)
+
+module _ (w : List ℤ) (e : areaRight w ≡ true) where
+  kept : (q : Run) → q ≡ runIn w → keeping w q ≡ w
+  kept q f = rw f (sym (same w e))
+
+-- a call that makes no delivery leaves every word
+pub call-keeps : (c : Call) (w : List ℤ) → areaPassedBy c w .made ≡ 0 → areaPassedBy c w .left ≡ w
+unfolding pickArea pickAnswer runOnArea runOnAnswer
+call-keeps c w = at c (tested (areaRight w))
+  where
+    at : (c : Call) → Tested (areaRight w) → areaPassedBy c w .made ≡ 0 → areaPassedBy c w .left ≡ w
+    at (picking a b) (failed e) z = rw e
+    at (picking a b) (passed e) z =
+        let m = pick-made knot (runIn w) (right-storable w e .sound) a b in
+        let x = MachineCalls.pick knot (runIn w) a b .answer in
+        rw e (kept w e (pick (runIn w) a b .run) (none-made m (sym (deliveryOf-accepted x) ∙ (rw e at z))))
+    at (runningOn k) (failed e) z = rw e
+    at (runningOn k) (passed e) z =
+        rw e (kept w e (runOn k (runIn w) .run) (none-made (runOn-made knot fixedOrder fixedOrder-finds k 0 (runIn w)) (rw e at z)))
+    at reporting _ z = refl
+    at (reading p) _ z = refl
+
+pub pick-keeps : (w : List ℤ) (a b n : ℕ) → pickAnswer w a b ≡ Delivery.Refused n → pickArea w a b ≡ w
+pick-keeps w a b n e = call-keeps (picking a b) w (ap deliveryMade e)
+
+-- ---- after every list
+
+module _ (bs : List ℕ) (s : ℕ) (w : List ℤ) (e : startNumber bs s w ≡ 0) (cs : List Call) where
+  abbrev waits : Waits
+  waits = waitsOf (fieldOf bs)
+
+  abbrev list : Passed (List ℤ)
+  list = areaPassed cs (startArea bs s w)
+
+  -- a report of the words that the list left, if all D deliveries are made
+  pub area-reports :
+      list .made ≡ dOf waits s → (r : Report) → Reported (list .left) r →
+      r ≡ Report.Over (dOf waits s) (choose (inKnot waits s) Knot Free) (pos (outsiders waits s)) (reportEscape r) (choose (inKnot waits s) Returned Held)
+  unfolding reported
+  area-reports z r h =
+      let p = area-ending bs s w e cs in
+      let o : over (runIn (list .left)) ≡ true = p .promise .over-at-d .1 z in
+      let taken : reportNumber r ≡ 0 = ap reportNumber (h .answer ∙ sym (report-over (list .left) (p .right) (reportEscape r) o)) in
+      h .answer ∙ report-on (list .left) (p .right) (reportEscape r) ∙ p .promise .ended o .reports (reportEscape r) (h .names taken)
+
+  sound : Sound waits
+  sound = waitsOf-sound (fieldOf bs) (table bs s w e .right)
+
+  process : IsProcess (waits .n) s
+  unfolding waitsOf
+  process = begun bs s w e .start-in
+
+  is : asRun list ≡ Lists.passed cs (startRun waits s)
+  is = area-run bs s w e cs
+
+  made : list .made ≡ Lists.passed cs (startRun waits s) .made
+  made = ap (λ (p : Passed Run). p .made) is
+
+  module _ (k : ℕ) (enough : dOf waits s ≤ list .made + k) where
+    -- running on, if no more deliveries are left than it may make: it says over, with their number
+    pub area-runs-out : runOnAnswer k (list .left) ≡ Ran.Over (dOf waits s - list .made)
+    unfolding runOnAnswer
+    area-runs-out =
+        rw (area-ending bs s w e cs .right)
+        (ap (λ (p : Passed Run). runOn k (p .left) .answer) is ∙ ending-runs-out waits sound s process cs k (omega (arith, made)) ∙
+        ap (λ (m : ℕ). Ran.Over (dOf waits s - m)) (sym made))
+
+    -- .. and the run that it leaves is over
+    pub area-over : over (runIn (runOnArea k (list .left))) ≡ true
+    area-over =
+        let t = fieldOf bs in
+        let tb = table bs s w e in
+        let long = begun bs s w e .long in
+        let on = runningOn k in
+        let r = last bs s w e cs .left in
+        let f = fits-last bs s w e cs in
+        let call = ap (λ (p : Passed (List ℤ)). p .left) (call-stored t tb w long on r f) in
+        rw (list-left bs s w e cs, call, run t tb w long (runOn k r .run) (fit-call t tb w long on r f))
+        (ending-over waits sound s process cs k (omega (arith, made)))
+
+  -- "accepted deliveries, 0 to 2048": so many suffice from wherever a list has come to
+  most-enough : dOf waits s ≤ list .made + knot .most
+  most-enough = omega (arith, dOf-most waits s sound)
+
+  pub area-runs-out-most : runOnAnswer (knot .most) (list .left) ≡ Ran.Over (dOf waits s - list .made)
+  area-runs-out-most = area-runs-out (knot .most) most-enough
+
+  pub area-over-most : over (runIn (runOnArea (knot .most) (list .left))) ≡ true
+  area-over-most = area-over (knot .most) most-enough
