@@ -43,7 +43,7 @@ module _ (bs : List ℕ) (s : ℕ) (w : List ℤ) (e : startNumber bs s w ≡ 0)
   pub table : RightTable (fieldOf bs)
   table = accepted-table bs (begun .accepted)
 
-  abbrev pub first : Run
+  abbrev first : Run
   first = startRun (waitsOf (fieldOf bs)) s
 
   fits : Storable (fieldOf bs) first
@@ -51,7 +51,7 @@ module _ (bs : List ℕ) (s : ℕ) (w : List ℤ) (e : startNumber bs s w ≡ 0)
   fits = start-fit (fieldOf bs) (table .right) s (begun .start-in)
 
   module _ (cs : List Call) where
-    abbrev pub last : Passed Run
+    abbrev last : Passed Run
     last = Lists.passed cs first
 
     pub fits-last : Storable (fieldOf bs) (last .left)

@@ -41,7 +41,7 @@ use Rattle.areas.specs.Area.{keeping, runIn, areaRight}
 use Rattle.lenses.specs.ReadyLaws.{right-storable}
 use Rattle.starting.specs.StartCall.{startNumber, startArea}
 use Rattle.runs.specs.AreaCalls.{pickAnswer, pickArea, runOnAnswer, runOnArea, Reported, areaPassedBy, areaPassed, asRun}
-use Rattle.runs.specs.AreaEnding.{begun, table, last, fits-last, list-left, area-run, area-ending}
+use Rattle.runs.specs.AreaEnding.{begun, table, fits-last, list-left, area-run, area-ending}
 use Rattle.runs.specs.ListLaws.{run, call-stored, fit-call}
 use Rattle.runs.specs.CallLaws.{same, report-on, report-over}
 
@@ -125,7 +125,7 @@ module _ (bs : List ℕ) (s : ℕ) (w : List ℤ) (e : startNumber bs s w ≡ 0)
         let tb = table bs s w e in
         let long = begun bs s w e .long in
         let on = runningOn k in
-        let r = last bs s w e cs .left in
+        let r = Lists.passed cs (startRun waits s) .left in
         let f = fits-last bs s w e cs in
         let call = ap (λ (p : Passed (List ℤ)). p .left) (call-stored t tb w long on r f) in
         rw (list-left bs s w e cs, call, run t tb w long (runOn k r .run) (fit-call t tb w long on r f))
