@@ -1,6 +1,6 @@
 // One run of a case, from its start to its end, with every call compared with what the plain search expects (the crate `expecting`), for
-// the program `trials`. It calls the library as a host does: `starting`, and `picking`, `running` and `reading` of `runs`. It promises only
-// that it is safe and ends; a difference is an answer. The module `written` compares how a table is read back.
+// the program `trials`. It calls the library as a host does: `starting`, `runs` and `reports`. It promises only that it is safe and ends; a
+// difference is an answer. The module `written` compares how a table is read back.
 pub mod written;
 
 use expecting::Expected;
@@ -22,13 +22,13 @@ fn make(area: &mut [i32], found: &[bool; 16899], n: usize, call: Call, c: Course
     match kind {
         ordering::PICK => answers::picked(found, call, runs::picking::pick(area, p, call.to), c),
         ordering::RUN_ON => answers::ran(call.k, runs::running::run_on(area, call.k), c),
-        _ => answers::read(n, p, runs::reading::read_record(area, p), c),
+        _ => answers::read(n, p, reports::read_record(area, p), c),
     }
 }
 
 // Whether a report says that the run is over exactly if A is D.
 fn probe(area: &[i32], c: Course) -> Course {
-    answers::reported(runs::reading::report(area), c)
+    answers::reported(reports::report(area), c)
 }
 
 // The digest of an area before a call that is watched, 0 before another.
@@ -82,7 +82,7 @@ fn are_last(area: &[i32], found: &[bool; 16899], e: Expected) -> bool {
         if p > e.n {
             return true;
         }
-        let answer = runs::reading::read_record(area, p);
+        let answer = reports::read_record(area, p);
         if !answers::is_last_record(answer, found, e, p) {
             return false;
         }
@@ -93,7 +93,7 @@ fn are_last(area: &[i32], found: &[bool; 16899], e: Expected) -> bool {
 // The end of a run compared (01, "The end of a check"), and the surplus words.
 fn compare(area: &[i32], found: &[bool; 16899], e: Expected, order: usize, c: Course) -> Course {
     let over = answers::expect(c, c.made == c.due, faults::STILL);
-    let report = runs::reading::report(area);
+    let report = reports::report(area);
     let right = answers::is_last_report(report, found, e.outside, c.due);
     let told = answers::expect(over, right, faults::REPORT);
     let read = answers::expect(told, are_last(area, found, e), faults::LAST_RECORD);

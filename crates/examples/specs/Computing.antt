@@ -21,7 +21,7 @@ use Rattle.areas.specs.Area.{recordPlace, linkPlace, arcIn, arcOf, linkOf, flag
 use Rattle.areas.specs.Area.{fieldsIn, messagesAt, runIn, sameWord, holdsWords, areaRight}
 use Rattle.areas.specs.Area as Areas
 use Rattle.starting.specs.StartCall.{startNumber, startAnswer, startArea}
-use Rattle.runs.specs.AreaCalls.{pickAnswer, pickArea, runOnAnswer, runOnArea, reportAnswer, readAnswer}
+use Rattle.area_calls.specs.AreaCalls.{pickAnswer, pickArea, runOnAnswer, runOnArea, reportAnswer, readAnswer}
 use Rattle.lending.specs.Lent.{lentAnswer, lentRecord}
 use Rattle.inputs.specs.Input.{startIn, tableFields, tableEnd, tableIn, inputNumber, begunNumber, begunArea}
 use Rattle.lines.specs.Text.{messageText, verdictLine, markLine}

@@ -48,7 +48,7 @@ use Rattle.checks.specs.Lists.{Promise}
 use Rattle.areas.specs.Area.{runIn}
 use Rattle.starting.specs.declared.Started.{Started}
 use Rattle.starting.specs.StartCall.{startNumber, startAnswer, startArea}
-use Rattle.runs.specs.AreaCalls.{pickAnswer, pickArea, runOnAnswer, runOnArea, reportAnswer, readAnswer}
+use Rattle.area_calls.specs.AreaCalls.{pickAnswer, pickArea, runOnAnswer, runOnArea, reportAnswer, readAnswer}
 use Rattle.lending.specs.declared.Lent.{Lent}
 use Rattle.lending.specs.Lent.{lentAnswer, lentRecord}
 use Rattle.inputs.specs.Input.{inputNumber, begunNumber, begunArea}

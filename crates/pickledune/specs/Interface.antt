@@ -26,7 +26,7 @@ use Rattle.pickledune.specs.Values.{steppedNumber, steppedProbes, steppe
 use Rattle.lending.specs.Lent.{lentRecord}
 use Rattle.checks.specs.declared.Report.{Report}
 use Rattle.checks.specs.Calls.{reportNumber, reportEscape}
-use Rattle.runs.specs.AreaCalls.{Reported}
+use Rattle.area_calls.specs.AreaCalls.{Reported}
 
 -- "its out- or in-chain"
 unfoldable pub chainOf : ℕ → Chain

@@ -5,7 +5,6 @@ mod step_values;
 mod table_values;
 
 use runs::picking;
-use runs::reading;
 use runs::running;
 use steps::Process;
 ghost use mathlib.Core.Path.{_≡_};
@@ -17,7 +16,7 @@ ghost use Rattle.checks.specs.Calls.{deliveryNumber, readingNumber};
 ghost use Rattle.pickledune.specs.Values.{deliveryKind, deliveryCount, readingProcess, ranOver};
 ghost use Rattle.machine.specs.Calls.{ranNumber, ranMade};
 ghost use Rattle.starting.specs.StartCall.{startAnswer, startArea};
-ghost use Rattle.runs.specs.AreaCalls.{pickAnswer, pickArea, runOnAnswer, runOnArea, readAnswer};
+ghost use Rattle.area_calls.specs.AreaCalls.{pickAnswer, pickArea, runOnAnswer, runOnArea, readAnswer};
 ghost use Rattle.pickledune.specs.Interface.{chainOf, messageOf, processOf, StepTold, ReportTold};
 
 // Reads a table: its N and M. 1 to 7.
@@ -130,7 +129,7 @@ pub extern "C" fn pickledune_report(
     ensures { λ r. ⌜ ReportTold (now (area .entry)) r (now (deliveries .exit)) (now (knot .exit)) (now (outside .exit)) (now (escape .exit))
         (now (returned .exit)) ⌝ }
 {
-    let v = check_values::report_values(reading::report(area));
+    let v = check_values::report_values(reports::report(area));
     *deliveries = v.deliveries;
     *knot = v.knot;
     let sum = v.outside;
@@ -160,7 +159,7 @@ pub extern "C" fn pickledune_read_record(
     ensures num { λ _. ⌜ now (num .exit) ≡ readingProcess (readAnswer (now (area .entry)) process) .num ⌝ }
     ensures father { λ _. ⌜ now (father .exit) ≡ readingProcess (readAnswer (now (area .entry)) process) .father ⌝ }
 {
-    let v = check_values::record_values(reading::read_record(area, process));
+    let v = check_values::record_values(reports::read_record(area, process));
     let x = v.process;
     *succeeding = x.succeeding;
     *preceding = x.preceding;

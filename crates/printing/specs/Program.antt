@@ -11,7 +11,7 @@ use lib.IntN.{ℤ}
 use Rattle.base.specs.Choice.{choose}
 use Rattle.machine.specs.Lists.{Call, picking, runningOn}
 use Rattle.checks.specs.Run.{knot}
-use Rattle.runs.specs.AreaCalls.{areaPassed}
+use Rattle.area_calls.specs.AreaCalls.{areaPassed}
 use Rattle.inputs.specs.Input.{picksIn, pickFrom, pickTo, begunNumber, begunArea}
 
 -- k picks from pick j on, counted from 0

@@ -18,10 +18,10 @@ use Rattle.checks.specs.Run.{knot, over}
 use Rattle.checks.specs.Lists.{Ended}
 use Rattle.areas.specs.Area.{runIn, areaRight}
 use Rattle.starting.specs.StartCall.{startArea}
-use Rattle.runs.specs.AreaCalls.{runOnArea, areaPassed}
-use Rattle.runs.specs.CallLaws.{passed-then, passed-21}
-use Rattle.runs.specs.AreaEnding.{area-ending}
-use Rattle.runs.specs.AreaEndingLaws.{area-over-most}
+use Rattle.area_calls.specs.AreaCalls.{runOnArea, areaPassed}
+use Rattle.area_calls.specs.CallLaws.{passed-then, passed-21}
+use Rattle.area_ending.specs.AreaEnding.{area-ending}
+use Rattle.area_ending.specs.AreaEndingLaws.{area-over-most}
 use Rattle.inputs.specs.Input.{startIn, tableIn, begunNumber, begunArea}
 use Rattle.inputs.specs.InputLaws.{begun-started, begun-kept}
 use Rattle.printing.specs.Program.{pickCalls, programCalls, programArea}

@@ -4,8 +4,8 @@
 // What becomes of the area of the check is promised: the picks of the input, in order, and then running on by as many deliveries as a run
 // counts at most (specs/Program), after which the check is over (program-over in specs/ProgramLaws). Each line is formed by `lines` and each
 // part of the input found by `inputs`, both proved against 01's text. What the contracts do not say is held to stored cases: that the input
-// is read whole, and that each line is written with the values of its call, in the right order. It stands on `runs`, `choosing` and below,
-// `inputs`, `lines`, and the kit's `io` and `libc`.
+// is read whole, and that each line is written with the values of its call, in the right order. It stands on `runs`, `reports`, `choosing`
+// and below, `inputs`, `lines`, and the kit's `io` and `libc`.
 use area_tests::testing;
 use area_tests::testing::Sizes;
 use areas::places;
@@ -17,7 +17,6 @@ use inputs::Begun;
 use lenses::heading;
 use lenses::records;
 use runs::picking;
-use runs::reading;
 use steps::Message;
 use steps::Process;
 ghost use mathlib.Core.Path.{_≡_};
@@ -28,7 +27,7 @@ ghost use Rattle.checks.specs.Calls.{deliveryNumber, deliveryMade};
 ghost use Rattle.lenses.specs.Ready.{Ready};
 ghost use Rattle.choosing.specs.Answers.{nextOf};
 ghost use Rattle.choosing.specs.Memory.{Remembers};
-ghost use Rattle.runs.specs.AreaCalls.{pickArea, runOnArea, areaPassed};
+ghost use Rattle.area_calls.specs.AreaCalls.{pickArea, runOnArea, areaPassed};
 ghost use Rattle.inputs.specs.Input.{tableEnd, picksIn};
 ghost use Rattle.printing.specs.Program.{pickCalls, programCalls, programArea};
 
@@ -178,7 +177,7 @@ fn print_processes(area: &[i32], square: &[u16; tables::SQUARE_SIZE], n: usize, 
 }
 
 fn print_report(area: &[i32]) {
-    match reading::report(area) {
+    match reports::report(area) {
         Report::Refused(number) => print_refused(number),
         Report::Over {
             deliveries,

@@ -1,3 +1,2 @@
--- Laws that the proofs of code share: Tested (what the test of an area says to a call), Turns (running on, turn by turn).
-pub mod Tested
+-- Laws that the proofs of code share: Turns (running on, turn by turn).
 pub mod Turns

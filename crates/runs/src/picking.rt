@@ -8,7 +8,7 @@ use lenses::heading;
 use tables::is_process;
 ghost use mathlib.Core.Path.{_≡_};
 ghost use Rattle.lenses.specs.Ready.{Ready};
-ghost use Rattle.runs.specs.AreaCalls.{pickAnswer, pickArea};
+ghost use Rattle.area_calls.specs.AreaCalls.{pickAnswer, pickArea};
 
 // A pick in a tested area, for whoever makes more than one: 25, 23, 24, 22. The area stays ready (pick-ready in CallLaws).
 pub fn pick_in(

@@ -10,7 +10,7 @@ ghost use Rattle.checks.specs.Calls.{runFrom};
 ghost use Rattle.areas.specs.Area.{runIn, keeping};
 ghost use Rattle.lenses.specs.Ready.{Ready};
 ghost use Rattle.choosing.specs.Memory.{Remembers};
-ghost use Rattle.runs.specs.AreaCalls.{runOnAnswer, runOnArea};
+ghost use Rattle.area_calls.specs.AreaCalls.{runOnAnswer, runOnArea};
 
 // The deliveries in a tested area: over, then spent, then 24, 22.
 fn drive(

@@ -5,8 +5,8 @@ use mathlib.Core.Path.{refl, ap, _∙_}
 use borrow.Author.Needs.{needs}
 use Rattle.tables.specs.Pairs.{squareSize}
 use Rattle.checks.specs.Run.{knot}
-use Rattle.runs.specs.AreaCalls.{runOnArea}
-use Rattle.runs.proofs.Tested.{fresh-long, fresh-empty, wrong-area, right-ready}
+use Rattle.area_calls.specs.AreaCalls.{runOnArea}
+use Rattle.area_calls.specs.TestedLaws.{fresh-long, fresh-empty, wrong-area, right-ready}
 use Rattle.printing.specs.ProgramLaws.{program-then, program-wrong}
 use Rattle.printing.proofs.print_begun.Statement.{statement}
 use Rattle.printing.proofs.print_begun.Tie as tie

@@ -7,8 +7,8 @@ use borrow.Author.Needs.{needs}
 use denote.Ref.{now}
 use lib.IntN.{ℤ}
 use Rattle.lenses.specs.Ready.{Ready}
-use Rattle.runs.specs.AreaCalls.{pickArea}
-use Rattle.runs.specs.CallLaws.{pick-ready}
+use Rattle.area_calls.specs.AreaCalls.{pickArea}
+use Rattle.area_calls.specs.CallLaws.{pick-ready}
 use Rattle.printing.proofs.print_pick.Statement.{statement}
 use Rattle.printing.proofs.print_pick.Tie as tie
 

@@ -9,7 +9,7 @@ use lib.IntN.{ℤ}
 use lib.ListN.{length}
 use Rattle.machine.specs.Lists.{inTurn}
 use Rattle.lenses.specs.Ready.{Ready}
-use Rattle.runs.specs.AreaCalls.{pickArea, areaPassed}
+use Rattle.area_calls.specs.AreaCalls.{pickArea, areaPassed}
 use Rattle.inputs.specs.declared.Pick.{Pick}
 use Rattle.inputs.specs.Input.{picksIn, pickIn}
 use Rattle.printing.specs.Program.{picksOn, pickCalls}

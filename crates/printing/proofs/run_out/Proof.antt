@@ -10,7 +10,7 @@ use Rattle.checks.specs.Run.{knot}
 use Rattle.areas.specs.Area.{runIn}
 use Rattle.lenses.proofs.Holding.{holding-ready, holding-length}
 use Rattle.choosing.specs.Memory.{Remembers}
-use Rattle.runs.specs.CallLaws.{runOn-on}
+use Rattle.area_calls.specs.CallLaws.{runOn-on}
 use Rattle.runs.proofs.Turns.{Turn, turn-first, turn-over, turn-full, turn-unmade, turn-made}
 use Rattle.printing.proofs.run_out.Statement.{statement}
 use Rattle.printing.proofs.run_out.Tie as tie

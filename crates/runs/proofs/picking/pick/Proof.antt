@@ -3,8 +3,8 @@
 use mathlib.Core.Path.{refl}
 use borrow.Author.Needs.{needs}
 use Rattle.tables.specs.Pairs.{squareSize}
-use Rattle.runs.specs.CallLaws.{pick-21}
-use Rattle.runs.proofs.Tested.{fresh-long, fresh-empty, wrong-area, right-ready}
+use Rattle.area_calls.specs.CallLaws.{pick-21}
+use Rattle.area_calls.specs.TestedLaws.{fresh-long, fresh-empty, wrong-area, right-ready}
 use Rattle.runs.proofs.picking.pick.Statement.{statement}
 use Rattle.runs.proofs.picking.pick.Tie as tie
 

@@ -11,8 +11,8 @@ use Rattle.tables.specs.TableLaws.{isProcess-P}
 use Rattle.tables.specs.Waits.{neighbours}
 use Rattle.areas.specs.Area.{runIn}
 use Rattle.lenses.specs.ReadyLaws.{ready-sizes, ready-joined}
-use Rattle.runs.specs.CallLaws.{pick-25, pick-23, pick-on}
-use Rattle.runs.proofs.Tested.{none-from, none-to}
+use Rattle.area_calls.specs.CallLaws.{pick-25, pick-23, pick-on}
+use Rattle.area_calls.specs.TestedLaws.{none-from, none-to}
 use Rattle.runs.proofs.picking.pick_in.Statement.{statement}
 use Rattle.runs.proofs.picking.pick_in.Tie as tie
 

@@ -4,8 +4,8 @@ use mathlib.Core.Path.{refl, _∙_}
 use borrow.Author.Needs.{needs}
 use Rattle.tables.specs.Pairs.{squareSize}
 use Rattle.lenses.specs.Ready.{Ready}
-use Rattle.runs.specs.CallLaws.{runOn-21, runOn-on}
-use Rattle.runs.proofs.Tested.{fresh-long, fresh-empty, wrong-area, right-ready}
+use Rattle.area_calls.specs.CallLaws.{runOn-21, runOn-on}
+use Rattle.area_calls.specs.TestedLaws.{fresh-long, fresh-empty, wrong-area, right-ready}
 use Rattle.runs.proofs.running.run_on.Statement.{statement}
 use Rattle.runs.proofs.running.run_on.Tie as tie
 

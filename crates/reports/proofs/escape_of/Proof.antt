@@ -1,4 +1,4 @@
--- `runs::reading::escape_of` meets its contract. The loop's invariant: no process passed has subordinate 1. The measure is what is left.
+-- `reports::escape_of` meets its contract. The loop's invariant: no process passed has subordinate 1. The measure is what is left.
 -- Assumes nothing.
 use Prim.Native.Nat.{ℕ, _+_, _-_, _≤_, _<_}
 use mathlib.Core.Path.{_≡_, sym, ap, _∙_, subst}
@@ -9,8 +9,8 @@ use native.Mathlib.Omega.{arith}
 use Rattle.areas.specs.Area.{runIn}
 use Rattle.checks.specs.Calls.{named, none}
 use Rattle.lenses.specs.ReadyLaws.{ready-n, ready-sizes}
-use Rattle.runs.proofs.reading.escape_of.Statement.{statement}
-use Rattle.runs.proofs.reading.escape_of.Tie as tie
+use Rattle.reports.proofs.escape_of.Statement.{statement}
+use Rattle.reports.proofs.escape_of.Tie as tie
 
 abbrev Inv-loop : tie.InvT-loop
 Inv-loop area square n m end p₀ p = (1 ≤ p) × (p ≤ end) × ((q : ℕ) → 1 ≤ q → q < p → runIn area .process q .subordinate ≡ 1 → ⊥)

@@ -40,10 +40,10 @@ use Rattle.ending.specs.EndingLaws.{ending-runs-out, ending-over}
 use Rattle.areas.specs.Area.{keeping, runIn, areaRight}
 use Rattle.lenses.specs.ReadyLaws.{right-storable}
 use Rattle.starting.specs.StartCall.{startNumber, startArea}
-use Rattle.runs.specs.AreaCalls.{pickAnswer, pickArea, runOnAnswer, runOnArea, Reported, areaPassedBy, areaPassed, asRun}
-use Rattle.runs.specs.AreaEnding.{begun, table, fits-last, list-left, area-run, area-ending}
-use Rattle.runs.specs.ListLaws.{run, call-stored, fit-call}
-use Rattle.runs.specs.CallLaws.{same, report-on, report-over}
+use Rattle.area_calls.specs.AreaCalls.{pickAnswer, pickArea, runOnAnswer, runOnArea, Reported, areaPassedBy, areaPassed, asRun}
+use Rattle.area_ending.specs.AreaEnding.{begun, table, fits-last, list-left, area-run, area-ending}
+use Rattle.area_calls.specs.ListLaws.{run, call-stored, fit-call}
+use Rattle.area_calls.specs.CallLaws.{same, report-on, report-over}
 
 -- ---- refused calls
 

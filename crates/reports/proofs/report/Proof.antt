@@ -1,4 +1,4 @@
--- `runs::reading::report` meets its contract: each way out is a law of CallLaws.
+-- `reports::report` meets its contract: each way out is a law of ReportLaws.
 -- Assumes nothing.
 use Prim.Native.Nat.{ℕ}
 use mathlib.Core.Path.{refl, sym, ap, _∙_}
@@ -11,10 +11,10 @@ use Rattle.lenses.specs.Ready.{Ready}
 use Rattle.lenses.specs.ReadyLaws.{right-storable, ready-n}
 use Rattle.machine.specs.FormedLaws.{wellFormed-P}
 use Rattle.checks.specs.Run.{knot}
-use Rattle.runs.specs.CallLaws.{reported-21, reported-26, reported-over}
-use Rattle.runs.proofs.Tested.{fresh-long, fresh-empty, wrong-area, right-ready}
-use Rattle.runs.proofs.reading.report.Statement.{statement}
-use Rattle.runs.proofs.reading.report.Tie as tie
+use Rattle.reports.specs.ReportLaws.{reported-21, reported-26, reported-over}
+use Rattle.area_calls.specs.TestedLaws.{fresh-long, fresh-empty, wrong-area, right-ready}
+use Rattle.reports.proofs.report.Statement.{statement}
+use Rattle.reports.proofs.report.Tie as tie
 
 test-requires : tie.Need-test-requires
 test-requires c κs = (fresh-long squareSize _ refl, fresh-empty squareSize _ refl)

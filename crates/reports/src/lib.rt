@@ -1,4 +1,5 @@
-// The report and reading a record. Each tests the area first; one that is not well formed gets 21. Neither changes a word.
+// The report and reading a record, on any words that a caller lends. Each tests the area first; one that is not well formed gets 21. Neither
+// changes a word.
 use area_tests::testing;
 use area_tests::testing::Sizes;
 use checks::Mark;
@@ -14,8 +15,8 @@ ghost use Prim.Native.Nat.{_+_};
 ghost use Rattle.areas.specs.Area.{runIn};
 ghost use Rattle.checks.specs.Calls.{Escape};
 ghost use Rattle.lenses.specs.Ready.{Ready};
-ghost use Rattle.runs.specs.AreaCalls.{Reported, readAnswer};
-ghost use Rattle.runs.specs.Told.{toldOf};
+ghost use Rattle.area_calls.specs.AreaCalls.{Reported, readAnswer};
+ghost use Rattle.reports.specs.Told.{toldOf};
 
 // The lowest process with subordinate 1, or 0 if there is none.
 fn escape_of(area: &[i32], square: &[u16; tables::SQUARE_SIZE], n: usize, m: usize) -> u32

@@ -25,8 +25,8 @@ use Rattle.lenses.specs.Storable.{Storable}
 use Rattle.starting.specs.StartCall.{startNumber, startArea}
 use Rattle.starting.specs.Starting.{Startable}
 use Rattle.starting.specs.StartingLaws.{start-fit, accepted-table, startNumber-startable}
-use Rattle.runs.specs.AreaCalls.{areaPassed, asRun, AreaPromise}
-use Rattle.runs.specs.ListLaws.{right, run, list-stored, fit-list}
+use Rattle.area_calls.specs.AreaCalls.{areaPassed, asRun, AreaPromise}
+use Rattle.area_calls.specs.ListLaws.{right, run, list-stored, fit-list}
 
 -- ---- the theorem
 

@@ -8,12 +8,11 @@
 --   passed-then                               == a list of calls after a list
 --   passed-21                                 == no list changes an area that is not well formed
 -- Assumes nothing.
-use Prim.Native.Nat.{ℕ, zero, suc}
+use Prim.Native.Nat.{ℕ}
 use mathlib.Core.Bool.{true, false}
 use mathlib.Core.List.{List, [], _∷_, _++_}
 use mathlib.Core.Path.{_≡_, refl, sym, ap, _∙_}
-use borrow.Author.Tests.{eqb-false}
-use lib.IntN.{ℤ, pos, negsuc}
+use lib.IntN.{ℤ}
 use Rattle.machine.specs.Calls as MachineCalls
 use Rattle.machine.specs.Lists.{Call, picking, runningOn, reporting, reading, inTurn}
 use Rattle.tables.specs.Table.{isProcess}
@@ -22,26 +21,15 @@ use Rattle.checks.specs.declared.Delivery.{Delivery}
 use Rattle.machine.specs.declared.Ran.{Ran}
 use Rattle.checks.specs.declared.Report.{Report}
 use Rattle.checks.specs.declared.Reading.{Reading}
-use Rattle.checks.specs.declared.Verdict.the-variants.{Knot, Free}
-use Rattle.steps.specs.declared.Process.{Process}
 use Rattle.checks.specs.declared.Reading.the-variants.{Found}
 use Rattle.checks.specs.Run.{over, wellFormed}
-use Rattle.checks.specs.Calls.{deliver, pick, runFrom, runOn, Escape, verdictOf, reported, report, readRecord}
+use Rattle.checks.specs.Calls.{deliver, pick, runFrom, runOn, reported, report, readRecord}
 use Rattle.areas.specs.Area.{fieldsIn, runIn, areaRight, keeping}
 use Rattle.areas.specs.AreaLaws.{stored-same}
 use Rattle.delivery.specs.StorableLaws.{storable-pick}
 use Rattle.lenses.specs.Ready.{Ready}
 use Rattle.lenses.specs.ReadyLaws.{right-storable, ready-kept}
-use Rattle.runs.specs.AreaCalls.{pickAnswer, pickArea, runOnAnswer, runOnArea, reportAnswer, Reported, readAnswer, areaPassedBy, areaPassed}
-use Rattle.runs.specs.Told.{toldOf}
-
-pub verdict-knot : (z : ℤ) → z ≡ pos 0 → verdictOf z ≡ Knot
-verdict-knot z e = rw e
-
-pub verdict-free : (z : ℤ) → (z ≡ pos 0 → ⊥) → verdictOf z ≡ Free
-verdict-free (pos zero) h = absurd (h refl)
-verdict-free (pos (suc n)) h = refl
-verdict-free (negsuc n) h = refl
+use Rattle.area_calls.specs.AreaCalls.{pickAnswer, pickArea, runOnAnswer, runOnArea, reportAnswer, readAnswer, areaPassedBy, areaPassed}
 
 -- ---- 21
 
@@ -54,7 +42,7 @@ module _ (w : List ℤ) (e : areaRight w ≡ false) where
   unfolding runOnAnswer runOnArea
   runOn-21 k = (rw e, rw e)
 
-  report-21 : (n : ℕ) → Report.Refused 21 ≡ reportAnswer w n
+  pub report-21 : (n : ℕ) → Report.Refused 21 ≡ reportAnswer w n
   unfolding reportAnswer
   report-21 n = rw e
 
@@ -92,7 +80,7 @@ module _ (w : List ℤ) (e : areaRight w ≡ true) where
   unfolding runOnAnswer runOnArea MachineCalls.runOn
   runOn-on k = (rw (e, formed), rw (e, formed))
 
-  report-26 : (n : ℕ) → over (runIn w) ≡ false → Report.Refused 26 ≡ reportAnswer w n
+  pub report-26 : (n : ℕ) → over (runIn w) ≡ false → Report.Refused 26 ≡ reportAnswer w n
   unfolding reportAnswer report
   report-26 n o = rw (e, formed, o)
 
@@ -111,18 +99,6 @@ module _ (w : List ℤ) (e : areaRight w ≡ true) where
   pub read-found : (p : ℕ) → isProcess (runIn w .waits .n) p ≡ true → Found (runIn w .process p) ≡ readAnswer w p
   unfolding readAnswer readRecord
   read-found p o = rw (e, formed, o)
-
-  -- a report before the end, and at the end
-  pub reported-26 : over (runIn w) ≡ false → Reported w (Report.Refused 26)
-  reported-26 o = record { answer = report-26 0 o; names = λ z. absurd (eqb-false 26 0 refl z) }
-
-  pub reported-over : over (runIn w) ≡ true → (x : Process) (d n : ℕ) → x ≡ runIn w .process (runIn w .start) → d ≡ runIn w .count → Escape (runIn w) n →
-      Reported w (toldOf x d n)
-  unfolding reported
-  reported-over o x d n p q s = record { answer = rw (p, q) (report-over n o); names = λ z. s }
-
-pub reported-21 : (w : List ℤ) → areaRight w ≡ false → Reported w (Report.Refused 21)
-reported-21 w e = record { answer = report-21 w e 0; names = λ z. absurd (eqb-false 21 0 refl z) }
 
 -- ---- lists
 

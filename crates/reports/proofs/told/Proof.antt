@@ -1,12 +1,12 @@
--- `runs::reading::told` meets its contract: the verdict goes by the sum, which comes back from its bits as it was.
+-- `reports::told` meets its contract: the verdict goes by the sum, which comes back from its bits as it was.
 -- Assumes nothing.
 use lib.Dec.{lit<}
 use Rattle.steps.proofs.Counts.{signed-back}
 use Rattle.areas.proofs.Signs.{word-is}
-use Rattle.runs.specs.CallLaws.{verdict-knot, verdict-free}
-use Rattle.runs.proofs.Tested.{word-apart}
-use Rattle.runs.proofs.reading.told.Statement.{statement}
-use Rattle.runs.proofs.reading.told.Tie as tie
+use Rattle.reports.specs.ReportLaws.{verdict-knot, verdict-free}
+use Rattle.area_calls.specs.TestedLaws.{word-apart}
+use Rattle.reports.proofs.told.Statement.{statement}
+use Rattle.reports.proofs.told.Tie as tie
 
 returns : tie.Need-returns
 returns c =

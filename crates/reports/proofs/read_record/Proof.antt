@@ -1,4 +1,4 @@
--- `runs::reading::read_record` meets its contract: each way out is a law of CallLaws.
+-- `reports::read_record` meets its contract: each way out is a law of CallLaws.
 -- Assumes nothing.
 use mathlib.Core.Path.{refl, ap, _∙_}
 use borrow.Author.Needs.{needs}
@@ -6,10 +6,10 @@ use Rattle.base.specs.ChoiceLaws.{value-not, value-yes}
 use Rattle.tables.specs.Pairs.{squareSize}
 use Rattle.tables.specs.TableLaws.{isProcess-P}
 use Rattle.checks.specs.declared.Reading.the-variants.{Found}
-use Rattle.runs.specs.CallLaws.{read-21, read-25, read-found}
-use Rattle.runs.proofs.Tested.{fresh-long, fresh-empty, wrong-area, right-ready, ready-process}
-use Rattle.runs.proofs.reading.read_record.Statement.{statement}
-use Rattle.runs.proofs.reading.read_record.Tie as tie
+use Rattle.area_calls.specs.CallLaws.{read-21, read-25, read-found}
+use Rattle.area_calls.specs.TestedLaws.{fresh-long, fresh-empty, wrong-area, right-ready, ready-process}
+use Rattle.reports.proofs.read_record.Statement.{statement}
+use Rattle.reports.proofs.read_record.Tie as tie
 
 test-requires : tie.Need-test-requires
 test-requires c κs = (fresh-long squareSize _ refl, fresh-empty squareSize _ refl)
