@@ -10,7 +10,6 @@ use mathlib.Core.List.{List}
 use mathlib.Core.Path.{_≡_, refl, sym}
 use mathlib.Core.Logic.{_⊎_, inl, inr}
 use native.Mathlib.Omega.{arith}
-use lib.Dec.{leb}
 use lib.ListN.{length}
 use lib.IntN.{ℤ, pos}
 use Rattle.base.specs.ChoiceLaws.{same?, below?}
@@ -26,7 +25,7 @@ use Rattle.areas.specs.Area.{fieldTotalOf, areaOf, wordOf, stored, field
 use Rattle.areas.specs.Contained.{Contained}
 use Rattle.areas.specs.AreaFacts.{AreaRight, RightTable}
 use Rattle.areas.specs.Tells.{Tells}
-use Rattle.areas.specs.TellsLaws.{tells-map, tells-le, tells-eq, tells-id, tells-both, tells-below}
+use Rattle.areas.specs.TellsLaws.{tells-map, tells-le, tells-eq, tells-id, tells-both}
 use Rattle.areas.specs.StoredLaws.{stored-length, stored-word, stored-of}
 use Rattle.areas.specs.ReadLaws.{fieldsIn-stored, runIn-stored}
 use Rattle.areas.specs.WordTestLaws.{holdsWords-P}

@@ -2,7 +2,7 @@
 --   fieldOf-small                == a field is below 2 ^ 16 where each byte is below 2 ^ 8
 --   arcAt-made                   == an arc record put together from the four fields where it lies
 --   sizesFit-P, sizesFit-not     == the test of N and M says that they are in their ranges, or that they are not
---   isProcess-P, check-process, isProcess-not   == the test of a process says that it is one, or that it is none
+--   isProcess-P, check-process   == the test of a process says that it is one, or that it is none
 -- Assumes nothing.
 use Prim.Native.Nat.{ℕ, _+_, _-_, _*_, _≤_, _<_}
 use mathlib.Core.Bool.{true, false, false≢true}
@@ -15,7 +15,7 @@ use borrow.Author.Tests.{leb-true, le-leb}
 use native.Mathlib.Omega.{arith}
 use Rattle.base.specs.ChoiceLaws.{and-left, and-right, and-both, and-three, tested}
 use Rattle.base.specs.Checks.{Tested, passed, failed}
-use Rattle.base.specs.Checks.{Check, holds, fails}
+use Rattle.base.specs.Checks.{Check}
 use Rattle.base.specs.CheckLaws.{check-of}
 use Rattle.tables.specs.declared.Arc.{Arc}
 use Rattle.tables.specs.Table.{Fields, fieldOf, nOf, mostProcesses, mostArcs, SizesFit, sizesFit, IsProcess, isProcess, arcAt}
@@ -70,10 +70,3 @@ isProcess-P n p = (
 
 pub check-process : (n p : ℕ) → Check (isProcess n p) (IsProcess n p) (IsProcess n p → ⊥)
 check-process n p = check-of (isProcess n p) _ _ (isProcess-P n p .0) (λ e h. false≢true (sym e ∙ isProcess-P n p .1 h))
-
-pub isProcess-not : (n p : ℕ) → (IsProcess n p → ⊥) → isProcess n p ≡ false
-isProcess-not n p h = at (check-process n p)
-  where
-    at : Check (isProcess n p) (IsProcess n p) (IsProcess n p → ⊥) → isProcess n p ≡ false
-    at (holds e i) = absurd (h i)
-    at (fails e _) = e

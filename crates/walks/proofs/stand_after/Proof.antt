@@ -448,7 +448,8 @@ module _ {M : Type 1} (𝓤 : URA M) (H : Heap 𝓤) (A : Atoms 𝓤) (W : Given
             fits : (y : Made opened n) → y .i < 2 ^ 16
             fits y = lt-of-le-of-lt (y .low) n-fits
 
-            made-at : (r : Next) (u : Val) → Gave 𝓤 H A W at-mem run κ q l₅ (moved (t .arc)) u r → Is S.the-row (made (t .arc) r) (s-val (made (t .arc) r) ∷ [])
+            made-at : (r : Next) (u : Val) → Gave 𝓤 H A W at-mem run κ q l₅ (moved (t .arc)) u r
+                → Is S.the-row (made (t .arc) r) (s-val (made (t .arc) r) ∷ [])
             made-at r u g = made-is (t .arc) r u (t .fits) (on-fits (t .arc) (g .2)) (g .0)
 
             next : Holds (ltb (t .i) n) → steppedWalk (moved (t .arc)) .arc < 2 ^ 64 → Made opened n
