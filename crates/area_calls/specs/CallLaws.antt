@@ -1,7 +1,6 @@
 -- The calls by the first thing that is met.
 --   pick-21, runOn-21, report-21, read-21     == an area that is not well formed
 --   pick-25, pick-23, pick-on                 == a pick on a well-formed area: no link, over, or the delivery
---   pick-ready                                == a tested area stays ready after a pick
 --   runOn-on                                  == running on, from its first turn
 --   report-on, report-26, report-over         == a report on a well-formed area; before the end, and at the end
 --   read-25, read-found                       == a record
@@ -24,11 +23,9 @@ use Rattle.checks.specs.declared.Reading.{Reading}
 use Rattle.checks.specs.declared.Reading.the-variants.{Found}
 use Rattle.checks.specs.Run.{over, wellFormed}
 use Rattle.checks.specs.Calls.{deliver, pick, runFrom, runOn, reported, report, readRecord}
-use Rattle.areas.specs.Area.{fieldsIn, runIn, areaRight, keeping}
+use Rattle.areas.specs.Area.{runIn, areaRight, keeping}
 use Rattle.areas.specs.AreaLaws.{stored-same}
-use Rattle.delivery.specs.StorableLaws.{storable-pick}
-use Rattle.lenses.specs.Ready.{Ready}
-use Rattle.lenses.specs.ReadyLaws.{right-storable, ready-kept}
+use Rattle.lenses.specs.ReadyLaws.{right-storable}
 use Rattle.area_calls.specs.AreaCalls.{pickAnswer, pickArea, runOnAnswer, runOnArea, reportAnswer, readAnswer, areaPassedBy, areaPassed}
 
 -- ---- 21
@@ -71,10 +68,6 @@ module _ (w : List ℤ) (e : areaRight w ≡ true) where
       (deliver (runIn w) a b (runIn w .link a b) .answer ≡ pickAnswer w a b) × (keeping w (deliver (runIn w) a b (runIn w .link a b) .run) ≡ pickArea w a b)
   unfolding pickAnswer pickArea MachineCalls.pick
   pick-on a b n o = (rw (e, formed, n, o), rw (e, formed, n, o))
-
-  pub pick-ready : {sq : List ℕ} {n m : ℕ} → Ready w sq n m → (a b : ℕ) → Ready (pickArea w a b) sq n m
-  unfolding pickArea
-  pick-ready {sq} {n} {m} y a b = rw e (ready-kept w e (pick (runIn w) a b .run) (storable-pick (fieldsIn w) (runIn w) (right-storable w e) a b) sq n m y)
 
   pub runOn-on : (k : ℕ) → (runFrom k 0 (runIn w) .answer ≡ runOnAnswer k w) × (keeping w (runFrom k 0 (runIn w) .run) ≡ runOnArea k w)
   unfolding runOnAnswer runOnArea MachineCalls.runOn

@@ -1,7 +1,6 @@
 -- What a reader must believe of the calls: AreaCalls (what each call does to an area: the calls of `checks`, read from the words and stored
 -- in them; lists of calls, and what is promised of every list). CallLaws: each call by the first thing that is met, and lists of them.
--- ListLaws: calls on an area are calls on the run that it holds. TestedLaws: what the test of an area says to a call.
+-- TestedLaws: what the test of an area says to a call.
 pub mod AreaCalls
 pub mod CallLaws
-pub mod ListLaws
 pub mod TestedLaws

@@ -26,7 +26,7 @@ use Rattle.starting.specs.StartCall.{startNumber, startArea}
 use Rattle.starting.specs.Starting.{Startable}
 use Rattle.starting.specs.StartingLaws.{start-fit, accepted-table, startNumber-startable}
 use Rattle.area_calls.specs.AreaCalls.{areaPassed, asRun, AreaPromise}
-use Rattle.area_calls.specs.ListLaws.{right, run, list-stored, fit-list}
+use Rattle.area_ending.specs.ListLaws.{right, run, list-stored, fit-list}
 
 -- ---- the theorem
 

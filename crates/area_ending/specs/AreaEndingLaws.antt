@@ -42,7 +42,7 @@ use Rattle.lenses.specs.ReadyLaws.{right-storable}
 use Rattle.starting.specs.StartCall.{startNumber, startArea}
 use Rattle.area_calls.specs.AreaCalls.{pickAnswer, pickArea, runOnAnswer, runOnArea, Reported, areaPassedBy, areaPassed, asRun}
 use Rattle.area_ending.specs.AreaEnding.{begun, table, fits-last, list-left, area-run, area-ending}
-use Rattle.area_calls.specs.ListLaws.{run, call-stored, fit-call}
+use Rattle.area_ending.specs.ListLaws.{run, call-stored, fit-call}
 use Rattle.area_calls.specs.CallLaws.{same, report-on, report-over}
 
 -- ---- refused calls

@@ -1,4 +1,5 @@
--- AreaEnding is demand 3 for the calls on lent words, and AreaEndingLaws has what follows from it. What the calls do, and what is promised of
--- every list of them, stands in the crate area_calls.
+-- AreaEnding is demand 3 for the calls on lent words, and AreaEndingLaws has what follows from it. ListLaws: calls on an area are calls on the
+-- run that it holds. What the calls do, and what is promised of every list of them, stands in the crate area_calls.
+pub mod ListLaws
 pub mod AreaEnding
 pub mod AreaEndingLaws

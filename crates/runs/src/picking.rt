@@ -10,7 +10,7 @@ ghost use mathlib.Core.Path.{_≡_};
 ghost use Rattle.lenses.specs.Ready.{Ready};
 ghost use Rattle.area_calls.specs.AreaCalls.{pickAnswer, pickArea};
 
-// A pick in a tested area, for whoever makes more than one: 25, 23, 24, 22. The area stays ready (pick-ready in CallLaws).
+// A pick in a tested area, for whoever makes more than one: 25, 23, 24, 22. The area stays ready (pick-ready in proofs/Kept).
 pub fn pick_in(
     area: &mut [i32],
     square: &[u16; tables::SQUARE_SIZE],

@@ -8,12 +8,12 @@ use denote.Ref.{now}
 use lib.IntN.{ℤ}
 use Rattle.lenses.specs.Ready.{Ready}
 use Rattle.area_calls.specs.AreaCalls.{pickArea}
-use Rattle.area_calls.specs.CallLaws.{pick-ready}
+use Rattle.runs.proofs.Kept.{pick-ready}
 use Rattle.printing.proofs.print_pick.Statement.{statement}
 use Rattle.printing.proofs.print_pick.Tie as tie
 
 picked-ready : {w : List ℤ} {sq : List ℕ} {n m : ℕ} → Ready w sq n m → (a b : ℕ) {v : List ℤ} → v ≡ pickArea w a b → Ready v sq n m
-picked-ready {w} y a b e = rw e (pick-ready w (y .right) y a b)
+picked-ready y a b e = rw e (pick-ready y a b)
 
 picked : (d : tie.After-pick-in) → let s = d .before .before in
     (d .pick-in .last .0 ≡ pickArea (now (s .args .area)) (s .args .from) (s .args .to)) ×

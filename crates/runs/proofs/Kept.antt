@@ -1,0 +1,18 @@
+-- What a pick keeps of a tested area.
+--   pick-ready   == a tested area stays ready after a pick
+-- Assumes nothing.
+use Prim.Native.Nat.{ℕ}
+use mathlib.Core.List.{List}
+use lib.IntN.{ℤ}
+use Rattle.checks.specs.Calls.{pick}
+use Rattle.areas.specs.Area.{fieldsIn, runIn}
+use Rattle.lenses.specs.Ready.{Ready}
+use Rattle.lenses.specs.ReadyLaws.{right-storable, ready-kept}
+use Rattle.delivery.specs.StorableLaws.{storable-pick}
+use Rattle.area_calls.specs.AreaCalls.{pickArea}
+
+pub pick-ready : {w : List ℤ} {sq : List ℕ} {n m : ℕ} → Ready w sq n m → (a b : ℕ) → Ready (pickArea w a b) sq n m
+unfolding pickArea
+pick-ready {w} {sq} {n} {m} y a b =
+    let e = y .right in
+    rw e (ready-kept w e (pick (runIn w) a b .run) (storable-pick (fieldsIn w) (runIn w) (right-storable w e) a b) sq n m y)
