@@ -124,8 +124,8 @@ uint32_t pickledune_run_on(int32_t *area, size_t words, uint32_t k, uint32_t *ov
 /* The report of a run that is over.
  * Lent: words words, the run area, read only.
  * Back: *deliveries, those that the run took; *knot, 1 if the start is in a knot, else 0; *outside, how many processes that the start
- * waits for, at any remove, do not wait for it; *escape, one of those, or 0 if there is none (which one is left open); *returned, 1 for
- * the mark returned (exactly with knot), 0 for held.
+ * waits for, at any remove, do not wait for it; *escape, the lowest-numbered of those (the lowest-numbered process with subordinate 1),
+ * or 0 if there is none; *returned, 1 for the mark returned (exactly with knot), 0 for held.
  * Refused, in this order: 21, 26. */
 uint32_t pickledune_report(
     const int32_t *area,

@@ -7,9 +7,9 @@ input of each crate that runs the check program itself, with what it must print:
   tools/check_cases.py --list    print each case and each such input with its label and its lines
   tools/check_cases.py --print   read one input of the check program and print what it must print
 
-What is printed comes from the run below, which is written from 01 ("Run and links", "Steps", "The check program") and not from the
-crates, and from the reader of tools/table_vectors.py. Each case names by hand what must be among its lines; the script stops if it is
-not. At the end of a run the lines are held to a graph search, too. The format of a case is in the top comment of
+What is printed comes from the run below, which is written from 01 ("Run and links", "Steps", "The check program") and 02 (N1) and not
+from the crates, and from the reader of tools/table_vectors.py. Each case names by hand what must be among its lines; the script stops
+if it is not. At the end of a run the lines are held to a graph search, too. The format of a case is in the top comment of
 crates/check_cases/src/main.rt. The cases drawn at random have a fixed seed, so every run makes the same files.
 """
 import collections, os, sys
@@ -126,6 +126,10 @@ class Run:
     def lowest(self):
         return min(pair for pair, waiting in self.link.items() if waiting)
 
+    def escape(self):
+        """02, N1: the lowest-numbered process with subordinate 1, and 0 only where there is none."""
+        return min((p for p, x in self.process.items() if x.subordinate == 1), default=0)
+
 
 def closure(start, neighbours):
     met, rest = {start}, [start]
@@ -138,9 +142,10 @@ def closure(start, neighbours):
 
 
 def hold_to_search(run):
-    """What 01 says of the end of a check, by a graph search."""
+    """What 01 says of the end of a check, by a graph search; and that escape is the lowest way out (02, N1)."""
     reached = closure(run.start, run.successors)
     reaching = closure(run.start, run.predecessors)
+    assert run.escape() == min(reached - reaching, default=0)
     d = 2 * sum(a in reached for a, b in run.waits) + 2 * sum(b in reaching for a, b in run.waits)
     assert run.deliveries == d
     assert not any(run.link.values())
@@ -199,9 +204,8 @@ def printed(data):
     for p, x in run.process.items():
         lines.append("process %d %d %d %d %d %d" % (p, x.succeeding, x.preceding, x.subordinate, x.cs, x.num))
     outside = run.process[run.start].cs
-    escape = min((p for p, x in run.process.items() if x.subordinate), default=0)
     lines += ["over %d" % run.deliveries, "verdict %s" % ("none" if outside else "knot"), "outside %d" % outside]
-    return lines + ["escape %d" % escape, "mark %s" % ("held" if outside else "returned")]
+    return lines + ["escape %d" % run.escape(), "mark %s" % ("held" if outside else "returned")]
 
 
 # ---- the cases
@@ -229,6 +233,11 @@ def refused(label, data, number):
 
 def check(start, n, waits, picks=(), order=latest_first):
     return words([start]) + Table(n, waits, order).bytes() + words([end for pick in picks for end in pick])
+
+
+def path(*processes):
+    """Each waits for the one after it."""
+    return list(zip(processes, processes[1:]))
 
 
 def refusals():
@@ -314,15 +323,81 @@ def random_cases(rng):
 
 
 def large(rng):
-    ring = [(p, p % 128 + 1) for p in range(1, 129)]
-    add("a ring of 128", check(128, 128, ring), "over 512", "verdict knot")
-    path = [(p, p + 1) for p in range(1, 128)]
-    add("a path of 128 from its first", check(1, 128, path), "verdict none", "outside 127", "escape 2")
+    add("a ring of 128", check(128, 128, path(*range(1, 129), 1)), "over 512", "verdict knot")
+    add("a path of 128 from its first", check(1, 128, path(*range(1, 129))), "verdict none", "outside 127", "escape 2")
     full = some_waits(rng, 128, 512)
     add("128 processes, 512 waits", check(1, 128, full, random_picks(rng, 128, full, 40)))
     loop = check(1, 1, [(1, 1)])
     add("20,478 bytes, the longest that can be whole", loop + words([1, 1]) * ((20478 - len(loop)) // 4), "pick 1 1 suc", "over 4")
     assert len(cases[-1][1]) == 20478
+
+
+def first_reached(lines):
+    """The receivers of suc probes, in the order in which each got its first."""
+    deliveries = [line.split() for line in lines if line.endswith(" suc")]
+    return list(dict.fromkeys(int(receiver) for _, _, receiver, _ in deliveries))
+
+
+def ways_out(label, data, *out):
+    """A case with these ways out, in the order in which they are first reached; escape is the lowest of them, or 0 if there is none."""
+    lowest = min(out, default=0)
+    add(label, data, *["process %d 1 0 1 0 0" % p for p in sorted(out)], "outside %d" % len(out), "escape %d" % lowest)
+    assert [p for p in first_reached(cases[-1][2]) if p in out] == list(out), label
+
+
+def reached_last(label, data, *out):
+    """The same for several ways out, of which the lowest is first reached last."""
+    ways_out(label, data, *out)
+    assert len(out) > 1 and out[-1] == min(out), label
+
+
+def escapes():
+    """Which process escape names (02, N1)."""
+    reached_last("a path 1, 4, 3, 2 from 1", check(1, 4, path(1, 4, 3, 2)), 4, 3, 2)
+    reached_last("a path 5 to 1 from 5", check(5, 5, path(5, 4, 3, 2, 1)), 4, 3, 2, 1)
+    reached_last("a path 3, 6, 5, 4, 2, 1 from 3, which is in the middle of the numbers", check(3, 6, path(3, 6, 5, 4, 2, 1)), 6, 5, 4, 2, 1)
+    falling = [p for p in range(128, 0, -1) if p != 77]
+    reached_last("a path of 128 from 77, the others falling", check(77, 128, path(77, *falling)), *falling)
+
+    fork = [(1, 2), (1, 3), (1, 4)]
+    ways_out("a fork in the fixed order", check(1, 4, fork), 2, 3, 4)
+    reached_last("picks to the highest first", check(1, 4, fork, [(1, 4), (1, 3), (1, 2)]), 4, 3, 2)
+    reached_last("the same, each acknowledged before the next is reached", check(1, 4, fork, [(1, 4), (4, 1), (1, 3), (3, 1), (1, 2), (2, 1)]), 4, 3, 2)
+    reached_last("the same from 4, which has the highest number", check(4, 4, [(4, 1), (4, 2), (4, 3)], [(4, 3), (4, 2), (4, 1)]), 3, 2, 1)
+
+    # 1 and 2 stand in a circle with 5, so they are succeeding and not subordinate; 3 is preceding only; 4 is neither
+    circle = path(5, 1, 2, 5) + [(3, 5)]
+    reached_last("lower ones that are succeeding and not subordinate", check(5, 8, circle + path(2, 8, 7, 6)), 8, 7, 6)
+    reached_last("the same, by picks", check(5, 8, circle + [(5, 6), (5, 7), (5, 8)], [(5, 1), (5, 8), (5, 7), (5, 6)]), 8, 7, 6)
+    ways_out("the same without a way out", check(5, 8, circle))
+    # 2 is subordinate from its suc probe to its pre probe
+    reached_last("a lower one that is subordinate for a time", check(1, 4, [(1, 2), (2, 1)] + path(1, 4, 3), [(1, 2)]), 4, 3)
+
+    ways_out("one way out, which is the first process", check(2, 3, [(2, 3), (3, 2), (3, 1)]), 1)
+    ways_out("one way out, which is the last of 128", check(1, 128, path(*range(1, 128), 1) + [(64, 128)]), 128)
+    ways_out("no way out of a circle of all", check(2, 4, path(1, 2, 3, 4, 1)))
+    ways_out("no way out, and lower ones that the start does not reach", check(3, 4, [(1, 3), (1, 2), (3, 4), (4, 3)]))
+
+
+def orders(rng):
+    """One check, all its deliveries by picks, in orders of every kind: all that is printed of its end is the same (02, N1: "two installations
+    named different ones for equal runs")."""
+    n, start = 7, 4
+    waits = path(4, 1, 4) + path(4, 7, 6, 2, 6) + path(1, 5, 3) + [(6, 5)]
+    ends = set()
+    for label, choose in (
+        ("lowest link first", min),
+        ("highest link first", max),
+        ("drawn", lambda links: rng.sample(links, 1)[0]),
+        ("drawn again", lambda links: rng.sample(links, 1)[0]),
+    ):
+        run, picks = Run(n, waits, start), []
+        while not run.over():
+            picks.append(choose(sorted(link for link, waiting in run.link.items() if waiting)))
+            run.deliver(*picks[-1])
+        add("one check, %s" % label, check(start, n, waits, picks), "outside 5", "escape 2")
+        ends.add(text(cases[-1][2][len(picks):]))
+    assert len(ends) == 1
 
 
 # ---- inputs of the check program itself, each with a crate of its own
@@ -388,6 +463,8 @@ def make():
     picks()
     random_cases(rng)
     large(rng)
+    escapes()
+    orders(Draws(1))
     stdin = b"".join(words([len(data)]) + data for _, data, _ in cases)
     stdout = "".join("case %d\n%s" % (number, text(lines)) for number, (_, _, lines) in enumerate(cases, 1))
     # and at the end a case that is not whole

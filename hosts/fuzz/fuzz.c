@@ -68,6 +68,9 @@ static void print_answers(void)
     }
 }
 
+/* The steps that this input has made; at STEPS it ends. Each record that a report is held to counts as one: reading it tests the whole area. */
+static int steps_made;
+
 /* The input, read from its front; zeros after its end. */
 static const uint8_t *rest;
 static size_t left;
@@ -261,6 +264,22 @@ static void run_on(void)
     expect(pickledune_run_on(area, area_len, 0, &more, &made) == 0 && made == 0 && more == over && kept(), "running on by 0");
 }
 
+/* What escape must be (02, N1), by the records: the lowest-numbered process with subordinate 1, and 0 only where there is none. Only for an
+ * area on which a report was accepted, which is well formed, so that reading ends with 25 past the last process. */
+static size_t lowest_subordinate(void)
+{
+    struct pickledune_process x;
+    size_t process = 0;
+    uint32_t refused;
+    do {
+        process += 1;
+        steps_made += 1;
+        refused = pickledune_read_process(area, area_len, process, &x);
+    } while (refused == 0 && x.subordinate == 0);
+    expect(refused == 0 || refused == 25, "the records of a reported run are read");
+    return refused ? 0 : process;
+}
+
 static void report(void)
 {
     uint32_t deliveries = 7, knot = 7, escape = 7, returned = 7, over, made;
@@ -270,7 +289,8 @@ static void report(void)
         expect(deliveries == 0 && knot == 0 && outside == 0 && escape == 0 && returned == 0, "zeros with a refusal");
         return;
     }
-    expect(knot == (outside == 0) && returned == knot && escape <= 128, "the verdict of the sum");
+    expect(knot == (outside == 0) && returned == knot, "the verdict of the sum");
+    expect(escape == lowest_subordinate(), "the lowest way out");
     expect(pickledune_run_on(area, area_len, 9, &over, &made) == 0 && over == 1 && made == 0, "a reported run is over");
 }
 
@@ -318,7 +338,7 @@ int LLVMFuzzerTestOneInput(const uint8_t *data, size_t size)
     table = table_end;
     area = area_end;
     table_len = area_len = 0;
-    for (int made = 0; made < STEPS && left > 0; made++) {
+    for (steps_made = 0; steps_made < STEPS && left > 0; steps_made++) {
         switch (byte() % 16) {
         case 0: /* the input's own bytes as a table */
             table_len = number() % TABLE;

@@ -2,8 +2,7 @@
 -- defines, and stores the run again; an area that is not well formed gets 21 and keeps every word.
 --   pickAnswer w a b, pickArea w a b     == a pick
 --   runOnAnswer k w, runOnArea k w       == running on
---   reportAnswer w e                     == the report, with e named as escape
---   Reported w r                         == r is the report for some escape that may be named: the one thing that 01 leaves open
+--   reportAnswer w                       == the report
 --   readAnswer w p                       == reading one process's record
 --   areaPassedBy c w, areaPassed cs w    == one call, and a list: "each call gets the area as the last one left it"
 --   asRun p                              == what a list left, with the run in the place of the area that holds it
@@ -18,7 +17,7 @@ use Rattle.tables.specs.Waits.{Waits}
 use Rattle.machine.specs.{declared.Ran.Ran, Calls.ranNumber, Calls.ranMade}
 use Rattle.machine.specs.Lists.{Call, picking, runningOn, reporting, reading, Passed, inTurn}
 use Rattle.checks.specs.declared.{Delivery.Delivery, Report.Report, Reading.Reading}
-use Rattle.checks.specs.Calls.{pick, runOn, Escape, report, readRecord, deliveryNumber, deliveryMade, reportNumber, reportEscape, readingNumber}
+use Rattle.checks.specs.Calls.{pick, runOn, report, readRecord, deliveryNumber, deliveryMade, reportNumber, readingNumber}
 use Rattle.checks.specs.{Run.Run, Lists.Promise}
 use Rattle.areas.specs.Area.{keeping, runIn, areaRight}
 
@@ -34,13 +33,8 @@ runOnAnswer k w = choose (areaRight w) (runOn k (runIn w) .answer) (Ran.Refused 
 unfoldable pub runOnArea : ℕ → List ℤ → List ℤ
 runOnArea k w = choose (areaRight w) (keeping w (runOn k (runIn w) .run)) w
 
-unfoldable pub reportAnswer : List ℤ → ℕ → Report
-reportAnswer w e = choose (areaRight w) (report (runIn w) e) (Report.Refused 21)
-
--- "Only one thing is left open, which process *escape* names: it has subordinate 1, and 0 is given exactly if none has."
-pub record Reported (w : List ℤ) (r : Report) : Type 0 where
-  pub answer : r ≡ reportAnswer w (reportEscape r)
-  pub names : reportNumber r ≡ 0 → Escape (runIn w) (reportEscape r)
+unfoldable pub reportAnswer : List ℤ → Report
+reportAnswer w = choose (areaRight w) (report (runIn w)) (Report.Refused 21)
 
 unfoldable pub readAnswer : List ℤ → ℕ → Reading
 readAnswer w p = choose (areaRight w) (readRecord (runIn w) p) (Reading.Refused 21)
@@ -51,7 +45,7 @@ readAnswer w p = choose (areaRight w) (readRecord (runIn w) p) (Reading.Refused 
 abbrev pub areaPassedBy : Call → List ℤ → Passed (List ℤ)
 areaPassedBy (picking a b) w = record { left = pickArea w a b; made = deliveryMade (pickAnswer w a b); numbers = deliveryNumber (pickAnswer w a b) ∷ [] }
 areaPassedBy (runningOn k) w = record { left = runOnArea k w; made = ranMade (runOnAnswer k w); numbers = ranNumber (runOnAnswer k w) ∷ [] }
-areaPassedBy reporting w = record { left = w; made = 0; numbers = reportNumber (reportAnswer w 0) ∷ [] }
+areaPassedBy reporting w = record { left = w; made = 0; numbers = reportNumber (reportAnswer w) ∷ [] }
 areaPassedBy (reading p) w = record { left = w; made = 0; numbers = readingNumber (readAnswer w p) ∷ [] }
 
 -- "each call gets the area as the last one left it, and nobody else writes it meanwhile"

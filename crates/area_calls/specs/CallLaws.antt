@@ -39,9 +39,9 @@ module _ (w : List ℤ) (e : areaRight w ≡ false) where
   unfolding runOnAnswer runOnArea
   runOn-21 k = (rw e, rw e)
 
-  pub report-21 : (n : ℕ) → Report.Refused 21 ≡ reportAnswer w n
+  pub report-21 : Report.Refused 21 ≡ reportAnswer w
   unfolding reportAnswer
-  report-21 n = rw e
+  report-21 = rw e
 
   pub read-21 : (p : ℕ) → Reading.Refused 21 ≡ readAnswer w p
   unfolding readAnswer
@@ -73,17 +73,17 @@ module _ (w : List ℤ) (e : areaRight w ≡ true) where
   unfolding runOnAnswer runOnArea MachineCalls.runOn
   runOn-on k = (rw (e, formed), rw (e, formed))
 
-  pub report-26 : (n : ℕ) → over (runIn w) ≡ false → Report.Refused 26 ≡ reportAnswer w n
+  pub report-26 : over (runIn w) ≡ false → Report.Refused 26 ≡ reportAnswer w
   unfolding reportAnswer report
-  report-26 n o = rw (e, formed, o)
+  report-26 o = rw (e, formed, o)
 
-  pub report-on : (n : ℕ) → reportAnswer w n ≡ report (runIn w) n
+  pub report-on : reportAnswer w ≡ report (runIn w)
   unfolding reportAnswer
-  report-on n = rw e
+  report-on = rw e
 
-  pub report-over : (n : ℕ) → over (runIn w) ≡ true → reported (runIn w) n ≡ reportAnswer w n
+  pub report-over : over (runIn w) ≡ true → reported (runIn w) ≡ reportAnswer w
   unfolding reportAnswer report
-  report-over n o = rw (e, formed, o)
+  report-over o = rw (e, formed, o)
 
   pub read-25 : (p : ℕ) → isProcess (runIn w .waits .n) p ≡ false → Reading.Refused 25 ≡ readAnswer w p
   unfolding readAnswer readRecord

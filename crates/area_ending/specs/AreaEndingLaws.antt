@@ -2,7 +2,7 @@
 --   call-keeps        == a call that makes no delivery leaves every word: so does every refused call, whatever its number, but for a running
 --                        on that was refused after it had made some
 --   pick-keeps        == a refused pick leaves every word, whatever its number
---   area-reports      == after every list that is over: what a report answers, of the words that the list left
+--   area-reports      == after every list that is over: what the report of the words that the list left answers
 --   area-runs-out, area-over   == after every list: running on with as many deliveries as are left ends over, with their number
 --   area-runs-out-most, area-over-most   == .. as 2,048 do from wherever a list has come to
 -- Assumes nothing.
@@ -31,19 +31,19 @@ use Rattle.checks.specs.declared.Verdict.the-variants.{Knot, Free}
 use Rattle.checks.specs.declared.Mark.the-variants.{Returned, Held}
 use Rattle.checks.specs.declared.Report.{Report}
 use Rattle.checks.specs.Run.{Run, knot, over, startRun}
-use Rattle.checks.specs.Calls.{pick, runOn, reported, reportNumber, reportEscape, deliveryMade}
+use Rattle.checks.specs.Calls.{pick, runOn, deliveryMade}
 use Rattle.checks.specs.AnswerLaws.{deliveryOf-accepted}
-use Rattle.checks.specs.Reach.{inKnot, outsiders, dOf}
+use Rattle.checks.specs.Reach.{inKnot, outsiders, lowestOutsider, dOf}
 use Rattle.checks.specs.Lists
 use Rattle.ending.specs.SpreadEndLaws.{dOf-most}
 use Rattle.ending.specs.EndingLaws.{ending-runs-out, ending-over}
 use Rattle.areas.specs.Area.{keeping, runIn, areaRight}
 use Rattle.lenses.specs.ReadyLaws.{right-storable}
 use Rattle.starting.specs.StartCall.{startNumber, startArea}
-use Rattle.area_calls.specs.AreaCalls.{pickAnswer, pickArea, runOnAnswer, runOnArea, Reported, areaPassedBy, areaPassed, asRun}
+use Rattle.area_calls.specs.AreaCalls.{pickAnswer, pickArea, runOnAnswer, runOnArea, reportAnswer, areaPassedBy, areaPassed, asRun}
 use Rattle.area_ending.specs.AreaEnding.{begun, table, fits-last, list-left, area-run, area-ending}
 use Rattle.area_ending.specs.ListLaws.{run, call-stored, fit-call}
-use Rattle.area_calls.specs.CallLaws.{same, report-on, report-over}
+use Rattle.area_calls.specs.CallLaws.{same, report-on}
 
 -- ---- refused calls
 
@@ -85,16 +85,13 @@ module _ (bs : List ℕ) (s : ℕ) (w : List ℤ) (e : startNumber bs s w ≡ 0)
   abbrev list : Passed (List ℤ)
   list = areaPassed cs (startArea bs s w)
 
-  -- a report of the words that the list left, if all D deliveries are made
-  pub area-reports :
-      list .made ≡ dOf waits s → (r : Report) → Reported (list .left) r →
-      r ≡ Report.Over (dOf waits s) (choose (inKnot waits s) Knot Free) (pos (outsiders waits s)) (reportEscape r) (choose (inKnot waits s) Returned Held)
-  unfolding reported
-  area-reports z r h =
+  -- the report of the words that the list left, if all D deliveries are made: one and the same for every order
+  pub area-reports : list .made ≡ dOf waits s → reportAnswer (list .left)
+      ≡ Report.Over (dOf waits s) (choose (inKnot waits s) Knot Free) (pos (outsiders waits s)) (lowestOutsider waits s)
+      (choose (inKnot waits s) Returned Held)
+  area-reports z =
       let p = area-ending bs s w e cs in
-      let o : over (runIn (list .left)) ≡ true = p .promise .over-at-d .1 z in
-      let taken : reportNumber r ≡ 0 = ap reportNumber (h .answer ∙ sym (report-over (list .left) (p .right) (reportEscape r) o)) in
-      h .answer ∙ report-on (list .left) (p .right) (reportEscape r) ∙ p .promise .ended o .reports (reportEscape r) (h .names taken)
+      report-on (list .left) (p .right) ∙ p .promise .ended (p .promise .over-at-d .1 z) .reports
 
   sound : Sound waits
   sound = waitsOf-sound (fieldOf bs) (table bs s w e .right)

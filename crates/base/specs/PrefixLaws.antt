@@ -4,13 +4,15 @@
 --   allTo-next    == one more turn, with k the number of turns so far
 --   allTo-not     == each fails exactly if not some passes
 --   anyTo-none, anyTo-next   == some of 1 to n passes, with k the number of turns so far
+--   lowestTo-none, lowestTo-more   == the lowest of 1 to n that passes
 -- Assumes nothing.
 use Prim.Native.Nat.{ℕ, zero, suc, _+_, _-_, _≤_}
 use mathlib.Core.Bool.{Bool, true, false, not, _&&_, _||_, false≢true}
 use mathlib.Core.Path.{_≡_, refl, sym, ap, _∙_}
 use native.Mathlib.Numerals.{add-one}
 use native.Mathlib.Omega.{arith}
-use Rattle.base.specs.Sums.{allTo, anyTo}
+use Rattle.base.specs.Sums.{allTo, anyTo, orNext, lowestTo}
+use Rattle.base.specs.Choice.{choose}
 use Rattle.base.specs.ChoiceLaws.{tested, and-both}
 use Rattle.base.specs.Checks.{Tested, passed, failed}
 use Rattle.base.specs.SumLaws.{allTo-at}
@@ -63,3 +65,17 @@ allTo-not (suc n) p =
 
 pub anyTo-next : (k : ℕ) (p : ℕ → Bool) → anyTo (k + 1) p ≡ (anyTo k p || p (k + 1))
 anyTo-next k p = rw add-one (anyTo-suc k p)
+
+pub lowestTo-none : (p : ℕ → Bool) → lowestTo 0 p ≡ 0
+unfolding lowestTo
+lowestTo-none p = refl
+
+lowestTo-suc : (n : ℕ) (p : ℕ → Bool) → lowestTo (suc n) p ≡ orNext (lowestTo n p) (choose (p (suc n)) (suc n) 0)
+unfolding lowestTo
+lowestTo-suc n p = refl
+
+pub lowestTo-more : (k : ℕ) (p : ℕ → Bool) → 1 ≤ k → lowestTo k p ≡ orNext (lowestTo (k - 1) p) (choose (p k) k 0)
+lowestTo-more zero p l = absurd (omega arith)
+lowestTo-more (suc k) p l =
+    let end : suc k - 1 ≡ k = omega arith in
+    rw end (lowestTo-suc k p)

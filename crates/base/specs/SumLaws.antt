@@ -4,6 +4,7 @@
 --   sumTo-some, sumTo-one, sumTo-full, sumTo-least   == sums whose parts are 0 or 1, or at least 1
 --   countTo-most, countTo-one, sumTo-pick, sumTo-pick-two   == a test that at most one number passes, and one part picked out of a sum
 --   countTo-P   == countTo counts what HowMany counts
+--   lowestTo-P, lowestTo-same   == lowestTo finds what Lowest says; by two tests that agree it finds the same
 -- Assumes nothing.
 use Prim.Native.Nat.{ℕ, zero, suc, _+_, _*_, _≤_}
 use mathlib.Core.Bool.{Bool, true, false, _&&_, _||_, false≢true}
@@ -13,7 +14,8 @@ use lib.Dec.{eqb}
 use native.Mathlib.Nat.{zero-mul, one-mul, mul-zero, mul-add, mul-suc, add-mul}
 use native.Mathlib.Omega.{arith}
 use Rattle.base.specs.Choice.{choose, bit}
-use Rattle.base.specs.Sums.{sumTo, countTo, allTo, anyTo, spot, HowMany, none, one-more, no-more, Found, Part}
+use Rattle.base.specs.Sums.{sumTo, countTo, allTo, anyTo, orNext, lowestTo, spot, Found, Part}
+use Rattle.base.specs.Sums.{HowMany, none, one-more, no-more, Lowest, at-first, at-none}
 use Rattle.base.specs.ChoiceLaws.{bit-≤1, bit-some, tested, same?, and-left, and-right, and-both}
 use Rattle.base.specs.Checks.{Tested, passed, failed, Same, same, apart}
 use Rattle.base.specs.ChoiceLaws.{or-cases, or-left, or-right}
@@ -310,3 +312,27 @@ countTo-P (suc n) p P h = at (countTo-P n p P (λ k l u. h k l (omega arith))) (
     at b (failed e) =
         let up : sumTo n (λ k. bit (p k)) + 0 ≡ sumTo n (λ k. bit (p k)) = omega arith in
         rw (e, up) (no-more b (λ x. false≢true (sym e ∙ h (suc n) (omega arith) (omega arith) .1 x)))
+
+-- ---- lowestTo and Lowest
+
+module _ (P : ℕ → Type 0) (n : ℕ) where
+  -- one number more, which is the lowest only if none was found before it
+  lowest-more : (e : ℕ) → Lowest P n e → (b : Bool) → (b ≡ true) ↔ P (suc n) → Lowest P (suc n) (orNext e (choose b (suc n) 0))
+  lowest-more (suc e) (at-first l u x low) b h = at-first l (omega arith) x low
+  lowest-more zero (at-first l u x low) b h = absurd (omega arith)
+  lowest-more zero (at-none f) true h = at-first {e = suc n} (omega arith) (omega arith) (h .0 refl) (λ k l u. f k l (omega arith))
+  lowest-more zero (at-none f) false h = at-none (λ k l u x. at k l u x (same? k (suc n)))
+    where
+      at : (k : ℕ) → 1 ≤ k → k ≤ suc n → P k → Same k (suc n) → ⊥
+      at k l u x (same e g) = false≢true (h .1 (subst P e x))
+      at k l u x (apart e g) = f k l (omega arith) x
+
+pub lowestTo-P : (n : ℕ) (p : ℕ → Bool) (P : ℕ → Type 0) → ((k : ℕ) → 1 ≤ k → k ≤ n → (p k ≡ true) ↔ P k) → Lowest P n (lowestTo n p)
+unfolding lowestTo
+lowestTo-P zero p P h = at-none (λ k l u. absurd (omega arith))
+lowestTo-P (suc n) p P h = lowest-more P n (lowestTo n p) (lowestTo-P n p P (λ k l u. h k l (omega arith))) (p (suc n)) (h (suc n) (omega arith) (omega arith))
+
+pub lowestTo-same : (n : ℕ) (p q : ℕ → Bool) → ((k : ℕ) → 1 ≤ k → k ≤ n → p k ≡ q k) → lowestTo n p ≡ lowestTo n q
+unfolding lowestTo
+lowestTo-same zero p q h = refl
+lowestTo-same (suc n) p q h = rw (lowestTo-same n p q (λ k l u. h k l (omega arith)), h (suc n) (omega arith) (omega arith))

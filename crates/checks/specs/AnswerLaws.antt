@@ -1,12 +1,16 @@
--- Laws of the calls' answers: a delivery's answer as the code gives it and as the machine does, and what comes first.
+-- Laws of the calls' answers: a delivery's answer as the code gives it and as the machine does, who is named as escape, and what comes first.
 --   deliveryOf-refused, deliveryOf-delivered   == what an answer of the code says of the machine's
 --   deliveryOf-number, deliveryOf-accepted     == the same number, and the same count of accepted picks
+--   escapeOf-P                                 == the lowest process with subordinate 1, or 0 and none has it
 --   pick-21, runOn-21, report-21, readRecord-21   == 21 comes first
 -- Assumes nothing.
 use Prim.Native.Nat.{ℕ}
 use mathlib.Core.Bool.{false}
 use mathlib.Core.Path.{_≡_, refl, ap}
+use borrow.Author.Tests.{eqb-true, eq-eqb}
 use native.Mathlib.Omega.{arith}
+use Rattle.base.specs.Sums.{Lowest}
+use Rattle.base.specs.SumLaws.{lowestTo-P}
 use Rattle.machine.specs.declared.Ran.{Ran}
 use Rattle.machine.specs.Calls.{Answer, given, refusal}
 use Rattle.machine.specs.Calls as Machines
@@ -17,7 +21,7 @@ use Rattle.checks.specs.declared.Delivery.the-variants.{Delivered}
 use Rattle.checks.specs.declared.Report.{Report}
 use Rattle.checks.specs.declared.Reading.{Reading}
 use Rattle.checks.specs.Run.{Run, wellFormed}
-use Rattle.checks.specs.Calls.{refused, deliveryOf, pick, runOn, report, readRecord, deliveryNumber, deliveryMade}
+use Rattle.checks.specs.Calls.{refused, deliveryOf, pick, runOn, escapeOf, report, readRecord, deliveryNumber, deliveryMade}
 
 pub deliveryOf-refused : (x : Answer Message) {n : ℕ} → deliveryOf x ≡ Delivery.Refused n → x ≡ refusal n
 deliveryOf-refused (refusal k) {n} e = let f : k ≡ n = cc in ap refusal f
@@ -35,6 +39,13 @@ pub deliveryOf-accepted : (x : Answer Message) → deliveryMade (deliveryOf x) �
 deliveryOf-accepted (given m) = refl
 deliveryOf-accepted (refusal n) = refl
 
+-- 02, N1, without a test: whom a report names
+pub escapeOf-P : (r : Run) → Lowest (λ p. r .process p .subordinate ≡ 1) (r .waits .n) (escapeOf r)
+unfolding escapeOf
+escapeOf-P r =
+    lowestTo-P (r .waits .n) _ (λ p. r .process p .subordinate ≡ 1)
+    (λ p l u. (eqb-true (r .process p .subordinate) 1, eq-eqb (r .process p .subordinate) 1))
+
 -- ---- 21 first: a run that is not well formed is refused before anything else is looked at, and left as it was
 
 module _ (r : Run) (bad : wellFormed r ≡ false) where
@@ -46,9 +57,9 @@ module _ (r : Run) (bad : wellFormed r ≡ false) where
   unfolding Machines.runOn
   runOn-21 k = rw bad
 
-  pub report-21 : (e : ℕ) → report r e ≡ Report.Refused 21
+  pub report-21 : report r ≡ Report.Refused 21
   unfolding report
-  report-21 e = rw bad
+  report-21 = rw bad
 
   pub readRecord-21 : (p : ℕ) → readRecord r p ≡ Reading.Refused 21
   unfolding readRecord

@@ -1,20 +1,20 @@
--- What each call of a knot check does and answers (01, "Steps" and "Refused because of the state"). Picks and running on are the machine's
+-- What each call of a knot check does and answers (01, "Steps" and "Refused because of the state"; 02, N1). Picks and running on are the machine's
 -- (crate machine, Calls), by the knot check's rules.
 --   Picked             == an answer and the run that a delivery leaves
 --   pick r a b         == "A pick checks 21, 25, 23, 24, 22."
 --   runOn k r          == "Running on checks 21 first, then over, then spent, then 24, 22.", in the fixed order
---   Escape r e         == e may be named as escape: "some process with subordinate 1, or 0 if there is none"
---   report r e         == "The report checks 21, 26", with e as escape
+--   isSubordinate x, escapeOf r   == "escape is the lowest-numbered process with subordinate 1, and 0 only where there is none" (02, N1)
+--   report r           == "The report checks 21, 26"
 --   readRecord r p     == "reading one process's record checks 21, 25"
---   deliveryNumber, deliveryMade, reportNumber, reportEscape, readingNumber   == for each case of an answer 01's number, and the escape
+--   deliveryNumber, deliveryMade, reportNumber, readingNumber   == for each case of an answer 01's number
 -- Assumes nothing.
-use Prim.Native.Nat.{ℕ, zero, suc, _≤_}
-use mathlib.Core.Bool.{not}
+use Prim.Native.Nat.{ℕ, zero, suc}
+use mathlib.Core.Bool.{Bool, not}
 use mathlib.Core.List.{List}
-use mathlib.Core.Path.{_≡_}
+use lib.Dec.{eqb}
 use lib.IntN.{ℤ, pos, negsuc}
 use Rattle.tables.specs.Table.{isProcess}
-use Rattle.base.specs.Choice.{choose}
+use Rattle.base.specs.{Choice.choose, Sums.lowestTo}
 use Rattle.machine.specs.Calls.{Answer, given, refusal, Selection, fixedOrder, RanOn}
 use Rattle.machine.specs.Calls as Machines
 use Rattle.steps.specs.declared.Message.{Message}
@@ -72,10 +72,13 @@ runOn k r = Machines.runOn knot fixedOrder k 0 r
 
 -- ---- the report
 
--- "escape = some process with subordinate 1, or 0 if there is none"
-pub data Escape (r : Run) : ℕ → Type 0 where
-  named : {e : ℕ} → 1 ≤ e → e ≤ r .waits .n → r .process e .subordinate ≡ 1 → Escape r e
-  none : ((p : ℕ) → 1 ≤ p → p ≤ r .waits .n → r .process p .subordinate ≡ 1 → ⊥) → Escape r 0
+-- "with subordinate 1"
+abbrev pub isSubordinate : Process → Bool
+isSubordinate x = eqb (x .subordinate) 1
+
+-- 02, N1: "escape is the lowest-numbered process with subordinate 1, and 0 only where there is none"
+unfoldable pub escapeOf : Run → ℕ
+escapeOf r = lowestTo (r .waits .n) (λ p. isSubordinate (r .process p))
 
 -- "verdict knot if cs of s is 0, else none"
 abbrev pub verdictOf : ℤ → Verdict
@@ -89,16 +92,17 @@ markOf Knot = Returned
 markOf Free = Held
 
 -- "over count; verdict ..; outside = cs of s; escape ..; mark .."
-unfoldable pub reported : Run → ℕ → Report
-reported r e =
-    Report.Over (r .count) (verdictOf (r .process (r .start) .cs)) (r .process (r .start) .cs) e (markOf (verdictOf (r .process (r .start) .cs)))
+unfoldable pub reported : Run → Report
+reported r =
+    Report.Over (r .count) (verdictOf (r .process (r .start) .cs)) (r .process (r .start) .cs) (escapeOf r)
+    (markOf (verdictOf (r .process (r .start) .cs)))
 
--- "The report checks 21, 26": e is what it names as escape
-unfoldable pub report : Run → ℕ → Report
-report r e =
+-- "The report checks 21, 26"
+unfoldable pub report : Run → Report
+report r =
     choose (not (wellFormed r)) (Report.Refused 21)
     (choose (not (over r)) (Report.Refused 26)
-    (reported r e))
+    (reported r))
 
 -- ---- reading a record
 
@@ -123,11 +127,6 @@ deliveryMade (Delivery.Refused n) = 0
 abbrev pub reportNumber : Report → ℕ
 reportNumber (Report.Over d v o e m) = 0
 reportNumber (Report.Refused n) = n
-
--- the process that a report names, 0 on a refusal
-abbrev pub reportEscape : Report → ℕ
-reportEscape (Report.Over d v o e m) = e
-reportEscape (Report.Refused n) = 0
 
 abbrev pub readingNumber : Reading → ℕ
 readingNumber (Found x) = 0

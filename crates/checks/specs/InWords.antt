@@ -2,12 +2,13 @@
 -- the same by the tests that compute it; ended-P (crate ending, InWordsLaws) ties the two.
 --   Outside w s p         == p is reachable from s and does not reach it
 --   EndedInWords t s r    == what is said of a run that is over, of the table with fields t, started at s
--- HowMany P n k (crate base, Sums) says that k of the numbers 1 to n have P. Assumes nothing.
-use Prim.Native.Nat.{ℕ, _+_, _*_, _≤_}
+-- HowMany P n k (crate base, Sums) says that k of the numbers 1 to n have P, and Lowest P n e that e is the lowest that has P, 0 if none has.
+-- Assumes nothing.
+use Prim.Native.Nat.{ℕ, _+_, _*_}
 use mathlib.Core.Path.{_≡_}
 use mathlib.Core.Logic.{_↔_}
 use lib.IntN.{pos}
-use Rattle.base.specs.Sums.{HowMany}
+use Rattle.base.specs.Sums.{HowMany, Lowest}
 use Rattle.tables.specs.Table.{Fields, nOf, mOf, IsProcess, arcAt}
 use Rattle.tables.specs.Waits.{Waits, waitsOf}
 use Rattle.checks.specs.declared.Verdict.{Verdict}
@@ -16,7 +17,7 @@ use Rattle.checks.specs.declared.Mark.{Mark}
 use Rattle.checks.specs.declared.Mark.the-variants.{Returned}
 use Rattle.checks.specs.declared.Report.{Report}
 use Rattle.checks.specs.Run.{Run}
-use Rattle.checks.specs.Calls.{Escape, report}
+use Rattle.checks.specs.Calls.{report}
 use Rattle.checks.specs.Reach.{Reaches}
 
 -- "those that do not": reachable from the start, and not reaching it
@@ -34,14 +35,15 @@ pub record EndedInWords (t : Fields) (s : ℕ) (r : Run) : Type 0 where
   -- "as outside the number of those that do not"
   pub outside : ℕ
   pub outside-is : HowMany (Outside (waitsOf t) s) (nOf t) outside
+  -- 02, N1: as escape the lowest-numbered of those, "and 0 only where there is none"
+  pub escape : ℕ
+  pub escape-is : Lowest (Outside (waitsOf t) s) (nOf t) escape
   -- "a report gives D, knot exactly if all processes reachable from the start reach it, as outside .."; "returned if the verdict is knot"
   pub verdict : Verdict
   pub mark : Mark
-  pub reports : (e : ℕ) → Escape r e → report r e ≡ Report.Over (2 * onward + 2 * back) verdict (pos outside) e mark
+  pub reports : report r ≡ Report.Over (2 * onward + 2 * back) verdict (pos outside) escape mark
   pub knot : (verdict ≡ Knot) ↔ ((p : ℕ) → Reaches (waitsOf t) s p → Reaches (waitsOf t) p s)
   pub returned : (mark ≡ Returned) ↔ (verdict ≡ Knot)
-  -- "as escape one of them"
-  pub escape : (e : ℕ) → 1 ≤ e → Escape r e → Outside (waitsOf t) s e
   -- "succeeding 1 exactly if it is reachable from the start, preceding 1 exactly if it reaches it, subordinate 1 exactly if the first holds
   -- and not the second"
   pub succeeding : (p : ℕ) → IsProcess (nOf t) p → (r .process p .succeeding ≡ 1) ↔ Reaches (waitsOf t) s p

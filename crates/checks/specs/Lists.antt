@@ -23,12 +23,12 @@ use Rattle.checks.specs.declared.Verdict.the-variants.{Knot, Free}
 use Rattle.checks.specs.declared.Mark.the-variants.{Returned, Held}
 use Rattle.checks.specs.declared.Report.{Report}
 use Rattle.checks.specs.Run.{Run, mostWaiting, knot, over}
-use Rattle.checks.specs.Calls.{Escape, report, readRecord, reportNumber, readingNumber}
-use Rattle.checks.specs.Reach.{reaches, inKnot, outsider, outsiders, dOf}
+use Rattle.checks.specs.Calls.{report, readRecord, reportNumber, readingNumber}
+use Rattle.checks.specs.Reach.{reaches, inKnot, outsider, outsiders, lowestOutsider, dOf}
 
--- which process a report names as escape changes neither its number nor the run
+-- the numbers of the two calls that leave the run as it is
 abbrev pub asked : Reads Process Message
-asked = record { report = λ r. reportNumber (report r 0); reading = λ r p. readingNumber (readRecord r p) }
+asked = record { report = λ r. reportNumber (report r); reading = λ r p. readingNumber (readRecord r p) }
 
 -- "each call gets the area as the last one left it"
 abbrev pub passed : List Call → Run → Passed Run
@@ -42,11 +42,9 @@ endSum w s p = choose (eqb p s) (outsiders w s) 0
 pub record Ended (w : Waits) (s : ℕ) (r : Run) : Type 0 where
   -- "When it is over none waits"
   pub none-waits : (a b : ℕ) → IsProcess (w .n) a → IsProcess (w .n) b → r .link a b ≡ []
-  -- "a report gives D, knot exactly if .., as outside the number of those that do not, and as escape one of them, 0 if none"
-  pub reports : (e : ℕ) → Escape r e
-      → report r e ≡ Report.Over (dOf w s) (choose (inKnot w s) Knot Free) (pos (outsiders w s)) e (choose (inKnot w s) Returned Held)
-  pub escape : (e : ℕ) → 1 ≤ e → Escape r e → IsProcess (w .n) e × (outsider w s e ≡ true)
-  pub no-escape : Escape r 0 ↔ (outsiders w s ≡ 0)
+  -- "a report gives D, knot exactly if .., as outside the number of those that do not"; as escape the lowest of them, 0 if none (02, N1)
+  pub reports : report r
+      ≡ Report.Over (dOf w s) (choose (inKnot w s) Knot Free) (pos (outsiders w s)) (lowestOutsider w s) (choose (inKnot w s) Returned Held)
   -- "Each process then has .."
   pub succeeding : (p : ℕ) → IsProcess (w .n) p → r .process p .succeeding ≡ bit (reaches w s p)
   pub preceding : (p : ℕ) → IsProcess (w .n) p → r .process p .preceding ≡ bit (reaches w p s)

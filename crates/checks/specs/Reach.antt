@@ -3,13 +3,14 @@
 --   reaches w p q      == the same as a test: the closure of the waits, grown N times
 --   inKnot w s         == "knot exactly if all processes reachable from the start reach it"
 --   outsiders w s      == "the number of those that do not"
+--   lowestOutsider w s == the lowest of those, 0 if there is none: the escape of 02, N1, at the end of a check
 --   dOf w s            == "D is twice the number of arcs whose from is reachable from the start plus twice the number whose to reaches it"
 -- The law that ties the test to the relation is reaches-P, in ReachLaws. Assumes nothing.
 use Prim.Native.Nat.{ℕ, zero, suc, _+_, _*_}
 use mathlib.Core.Bool.{Bool, true, not, _&&_, _||_}
 use mathlib.Core.Path.{_≡_}
 use lib.Dec.{eqb}
-use Rattle.base.specs.Sums.{sumTo, countTo, allTo, anyTo}
+use Rattle.base.specs.Sums.{sumTo, countTo, allTo, anyTo, lowestTo}
 use Rattle.tables.specs.Waits.{Waits}
 
 -- "q is p or arcs lead from p to q, each beginning where the one before it ended"
@@ -37,6 +38,10 @@ outsider w s p = reaches w s p && not (reaches w p s)
 -- "as outside the number of those that do not"
 unfoldable pub outsiders : Waits → ℕ → ℕ
 outsiders w s = countTo (w .n) (outsider w s)
+
+-- 02, N1: the lowest-numbered of them, "and 0 only where there is none"
+unfoldable pub lowestOutsider : Waits → ℕ → ℕ
+lowestOutsider w s = lowestTo (w .n) (outsider w s)
 
 -- "D is twice the number of arcs whose from is reachable from the start plus twice the number whose to reaches it."
 unfoldable pub dOf : Waits → ℕ → ℕ

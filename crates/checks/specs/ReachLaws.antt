@@ -2,7 +2,7 @@
 --   from-in, to-in      == both ends of a wait are processes
 --   reaches-forward, reaches-backward   == what passes along every wait (or back along it) passes along a path
 --   reaches-trans       == paths join
---   reaches-P           == the test and the relation agree; so with inKnot-P, outsider-P, outsiders-P, each named after its test
+--   reaches-P           == the test and the relation agree; so with inKnot-P, outsider-P, outsiders-P, lowestOutsider-P, each named after its test
 --   reaches-in          == whoever is reached from a process is a process
 -- Assumes nothing.
 use Prim.Native.Nat.{ℕ, zero, suc, _+_, _≤_}
@@ -14,14 +14,14 @@ use borrow.Author.Tests.{eqb-true, eq-eqb, not-true}
 use Rattle.base.specs.Choice.{bit}
 use Rattle.base.specs.ChoiceLaws.{bit-≤1, tested, same?, and-left, and-right, and-both, or-cases, or-left, or-right}
 use Rattle.base.specs.Checks.{Tested, passed, failed, Same, same, apart}
-use Rattle.base.specs.Sums.{sumTo, countTo, anyTo, spot, HowMany}
+use Rattle.base.specs.Sums.{sumTo, countTo, anyTo, spot, HowMany, Lowest}
 use Rattle.base.specs.SumLaws.{spot-at, spot-off, sumTo-add, sumTo-le, sumTo-part, sumTo-spot, sumTo-most, allTo-at, allTo-of, anyTo-of}
 use Rattle.base.specs.Sums.{Found}
-use Rattle.base.specs.SumLaws.{anyTo-found, countTo-P}
+use Rattle.base.specs.SumLaws.{anyTo-found, countTo-P, lowestTo-P}
 use Rattle.tables.specs.Waits.{Waits}
 use Rattle.tables.specs.Sound.{Sound}
 use Rattle.tables.specs.Table.{IsProcess}
-use Rattle.checks.specs.Reach.{Reaches, here, along, within, reaches, inKnot, outsider, outsiders}
+use Rattle.checks.specs.Reach.{Reaches, here, along, within, reaches, inKnot, outsider, outsiders, lowestOutsider}
 use Rattle.checks.specs.InWords.{Outside}
 
 -- both ends of a wait are processes
@@ -202,3 +202,7 @@ module _ (w : Waits) (ok : Sound w) (s : ℕ) (sIn : IsProcess (w .n) s) where
   pub outsiders-P : HowMany (Outside w s) (w .n) (outsiders w s)
   unfolding outsiders
   outsiders-P = countTo-P (w .n) (outsider w s) (Outside w s) (λ p l u. outsider-P p (l, u))
+
+  pub lowestOutsider-P : Lowest (Outside w s) (w .n) (lowestOutsider w s)
+  unfolding lowestOutsider
+  lowestOutsider-P = lowestTo-P (w .n) (outsider w s) (Outside w s) (λ p l u. outsider-P p (l, u))

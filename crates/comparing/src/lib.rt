@@ -94,7 +94,7 @@ fn are_last(area: &[i32], found: &[bool; 16899], e: Expected) -> bool {
 fn compare(area: &[i32], found: &[bool; 16899], e: Expected, order: usize, c: Course) -> Course {
     let over = answers::expect(c, c.made == c.due, faults::STILL);
     let report = reports::report(area);
-    let right = answers::is_last_report(report, found, e.outside, c.due);
+    let right = answers::is_last_report(report, e, c.due);
     let told = answers::expect(over, right, faults::REPORT);
     let read = answers::expect(told, are_last(area, found, e), faults::LAST_RECORD);
     let counted = answers::expect(read, answers::are_all_probes(e, order, c), faults::PROBES);

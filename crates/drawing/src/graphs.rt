@@ -28,8 +28,10 @@ const LOOPS: usize = 6;
 const TWO_RINGS: usize = 7;
 // 1 and 2 wait for each other, 1 for 3, 3 for all after it, and those for 2: counts of 127 and -127 occur from 1 if the pre waits long.
 pub const EXTREME: usize = 8;
+// A path from the last process down to the first: in every order the lowest of those who do not reach the start is reached last (02, N1).
+const FALLING: usize = 9;
 
-pub const SHAPES: usize = 9;
+pub const SHAPES: usize = 10;
 
 // What drawing leaves: the number of entries in the list, and the last random number.
 pub struct Drawn {
@@ -168,6 +170,7 @@ fn is_wait(kind: usize, n: usize, from: usize, to: usize) -> bool {
         LOOPS => from == to,
         TWO_RINGS => is_in_rings(n, from, to - 1),
         EXTREME => is_extreme(from, to),
+        FALLING => to == from - 1,
         _ => false,
     }
 }

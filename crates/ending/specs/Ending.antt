@@ -7,15 +7,13 @@ use Prim.Native.Nat.{ℕ, zero, suc, _+_, _≤_}
 use mathlib.Core.Bool.{Bool, true, false, false≢true}
 use mathlib.Core.List.{List, []}
 use mathlib.Core.Path.{_≡_, refl, sym, ap, _∙_, subst}
-use mathlib.Core.Logic.{_↔_}
 use native.Mathlib.Omega.{arith}
 use lib.Dec.{eqb}
 use lib.IntN.{pos}
 use Rattle.base.specs.Choice.{choose, bit}
-use Rattle.base.specs.ChoiceLaws.{bit-some, tested, same?}
+use Rattle.base.specs.ChoiceLaws.{tested, same?}
 use Rattle.base.specs.Checks.{Tested, passed, failed, Same, same, apart}
-use Rattle.base.specs.Sums.{sumTo, countTo}
-use Rattle.base.specs.SumLaws.{sumTo-parts, sumTo-zero}
+use Rattle.base.specs.SumLaws.{lowestTo-same}
 use Rattle.tables.specs.Waits.{Waits}
 use Rattle.tables.specs.Sound.{Sound}
 use Rattle.tables.specs.Table.{IsProcess}
@@ -32,8 +30,8 @@ use Rattle.checks.specs.declared.Verdict.the-variants.{Knot, Free}
 use Rattle.checks.specs.declared.Mark.the-variants.{Returned, Held}
 use Rattle.checks.specs.declared.Report.{Report}
 use Rattle.checks.specs.Run.{Run, knot, over, startRun}
-use Rattle.checks.specs.Calls.{Escape, named, none, verdictOf, markOf, reported, report}
-use Rattle.checks.specs.Reach.{inKnot, outsider, outsiders, dOf}
+use Rattle.checks.specs.Calls.{escapeOf, verdictOf, markOf, reported, report}
+use Rattle.checks.specs.Reach.{inKnot, outsider, outsiders, lowestOutsider, dOf}
 use Rattle.checks.specs.Lists.{endSum, Ended, Promise}
 use Rattle.checks.specs.Lists
 use Rattle.ending.specs.Invariants.{Holds}
@@ -77,6 +75,11 @@ mark-chosen : (b : Bool) → markOf (choose b Knot Free) ≡ choose b Returned H
 mark-chosen true = refl
 mark-chosen false = refl
 
+-- a flag that is a test's is 1 exactly if it passes
+bit-test : (b : Bool) → eqb (bit b) 1 ≡ b
+bit-test true = refl
+bit-test false = refl
+
 module _ (r : Run) (h : Holds r) (o : over r ≡ true) where
   gone : (a b : ℕ) → IsProcess (r .waits .n) a → IsProcess (r .waits .n) b → r .link a b ≡ []
   gone = upheld-empty holds-upheld r h o
@@ -92,16 +95,17 @@ module _ (r : Run) (h : Holds r) (o : over r ≡ true) where
   subs : (p : ℕ) → IsProcess (r .waits .n) p → r .process p .subordinate ≡ bit (outsider (r .waits) (r .start) p)
   subs = sub-end (h .sound) (h .tidy) (h .spread) gone
 
-  reports : (e : ℕ) → Escape r e
-      → report r e
-      ≡ Report.Over (dOf (r .waits) (r .start)) (choose (inKnot (r .waits) (r .start)) Knot Free) (pos (outsiders (r .waits) (r .start))) e
-      (choose (inKnot (r .waits) (r .start)) Returned Held)
-  unfolding report reported
-  reports e x = rw (holds-formed r h, o, start-sum, at-d r h o, knot-verdict (r .waits) (r .start), mark-chosen (inKnot (r .waits) (r .start)))
+  -- 02, N1: who has subordinate 1 at the end is reachable from the start and does not reach it
+  escape-end : escapeOf r ≡ lowestOutsider (r .waits) (r .start)
+  unfolding escapeOf lowestOutsider
+  escape-end = lowestTo-same (r .waits .n) _ _ (λ p l u. rw (subs p (l, u)) (bit-test (outsider (r .waits) (r .start) p)))
 
-  escape : (e : ℕ) → 1 ≤ e → Escape r e → IsProcess (r .waits .n) e × (outsider (r .waits) (r .start) e ≡ true)
-  escape e l (named p q d) = ((p, q), bit-some (outsider (r .waits) (r .start) e) (omega (arith, subs e (p, q), d)))
-  escape e l (none n) = absurd (omega arith)
+  reports : report r
+      ≡ Report.Over (dOf (r .waits) (r .start)) (choose (inKnot (r .waits) (r .start)) Knot Free) (pos (outsiders (r .waits) (r .start)))
+      (lowestOutsider (r .waits) (r .start)) (choose (inKnot (r .waits) (r .start)) Returned Held)
+  unfolding report reported
+  reports =
+      rw (holds-formed r h, o, escape-end, start-sum, at-d r h o, knot-verdict (r .waits) (r .start), mark-chosen (inKnot (r .waits) (r .start)))
 
   process-cs : (p : ℕ) → IsProcess (r .waits .n) p → r .process p .cs ≡ pos (endSum (r .waits) (r .start) p)
   unfolding endSum
@@ -111,31 +115,11 @@ module _ (r : Run) (h : Holds r) (o : over r ≡ true) where
       at (same e f) = rw (f, e) start-sum
       at (apart e f) = rw f (sums .1 p i e)
 
-  -- 0 is named exactly if nobody is outside
-  no-escape : Escape r 0 ↔ (outsiders (r .waits) (r .start) ≡ 0)
-  unfolding outsiders countTo
-  no-escape = (
-    λ x. nobody-out x,
-    λ e. none (λ p l u d. absurd
-        (omega (arith, sumTo-parts (r .waits .n) (λ k. bit (outsider (r .waits) (r .start) k)) e p l u, subs p (l, u), d))),
-  )
-    where
-      nobody-out : Escape r 0 → sumTo (r .waits .n) (λ k. bit (outsider (r .waits) (r .start) k)) ≡ 0
-      nobody-out (named l u d) = absurd (omega arith)
-      nobody-out (none f) =
-          sumTo-zero (r .waits .n) (λ k. bit (outsider (r .waits) (r .start) k)) (λ k l u. is k (l, u) (outsider (r .waits) (r .start) k) refl)
-        where
-          is : (k : ℕ) → IsProcess (r .waits .n) k → (b : Bool) → outsider (r .waits) (r .start) k ≡ b → bit (outsider (r .waits) (r .start) k) ≡ 0
-          is k p true q = absurd (f k (p .0) (p .1) (subs k p ∙ ap bit q))
-          is k p false q = rw q
-
   ended : Ended (r .waits) (r .start) r
   ended =
       record {
         none-waits = gone;
         reports = reports;
-        escape = escape;
-        no-escape = no-escape;
         succeeding = succ-end (h .sound) (h .tidy) (h .spread) gone;
         preceding = prec-end (h .sound) (h .tidy) (h .spread) gone;
         subordinate = subs;

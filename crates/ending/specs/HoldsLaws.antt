@@ -212,11 +212,11 @@ module _ (r : Run) (h : Holds r) (a b : ℕ) (pa : IsProcess (r .waits .n) a) (p
 
 -- ---- what the machine asks
 
-report-answered : (r : Run) → wellFormed r ≡ true → Answered (reportNumber (report r 0))
+report-answered : (r : Run) → wellFormed r ≡ true → Answered (reportNumber (report r))
 unfolding report reported
 report-answered r h = rw h (at (tested (over r)))
   where
-    at : Tested (over r) → Answered (reportNumber (choose (not (over r)) (Report.Refused 26) (reported r 0)))
+    at : Tested (over r) → Answered (reportNumber (choose (not (over r)) (Report.Refused 26) (reported r)))
     at (passed e) = rw e none-refused
     at (failed e) = rw e not-over
 

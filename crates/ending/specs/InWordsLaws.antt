@@ -21,8 +21,8 @@ use Rattle.machine.specs.Lists.{Call}
 use Rattle.checks.specs.declared.Verdict.the-variants.{Knot, Free}
 use Rattle.checks.specs.declared.Mark.the-variants.{Returned, Held}
 use Rattle.checks.specs.Run.{Run, over, startRun}
-use Rattle.checks.specs.Reach.{Reaches, reaches, inKnot, outsider, outsiders, dOf}
-use Rattle.checks.specs.ReachLaws.{reaches-P, inKnot-P, outsider-P, outsiders-P}
+use Rattle.checks.specs.Reach.{Reaches, reaches, inKnot, outsider, outsiders, lowestOutsider, dOf}
+use Rattle.checks.specs.ReachLaws.{reaches-P, inKnot-P, outsider-P, outsiders-P, lowestOutsider-P}
 use Rattle.checks.specs.Lists.{Ended, Promise, passed}
 use Rattle.checks.specs.InWords.{EndedInWords}
 use Rattle.ending.specs.Demand.{demand-3}
@@ -74,10 +74,11 @@ module _ (t : Fields) (right : Right t) (s : ℕ) (i : IsProcess (nOf t) s) wher
         outside-is = outsiders-P (waitsOf t) ok s i;
         verdict = choose (inKnot (waitsOf t) s) Knot Free;
         mark = choose (inKnot (waitsOf t) s) Returned Held;
-        reports = λ e x. rw (dOf-P .2) at (h .reports e x);
+        escape = lowestOutsider (waitsOf t) s;
+        escape-is = lowestOutsider-P (waitsOf t) ok s i;
+        reports = rw (dOf-P .2) at (h .reports);
         knot = verdict-P (inKnot (waitsOf t) s) (inKnot-P (waitsOf t) ok s i);
         returned = mark-P (inKnot (waitsOf t) s);
-        escape = λ e l x. let y = h .escape e l x in outsider-P (waitsOf t) ok s i e (y .0) .0 (y .1);
         succeeding = λ p j. bit-P (r .process p .succeeding) (reaches (waitsOf t) s p) (h .succeeding p j) (reaches-P (waitsOf t) ok s p i);
         preceding = λ p j. bit-P (r .process p .preceding) (reaches (waitsOf t) p s) (h .preceding p j) (reaches-P (waitsOf t) ok p s j);
         subordinate = λ p j. bit-P (r .process p .subordinate) (outsider (waitsOf t) s p) (h .subordinate p j) (outsider-P (waitsOf t) ok s i p j);

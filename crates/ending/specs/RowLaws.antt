@@ -3,7 +3,7 @@
 --   row-holds       == each of the eight rows holds of the table that the writer makes of its waits
 -- Assumes nothing.
 use Prim.Native.Nat.{ℕ}
-use mathlib.Core.Bool.{Bool, true, false, not, false≢true}
+use mathlib.Core.Bool.{Bool, true, false, not, _&&_, false≢true}
 use mathlib.Core.List.{List, _∷_, List·Memᴰ, List·Memᴰ·head, List·Memᴰ·tail}
 use mathlib.Core.Path.{_≡_, refl, sym, ap, _∙_}
 use lib.Dec.{eqb}
@@ -13,7 +13,7 @@ use lib.ListN.{length, replicate, length-replicate}
 use Rattle.base.specs.Choice.{choose}
 use Rattle.base.specs.ChoiceLaws.{tested, and-left, and-right, and-three}
 use Rattle.base.specs.Checks.{Tested, passed, failed}
-use Rattle.base.specs.Sums.{sumTo, countTo, allTo, anyTo}
+use Rattle.base.specs.Sums.{sumTo, countTo, allTo, anyTo, lowestTo}
 use Rattle.tables.specs.Table.{fieldOf, isProcess}
 use Rattle.tables.specs.Waits.{Waits, waitsOf, outDegree, inDegree, neighbours}
 use Rattle.table_writer.specs.Writing.{end, given, endsFit, unlike, writeNumber, givenWaits, WrittenRight}
@@ -32,8 +32,8 @@ use Rattle.checks.specs.declared.Mark.{Mark}
 use Rattle.checks.specs.declared.Mark.the-variants.{Returned, Held}
 use Rattle.checks.specs.declared.Report.{Report}
 use Rattle.checks.specs.Run.{Run, over, fatherRight, wellFormed, started, turnOf, replyTo, probesTo, sentTo}
-use Rattle.checks.specs.Calls.{verdictOf, markOf, reported, report}
-use Rattle.checks.specs.Reach.{within, reaches, inKnot, outsider, outsiders, dOf}
+use Rattle.checks.specs.Calls.{escapeOf, verdictOf, markOf, reported, report}
+use Rattle.checks.specs.Reach.{within, reaches, inKnot, outsider, outsiders, lowestOutsider, dOf}
 use Rattle.ending.specs.Rows.{PRow, rows, waitsFrom, tableSize, tableFrom, ranFrom, RowOfTable}
 use Rattle.ending.specs.RowTests.{agree, isKnot, isAt, defined, overAfter, reports, runs, writable, holds, all}
 
@@ -41,8 +41,8 @@ use Rattle.ending.specs.RowTests.{agree, isKnot, isAt, defined, overAfte
 
 rows-hold : all holds rows ≡ true
 unfolding all rows holds waitsFrom givenWaits given end writable writeNumber endsFit isProcess unlike agree isKnot isAt defined overAfter reports runs
-    dOf inKnot outsiders outsider reaches within sumTo countTo allTo anyTo outDegree inDegree neighbours
-    MachineCalls.runOn runFrom deliverOn lowest lowestSender lowestReceiver deliver delivered report reported
+    dOf inKnot outsiders lowestOutsider outsider reaches within sumTo countTo allTo anyTo lowestTo outDegree inDegree neighbours
+    MachineCalls.runOn runFrom deliverOn lowest lowestSender lowestReceiver deliver delivered report reported escapeOf
     Machines.over Machines.wellFormed fatherRight Machines.linkRight allRight Machines.startRun started Machines.after Machines.accepts Machines.taken
     sentTo probesTo replyTo turnOf turn startTurn rule1 setSucceeding setPreceding newSubordinate gained rule3 rule4
     acknowledged fitting numSuffices replyFits inRange small countSmall
@@ -90,26 +90,35 @@ overAfter-P d (Ran.Over made) h = ap Ran.Over (eqb-true made d h)
 overAfter-P d (Spent made) h = absurd (false≢true h)
 overAfter-P d (Ran.Refused n made) h = absurd (false≢true h)
 
--- a report passes the process that it names as escape on, and is the same else
-reports-P : (x : PRow) (r : Run) → reports x (report r 0) ≡ true → (e : ℕ)
-    → report r e ≡ Report.Over (x .d) (verdict x) (pos (x .outside)) e (mark x)
+-- the report of a row
+abbrev due : PRow → Report
+due x = Report.Over (x .d) (verdict x) (pos (x .outside)) (lowestOutsider (waitsFrom x) 1) (mark x)
+
+reports-P : (x : PRow) (r : Run) → reports x (report r) ≡ true → report r ≡ due x
 unfolding report reported reports
-reports-P x r h e = at (tested (wellFormed r)) (tested (over r))
+reports-P x r h = at (tested (wellFormed r)) (tested (over r))
   where
     cs : ℤ
     cs = r .process (r .start) .cs
 
-    same : (eqb (r .count) (x .d) ≡ true) × (agree (isKnot (verdictOf cs)) (x .knot) ≡ true) × (isAt cs (x .outside) ≡ true)
-        → Report.Over (r .count) (verdictOf cs) cs e (markOf (verdictOf cs)) ≡ Report.Over (x .d) (verdict x) (pos (x .outside)) e (mark x)
-    same t = cc (eqb-true (r .count) (x .d) t.0, verdict-P (verdictOf cs) (x .knot) t.1, isAt-P cs (x .outside) t.2, mark-of (x .knot))
+    same : (d : Bool) → d ≡ eqb (r .count) (x .d) → (v : Bool) → v ≡ agree (isKnot (verdictOf cs)) (x .knot) → (o : Bool) → o ≡ isAt cs (x .outside)
+        → (d && v && o && eqb (escapeOf r) (lowestOutsider (waitsFrom x) 1)) ≡ true → reported r ≡ due x
+    same d e1 v e2 o e3 t =
+        let first = and-left (d && v && o) (eqb (escapeOf r) (lowestOutsider (waitsFrom x) 1)) t in
+        let t3 = and-three d v o first in
+        cc (
+          eqb-true (r .count) (x .d) (sym e1 ∙ t3 .0),
+          verdict-P (verdictOf cs) (x .knot) (sym e2 ∙ t3 .1),
+          isAt-P cs (x .outside) (sym e3 ∙ t3 .2),
+          eqb-true (escapeOf r) (lowestOutsider (waitsFrom x) 1) (and-right (d && v && o) (eqb (escapeOf r) (lowestOutsider (waitsFrom x) 1)) t),
+          mark-of (x .knot),
+        )
 
     at : Tested (wellFormed r) → Tested (over r)
-        → choose (not (wellFormed r)) (Report.Refused 21) (choose (not (over r)) (Report.Refused 26) (reported r e))
-        ≡ Report.Over (x .d) (verdict x) (pos (x .outside)) e (mark x)
+        → choose (not (wellFormed r)) (Report.Refused 21) (choose (not (over r)) (Report.Refused 26) (reported r)) ≡ due x
     at (failed f) _ = absurd (false≢true (rw f at h))
     at (passed f) (failed g) = absurd (false≢true (rw (f, g) at h))
-    at (passed f) (passed g) =
-        rw (f, g) (same (and-three (eqb (r .count) (x .d)) (agree (isKnot (verdictOf cs)) (x .knot)) (isAt cs (x .outside)) (rw (f, g) at h)))
+    at (passed f) (passed g) = rw (f, g) (same _ refl _ refl _ refl (rw (f, g) at h))
 
 -- ---- each row
 
@@ -119,7 +128,7 @@ record Tests (x : PRow) : Type 0 where
   knot : inKnot (waitsFrom x) 1 ≡ x .knot
   outside : outsiders (waitsFrom x) 1 ≡ x .outside
   over : ranFrom (waitsFrom x) .answer ≡ Ran.Over (x .d)
-  reported : (e : ℕ) → report (ranFrom (waitsFrom x) .run) e ≡ Report.Over (x .d) (verdict x) (pos (x .outside)) e (mark x)
+  reported : report (ranFrom (waitsFrom x) .run) ≡ due x
   write : writeNumber (x .n) (x .waits) (tableSize x) ≡ 0
 
 tests-of : (x : PRow) → List·Memᴰ x rows → Tests x
@@ -127,7 +136,7 @@ unfolding holds defined runs writable
 tests-of x m =
     let all3 = and-three (defined x) (runs x) (writable x) (all-at holds rows rows-hold x m) in
     let ran : Bool = overAfter (x .d) (ranFrom (waitsFrom x) .answer) in
-    let told : Bool = reports x (report (ranFrom (waitsFrom x) .run) 0) in
+    let told : Bool = reports x (report (ranFrom (waitsFrom x) .run)) in
     let t = and-three (eqb (dOf (waitsFrom x) 1) (x .d)) (agree (inKnot (waitsFrom x) 1) (x .knot)) (eqb (outsiders (waitsFrom x) 1) (x .outside)) (all3 .0) in
     record {
       d = eqb-true _ _ (t .0);
@@ -153,5 +162,7 @@ row-holds x m =
       knot = ap (λ (v : Waits). inKnot v 1) w ∙ t .knot;
       outside = ap (λ (v : Waits). outsiders v 1) w ∙ t .outside;
       over = ap (λ (v : Waits). ranFrom v .answer) w ∙ t .over;
-      reported = λ e. ap (λ (v : Waits). report (ranFrom v .run) e) w ∙ t .reported e;
+      reported =
+          ap (λ (v : Waits). report (ranFrom v .run)) w ∙ t .reported ∙
+          ap (λ (v : Waits). Report.Over (x .d) (verdict x) (pos (x .outside)) (lowestOutsider v 1) (mark x)) (sym w);
     }

@@ -18,7 +18,7 @@ use Rattle.checks.specs.declared.Verdict.{Verdict}
 use Rattle.checks.specs.declared.Verdict.the-variants.{Knot, Free}
 use Rattle.checks.specs.declared.Report.{Report}
 use Rattle.checks.specs.Calls.{report}
-use Rattle.checks.specs.Reach.{inKnot, outsiders, dOf}
+use Rattle.checks.specs.Reach.{inKnot, outsiders, lowestOutsider, dOf}
 use Rattle.ending.specs.Rows.{PRow, waitsFrom, tableSize, ranFrom}
 
 unfoldable pub agree : Bool → Bool → Bool
@@ -44,13 +44,13 @@ overAfter d (Ran.Over made) = eqb made d
 overAfter d (Spent made) = false
 overAfter d (Ran.Refused n made) = false
 
--- a report with the row's values, whichever process it names as escape
+-- a report with the row's values, and the escape that the definition names
 unfoldable pub reports : PRow → Report → Bool
-reports x (Report.Over d v o e m) = eqb d (x .d) && agree (isKnot v) (x .knot) && isAt o (x .outside)
+reports x (Report.Over d v o e m) = eqb d (x .d) && agree (isKnot v) (x .knot) && isAt o (x .outside) && eqb e (lowestOutsider (waitsFrom x) 1)
 reports x (Report.Refused n) = false
 
 unfoldable pub runs : PRow → Bool
-runs x = overAfter (x .d) (ranFrom (waitsFrom x) .answer) && reports x (report (ranFrom (waitsFrom x) .run) 0)
+runs x = overAfter (x .d) (ranFrom (waitsFrom x) .answer) && reports x (report (ranFrom (waitsFrom x) .run))
 
 -- the writer takes the row's list
 unfoldable pub writable : PRow → Bool

@@ -26,7 +26,7 @@ use Rattle.checks.specs.declared.Mark.the-variants.{Returned, Held}
 use Rattle.checks.specs.declared.Report.{Report}
 use Rattle.checks.specs.Run.{mostDeliveries, startRun}
 use Rattle.checks.specs.Calls.{runOn, report}
-use Rattle.checks.specs.Reach.{inKnot, outsiders, dOf}
+use Rattle.checks.specs.Reach.{inKnot, outsiders, lowestOutsider, dOf}
 
 -- ---- the table
 
@@ -65,7 +65,8 @@ ranFrom w = runOn mostDeliveries (startRun w 1)
 
 -- ---- a row of an accepted table
 
--- the bytes are a table with the row's waits, and D, verdict and outside are the row's, by the definitions and by running the check
+-- the bytes are a table with the row's waits, and D, verdict and outside are the row's, by the definitions and by running the check, which
+-- names as escape whom the definition names
 pub record RowOfTable (x : PRow) (bs : List ℕ) : Type 0 where
   pub accepted : MeetsLayout bs
   pub waits : waitsOf (fieldOf bs) ≡ waitsFrom x
@@ -73,5 +74,5 @@ pub record RowOfTable (x : PRow) (bs : List ℕ) : Type 0 where
   pub knot : inKnot (waitsOf (fieldOf bs)) 1 ≡ x .knot
   pub outside : outsiders (waitsOf (fieldOf bs)) 1 ≡ x .outside
   pub over : ranFrom (waitsOf (fieldOf bs)) .answer ≡ Ran.Over (x .d)
-  pub reported : (e : ℕ) → report (ranFrom (waitsOf (fieldOf bs)) .run) e
-      ≡ Report.Over (x .d) (choose (x .knot) Knot Free) (pos (x .outside)) e (choose (x .knot) Returned Held)
+  pub reported : report (ranFrom (waitsOf (fieldOf bs)) .run)
+      ≡ Report.Over (x .d) (choose (x .knot) Knot Free) (pos (x .outside)) (lowestOutsider (waitsOf (fieldOf bs)) 1) (choose (x .knot) Returned Held)

@@ -2,7 +2,7 @@
 --   computing   == it has no value of its own: `unfolding computing` opens every definition that its own line names
 -- Assumes nothing.
 use Prim.{Unit, tt}
-use Rattle.base.specs.Sums.{sumTo, countTo, allTo, anyTo}
+use Rattle.base.specs.Sums.{sumTo, countTo, allTo, anyTo, lowestTo}
 use Rattle.tables.specs.Table.{fieldOf, isProcess, first, arcAt, near, next}
 use Rattle.tables.specs.Waits.{waitsOf, outDegree, inDegree, neighbours}
 use Rattle.tables.specs.Reading.{walked, walkedTo, chainsRight, sizesRight, endsRight, firstsRight, nextsRight, unlikeBefore, fieldsNumber, readNumber}
@@ -16,7 +16,8 @@ use Rattle.steps.specs.Step.{small, inRange, countSmall, rule1, setSucceeding, 
 use Rattle.steps.specs.Step.{turn, startTurn, numSuffices, replyFits, fitting, lentInRange, stepNumber, stepped, startStepped}
 use Rattle.steps.specs.Step as Steps
 use Rattle.checks.specs.Run.{fatherRight, started, turnOf, replyTo, probesTo, sentTo}
-use Rattle.checks.specs.Calls.{reported, report, readRecord}
+use Rattle.checks.specs.Calls.{escapeOf, reported, report, readRecord}
+use Rattle.checks.specs.Reach.{within, reaches, outsider, lowestOutsider}
 use Rattle.areas.specs.Area.{recordPlace, linkPlace, arcIn, arcOf, linkOf, flagsOf, codeOf, slotWord, linkWord, hasBack, arcWord, wordOf, wordsTo, stored}
 use Rattle.areas.specs.Area.{fieldsIn, messagesAt, runIn, sameWord, holdsWords, areaRight}
 use Rattle.areas.specs.Area as Areas
@@ -31,7 +32,7 @@ use Rattle.examples.specs.States.{words, root, two, receiving, unlinked,
 
 unfoldable pub computing : Unit {0}
 unfolding lowFirst processFields arcFields table one both fork met1 met2 met3 met4 met5 met6 met7 input words root two receiving unlinked area answers
-    sumTo countTo allTo anyTo fieldOf isProcess first arcAt near next waitsOf outDegree inDegree neighbours
+    sumTo countTo allTo anyTo lowestTo fieldOf isProcess first arcAt near next waitsOf outDegree inDegree neighbours
     walked walkedTo chainsRight sizesRight endsRight firstsRight nextsRight unlikeBefore fieldsNumber readNumber Reads.answer Reads.readingOf
     orElse openNumber openAnswer openedOf arcInside nextAnswer nextOf
     end front processField arcField writtenField bytesOf tableOver endsFit given unlike writeNumber outputFor written writingFor writingOf
@@ -40,7 +41,8 @@ unfolding lowFirst processFields arcFields table one both fork met1 met2 met3 me
     MachineCalls.lowestReceiver MachineCalls.lowestSender MachineCalls.lowest
     small inRange countSmall rule1 setSucceeding setPreceding newSubordinate gained rule3 rule4 acknowledged turn startTurn numSuffices replyFits
     fitting lentInRange stepNumber Steps.answer stepped startStepped
-    fatherRight started turnOf replyTo probesTo sentTo reported report readRecord
+    fatherRight started turnOf replyTo probesTo sentTo escapeOf reported report readRecord
+    within reaches outsider lowestOutsider
     recordPlace linkPlace arcIn arcOf linkOf flagsOf codeOf slotWord linkWord hasBack arcWord wordOf wordsTo stored fieldsIn Areas.messageOf
     messagesAt runIn sameWord holdsWords areaRight
     startNumber startAnswer startArea pickAnswer pickArea runOnAnswer runOnArea reportAnswer readAnswer lentAnswer lentRecord

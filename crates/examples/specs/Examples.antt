@@ -43,7 +43,8 @@ use Rattle.checks.specs.declared.Report.{Report}
 use Rattle.checks.specs.declared.Reading.{Reading}
 use Rattle.checks.specs.declared.Reading.the-variants.{Found}
 use Rattle.checks.specs.Run.{Run, startRun}
-use Rattle.checks.specs.Calls.{pick, runOn, report, readRecord, deliveryNumber, deliveryMade, reportNumber, reportEscape, readingNumber}
+use Rattle.checks.specs.Reach.{lowestOutsider}
+use Rattle.checks.specs.Calls.{pick, runOn, escapeOf, report, readRecord, deliveryNumber, deliveryMade, reportNumber, readingNumber}
 use Rattle.checks.specs.Lists.{Promise}
 use Rattle.areas.specs.Area.{runIn}
 use Rattle.starting.specs.declared.Started.{Started}
@@ -54,7 +55,7 @@ use Rattle.lending.specs.Lent.{lentAnswer, lentRecord}
 use Rattle.inputs.specs.Input.{inputNumber, begunNumber, begunArea}
 use Rattle.lines.specs.Text.{bytes, messageText, verdictLine, markLine}
 use Rattle.pickledune.specs.TableValues.{numberOf, nFound, mFound, writingNumber, writtenLength, startedNumber}
-use Rattle.pickledune.specs.Values.{deliveryKind, deliveryCount, ranOver, reportCount, reportKnot, reportOutside, reportReturned}
+use Rattle.pickledune.specs.Values.{deliveryKind, deliveryCount, ranOver, reportCount, reportKnot, reportOutside, reportEscape, reportReturned}
 use Rattle.pickledune.specs.Values.{readingProcess, steppedNumber, steppedProbes, steppedReply}
 use Rattle.pickledune.specs.Interface.{chainOf, messageOf, processOf, probesNumber, replyTo, replyCount}
 use Rattle.examples.specs.States.{minus, lowFirst, table, one, both, fork, met1, met2, met3, met4, met5, met6, met7, input, words, root, two}
@@ -412,18 +413,30 @@ running-order = (refl, refl, refl, refl)
 -- verdict is knot, else *held*"
 
 report-in-order :
-    (report (two 1 0 (root (pos 129) 1) idle [] []) 0 ≡ Report.Refused 21) ×
-    (report (two 1 0 (root (pos 0) 1) idle [] []) 0 ≡ Report.Refused 26) ×
-    (report (two 1 2 (root (pos 0) 0) idle [] []) 0 ≡ Report.Over 2 Knot (pos 0) 0 Returned) ×
-    (report (two 1 2 (root (pos 1) 0) (processOf 1 0 1 (pos 0) 0 1) [] []) 2 ≡ Report.Over 2 Free (pos 1) 2 Held) ×
-    (report (two 1 2 (root (minus 1) 0) idle [] []) 0 ≡ Report.Over 2 Free (minus 1) 0 Held) ×
-    (reportAnswer [] 0 ≡ Report.Refused 21) ×
-    (reportAnswer (area (two 1 0 (root (pos 129) 1) idle [] [])) 0 ≡ Report.Refused 21) ×
-    (reportAnswer (area (two 1 0 (root (pos 0) 1) idle [] [])) 0 ≡ Report.Refused 26) ×
-    (reportAnswer (area (two 1 2 (root (pos 0) 0) idle [] [])) 0 ≡ Report.Over 2 Knot (pos 0) 0 Returned) ×
-    (reportAnswer (area (two 1 2 (root (pos 1) 0) (processOf 1 0 1 (pos 0) 0 1) [] [])) 2 ≡ Report.Over 2 Free (pos 1) 2 Held)
+    (report (two 1 0 (root (pos 129) 1) idle [] []) ≡ Report.Refused 21) ×
+    (report (two 1 0 (root (pos 0) 1) idle [] []) ≡ Report.Refused 26) ×
+    (report (two 1 2 (root (pos 0) 0) idle [] []) ≡ Report.Over 2 Knot (pos 0) 0 Returned) ×
+    (report (two 1 2 (root (pos 1) 0) (processOf 1 0 1 (pos 0) 0 1) [] []) ≡ Report.Over 2 Free (pos 1) 2 Held) ×
+    (report (two 1 2 (root (minus 1) 0) idle [] []) ≡ Report.Over 2 Free (minus 1) 0 Held) ×
+    (reportAnswer [] ≡ Report.Refused 21) ×
+    (reportAnswer (area (two 1 0 (root (pos 129) 1) idle [] [])) ≡ Report.Refused 21) ×
+    (reportAnswer (area (two 1 0 (root (pos 0) 1) idle [] [])) ≡ Report.Refused 26) ×
+    (reportAnswer (area (two 1 2 (root (pos 0) 0) idle [] [])) ≡ Report.Over 2 Knot (pos 0) 0 Returned) ×
+    (reportAnswer (area (two 1 2 (root (pos 1) 0) (processOf 1 0 1 (pos 0) 0 1) [] [])) ≡ Report.Over 2 Free (pos 1) 2 Held)
 unfolding computing
 report-in-order = (refl, refl, refl, refl, refl, refl, refl, refl, refl, refl)
+
+-- 02, N1: "escape is the lowest-numbered process with subordinate 1, and 0 only where there is none"
+escape-lowest :
+    (escapeOf (two 1 2 (processOf 1 0 1 (pos 0) 0 0) (processOf 1 0 1 (pos 0) 0 1) [] []) ≡ 1) ×  -- the first of two, which is the start
+    (escapeOf (two 2 2 (processOf 0 0 1 (pos 0) 0 0) (processOf 1 1 0 (pos 0) 0 1) [] []) ≡ 1) ×  -- subordinate alone counts
+    (escapeOf (two 1 2 (root (pos 0) 0) (processOf 0 0 1 (pos 0) 0 1) [] []) ≡ 2) ×  -- the start is succeeding, and not subordinate
+    (escapeOf (two 1 2 (root (pos 0) 0) (processOf 1 1 0 (pos 0) 0 1) [] []) ≡ 0) ×
+    (lowestOutsider (waitsOf (fieldOf fork)) 1 ≡ 2) ×  -- 1 waits for 2 and for 3
+    (lowestOutsider (waitsOf (fieldOf fork)) 2 ≡ 0) ×
+    (report (runOn 8 (startRun (waitsOf (fieldOf fork)) 1) .run) ≡ Report.Over 4 Free (pos 2) 2 Held)
+unfolding computing
+escape-lowest = (refl, refl, refl, refl, refl, refl, refl)
 
 -- ---- "reading one process's record checks 21, 25"
 

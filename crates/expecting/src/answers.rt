@@ -151,14 +151,6 @@ pub fn read(n: usize, p: usize, answer: Reading, c: Course) -> Course {
     expect(c, is_read(answer, 0 < p && p <= n), faults::RECORD)
 }
 
-// "as escape one of them, 0 if none"
-fn is_escape(found: &[bool; 16899], outside: i32, escape: u32) -> bool {
-    if escape == 0 {
-        return outside == 0;
-    }
-    searching::outsider(found, escape as usize) == 1
-}
-
 // "knot exactly if all processes reachable from the start reach it", and returned exactly with knot.
 fn is_verdict(verdict: Verdict, mark: Mark, outside: i32) -> bool {
     match verdict {
@@ -173,21 +165,21 @@ fn is_verdict(verdict: Verdict, mark: Mark, outside: i32) -> bool {
     }
 }
 
-// The report of the end.
-pub fn is_last_report(report: Report, found: &[bool; 16899], outside: i32, due: u32) -> bool {
+// The report of the end; escape is exactly the number that the search found (02, N1).
+pub fn is_last_report(report: Report, e: Expected, due: u32) -> bool {
     match report {
         Report::Refused(_) => false,
         Report::Over {
             deliveries,
             verdict,
-            outside: told,
+            outside,
             escape,
             mark,
         } => {
             deliveries == due
-                && told == outside
-                && is_verdict(verdict, mark, outside)
-                && is_escape(found, outside, escape)
+                && outside == e.outside
+                && is_verdict(verdict, mark, e.outside)
+                && escape == e.escape
         }
     }
 }

@@ -5,7 +5,8 @@ pub mod faults;
 pub mod starts;
 pub mod words;
 
-// What the search expects of a case: N, M and the start; the waits by those reachable and for those who reach the start; outside.
+// What the search expects of a case: N, M and the start; the waits by those reachable and for those who reach the start; outside and
+// escape.
 pub struct Expected {
     pub n: usize,
     pub m: usize,
@@ -13,4 +14,5 @@ pub struct Expected {
     pub sucs: u32,
     pub pres: u32,
     pub outside: i32,
+    pub escape: u32,
 }

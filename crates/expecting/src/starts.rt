@@ -28,6 +28,7 @@ pub fn found_of(table: &[u8], found: &[bool; 16899], start: usize) -> Expected {
         sucs: searching::waits_by(found),
         pres: searching::waits_for(found),
         outside: signed(searching::outsiders(found)),
+        escape: searching::lowest_outsider(found),
     }
 }
 

@@ -1,13 +1,11 @@
--- What the C interface adds to the calls that it exports: numbers for the cases of an enum, and the parts of two long promises by name.
+-- What the C interface adds to the calls that it exports: numbers for the cases of an enum, and the parts of the step's long promise by name.
 --   chainOf k           == the chain that a number names: 0 the out-chain, any other the in-chain
 --   messageOf k c       == the message that a kind and a count name; a kind that is none of 1, 2, 3 names one whose count is out of range
 --   processOf ..        == a process record from its six values
 --   probesNumber, replyTo, replyCount   == what a step sends, as numbers, zeros where it sends nothing
 --   StepTold m o i p x y ..   == the step of the record x on message m, with degrees o and i, from p, has left the record y and given these values
---   ReportTold w ..     == these are the values of a report on the area w (Reported: escape is left open)
 -- The laws stand in InterfaceLaws. Assumes nothing.
 use Prim.Native.Nat.{ℕ, _+_}
-use mathlib.Core.List.{List}
 use mathlib.Core.Path.{_≡_}
 use lib.Dec.{eqb}
 use lib.IntN.{ℤ, pos}
@@ -22,11 +20,8 @@ use Rattle.steps.specs.declared.Probes.the-variants.{Sucs, Pres}
 use Rattle.steps.specs.declared.Reply.{Reply}
 use Rattle.steps.specs.declared.Reply.the-variants.{To}
 use Rattle.steps.specs.Step.{mostCount, stepped}
-use Rattle.pickledune.specs.Values.{steppedNumber, steppedProbes, steppedReply, reportCount, reportKnot, reportOutside, reportReturned}
+use Rattle.pickledune.specs.Values.{steppedNumber, steppedProbes, steppedReply}
 use Rattle.lending.specs.Lent.{lentRecord}
-use Rattle.checks.specs.declared.Report.{Report}
-use Rattle.checks.specs.Calls.{reportNumber, reportEscape}
-use Rattle.area_calls.specs.AreaCalls.{Reported}
 
 -- "its out- or in-chain"
 unfoldable pub chainOf : ℕ → Chain
@@ -61,13 +56,3 @@ pub record StepTold (m : Message) (o i p : ℕ) (x y : Process) (r b t : ℕ) (z
   pub probes : b ≡ probesNumber (steppedProbes (stepped m o i p x))
   pub to : t ≡ replyTo (steppedReply (stepped m o i p x))
   pub count : z ≡ replyCount (steppedReply (stepped m o i p x))
-
-pub record ReportTold (w : List ℤ) (r d k : ℕ) (o : ℤ) (e m : ℕ) : Type 0 where
-  pub report : Report
-  pub allowed : Reported w report
-  pub number : r ≡ reportNumber report
-  pub deliveries : d ≡ reportCount report
-  pub knot : k ≡ reportKnot report
-  pub outside : o ≡ reportOutside report
-  pub escape : e ≡ reportEscape report
-  pub returned : m ≡ reportReturned report

@@ -4,7 +4,7 @@
 --   deliveryKind, deliveryCount   == "It answers with that message": its kind and its count
 --   ranOver             == "It says over, or spent": 1 if over
 --   knotBit, returnedBit   == 1 for the verdict knot, and for the mark returned
---   reportCount, reportKnot, reportOutside, reportReturned   == "over count", the verdict, "outside = cs of s", the mark
+--   reportCount, reportKnot, reportOutside, reportEscape, reportReturned   == "over count", the verdict, "outside = cs of s", the escape, the mark
 --   readingProcess      == the record that was read
 --   steppedNumber, steppedProbes, steppedReply   == the number of a step, and "the probes to broadcast and the one acknowledgement to send"
 -- Assumes nothing.
@@ -69,6 +69,11 @@ reportKnot (Report.Refused n) = 0
 abbrev pub reportOutside : Report → ℤ
 reportOutside (Report.Over d v o e m) = o
 reportOutside (Report.Refused n) = pos 0
+
+-- the process that a report names
+abbrev pub reportEscape : Report → ℕ
+reportEscape (Report.Over d v o e m) = e
+reportEscape (Report.Refused n) = 0
 
 abbrev pub returnedBit : Mark → ℕ
 returnedBit Returned = 1

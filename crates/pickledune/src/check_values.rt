@@ -10,9 +10,9 @@ use steps::Message;
 use steps::Process;
 ghost use mathlib.Core.Path.{_≡_};
 ghost use Rattle.pickledune.specs.Values.{kindOf, deliveryKind, deliveryCount, knotBit, returnedBit};
-ghost use Rattle.pickledune.specs.Values.{reportCount, reportKnot, reportOutside, reportReturned, readingProcess, ranOver};
+ghost use Rattle.pickledune.specs.Values.{reportCount, reportKnot, reportOutside, reportEscape, reportReturned, readingProcess, ranOver};
 ghost use Rattle.steps.specs.Effect.{countOf};
-ghost use Rattle.checks.specs.Calls.{deliveryNumber, reportNumber, reportEscape, readingNumber};
+ghost use Rattle.checks.specs.Calls.{deliveryNumber, reportNumber, readingNumber};
 ghost use Rattle.machine.specs.Calls.{ranNumber, ranMade};
 ghost use Rattle.pickledune.specs.TableValues.{startedNumber};
 

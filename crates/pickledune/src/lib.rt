@@ -12,12 +12,13 @@ ghost use Rattle.tables.specs.Reading.{readingOf};
 ghost use Rattle.pickledune.specs.TableValues.{numberOf, nFound, mFound, writingNumber, writtenLength, startedNumber};
 ghost use Rattle.table_writer.specs.Writing.{writingOf, written};
 ghost use Rattle.tables.specs.Walking.{openedOf, openedNumber, openedArc, nextOf, nextArc};
-ghost use Rattle.checks.specs.Calls.{deliveryNumber, readingNumber};
-ghost use Rattle.pickledune.specs.Values.{deliveryKind, deliveryCount, readingProcess, ranOver};
+ghost use Rattle.checks.specs.Calls.{deliveryNumber, reportNumber, readingNumber};
+ghost use Rattle.pickledune.specs.Values.{deliveryKind, deliveryCount, ranOver, reportCount, reportKnot, reportOutside, reportEscape};
+ghost use Rattle.pickledune.specs.Values.{reportReturned, readingProcess};
 ghost use Rattle.machine.specs.Calls.{ranNumber, ranMade};
 ghost use Rattle.starting.specs.StartCall.{startAnswer, startArea};
-ghost use Rattle.area_calls.specs.AreaCalls.{pickAnswer, pickArea, runOnAnswer, runOnArea, readAnswer};
-ghost use Rattle.pickledune.specs.Interface.{chainOf, messageOf, processOf, StepTold, ReportTold};
+ghost use Rattle.area_calls.specs.AreaCalls.{pickAnswer, pickArea, runOnAnswer, runOnArea, reportAnswer, readAnswer};
+ghost use Rattle.pickledune.specs.Interface.{chainOf, messageOf, processOf, StepTold};
 
 // Reads a table: its N and M. 1 to 7.
 #[no_mangle]
@@ -126,8 +127,12 @@ pub extern "C" fn pickledune_report(
     escape: &mut u32,
     returned: &mut u32,
 ) -> u32
-    ensures { λ r. ⌜ ReportTold (now (area .entry)) r (now (deliveries .exit)) (now (knot .exit)) (now (outside .exit)) (now (escape .exit))
-        (now (returned .exit)) ⌝ }
+    ensures number { λ r. ⌜ r ≡ reportNumber (reportAnswer (now (area .entry))) ⌝ }
+    ensures deliveries { λ _. ⌜ now (deliveries .exit) ≡ reportCount (reportAnswer (now (area .entry))) ⌝ }
+    ensures knot { λ _. ⌜ now (knot .exit) ≡ reportKnot (reportAnswer (now (area .entry))) ⌝ }
+    ensures outside { λ _. ⌜ now (outside .exit) ≡ reportOutside (reportAnswer (now (area .entry))) ⌝ }
+    ensures escape { λ _. ⌜ now (escape .exit) ≡ reportEscape (reportAnswer (now (area .entry))) ⌝ }
+    ensures returned { λ _. ⌜ now (returned .exit) ≡ reportReturned (reportAnswer (now (area .entry))) ⌝ }
 {
     let v = check_values::report_values(reports::report(area));
     *deliveries = v.deliveries;

@@ -1,4 +1,4 @@
--- What an inner function of the report promises (Told), and each way out of a report (ReportLaws). What a report answers stands in the crate
+-- What the inner functions of the report promise (Told), and the laws of these (ReportLaws). What a report answers stands in the crate
 -- area_calls, AreaCalls.
 pub mod Told
 pub mod ReportLaws

@@ -1,22 +1,25 @@
--- A report by the first thing that is met.
---   verdict-knot, verdict-free              == the verdict by the sum
---   reported-21, reported-26, reported-over == an area that is not well formed; a report before the end, and at the end
+-- A report by its parts.
+--   verdict-knot, verdict-free   == the verdict by the sum
+--   wayOut-found, wayOut-first, wayOut-none   == a way out was found before; this is the first; there is none yet
+--   escape-first, escape-next, escape-last   == the loop that looks for the escape: before the first process, after one more, after the last
+--   report-told                  == the report at the end, made of the start's record, the count and the escape
 -- Assumes nothing.
-use Prim.Native.Nat.{ℕ, zero, suc}
-use mathlib.Core.Bool.{true, false}
+use Prim.Native.Nat.{ℕ, zero, suc, _+_, _-_, _≤_}
+use mathlib.Core.Bool.{true}
 use mathlib.Core.List.{List}
-use mathlib.Core.Path.{_≡_, refl}
-use borrow.Author.Tests.{eqb-false}
+use mathlib.Core.Path.{_≡_, refl, sym, ap, _∙_}
+use native.Mathlib.Omega.{arith}
+use borrow.Author.Tests.{eq-eqb, ne-eqb}
 use lib.IntN.{ℤ, pos, negsuc}
+use Rattle.base.specs.PrefixLaws.{lowestTo-none, lowestTo-more}
 use Rattle.steps.specs.declared.Process.{Process}
-use Rattle.checks.specs.declared.Report.{Report}
 use Rattle.checks.specs.declared.Verdict.the-variants.{Knot, Free}
-use Rattle.checks.specs.Run.{over}
-use Rattle.checks.specs.Calls.{Escape, verdictOf, reported}
+use Rattle.checks.specs.Run.{Run, over}
+use Rattle.checks.specs.Calls.{isSubordinate, escapeOf, verdictOf, reported}
 use Rattle.areas.specs.Area.{runIn, areaRight}
-use Rattle.area_calls.specs.AreaCalls.{Reported}
-use Rattle.area_calls.specs.CallLaws.{report-21, report-26, report-over}
-use Rattle.reports.specs.Told.{toldOf}
+use Rattle.area_calls.specs.AreaCalls.{reportAnswer}
+use Rattle.area_calls.specs.CallLaws.{report-over}
+use Rattle.reports.specs.Told.{escapeTo, wayOut, toldOf}
 
 pub verdict-knot : (z : ℤ) → z ≡ pos 0 → verdictOf z ≡ Knot
 verdict-knot z e = rw e
@@ -26,14 +29,40 @@ verdict-free (pos zero) h = absurd (h refl)
 verdict-free (pos (suc n)) h = refl
 verdict-free (negsuc n) h = refl
 
-pub reported-21 : (w : List ℤ) → areaRight w ≡ false → Reported w (Report.Refused 21)
-reported-21 w e = record { answer = report-21 w e 0; names = λ z. absurd (eqb-false 21 0 refl z) }
+-- ---- the escape, process by process
 
-module _ (w : List ℤ) (e : areaRight w ≡ true) where
-  pub reported-26 : over (runIn w) ≡ false → Reported w (Report.Refused 26)
-  reported-26 o = record { answer = report-26 w e 0 o; names = λ z. absurd (eqb-false 26 0 refl z) }
+module _ (e : ℕ) (x : Process) (p : ℕ) where
+  pub wayOut-found : (e ≡ 0 → ⊥) → e ≡ wayOut e x p
+  wayOut-found h = at e h
+    where
+      at : (e : ℕ) → (e ≡ 0 → ⊥) → e ≡ wayOut e x p
+      at zero h = absurd (h refl)
+      at (suc e) h = refl
 
-  pub reported-over : over (runIn w) ≡ true → (x : Process) (d n : ℕ) → x ≡ runIn w .process (runIn w .start) → d ≡ runIn w .count → Escape (runIn w) n →
-      Reported w (toldOf x d n)
-  unfolding reported
-  reported-over o x d n p q s = record { answer = rw (p, q) (report-over w e n o); names = λ z. s }
+  pub wayOut-first : e ≡ 0 → x .subordinate ≡ 1 → p ≡ wayOut e x p
+  wayOut-first z f = rw (z, eq-eqb (x .subordinate) 1 f)
+
+  pub wayOut-none : e ≡ 0 → (x .subordinate ≡ 1 → ⊥) → e ≡ wayOut e x p
+  wayOut-none z f = rw (z, ne-eqb (x .subordinate) 1 f)
+
+pub escape-first : (r : Run) → 0 ≡ escapeTo r (1 - 1)
+escape-first r = sym (lowestTo-none (λ p. isSubordinate (r .process p)))
+
+pub escape-next : (r : Run) (p : ℕ) → 1 ≤ p → (e f : ℕ) (x : Process) → e ≡ escapeTo r (p - 1) → x ≡ r .process p → f ≡ wayOut e x p
+    → f ≡ escapeTo r (p + 1 - 1)
+escape-next r p l e f x before is after =
+    let end : p + 1 - 1 ≡ p = omega arith in
+    rw (end, lowestTo-more p (λ q. isSubordinate (r .process q)) l) (after ∙ rw (before, is) refl)
+
+pub escape-last : (r : Run) (n p e : ℕ) → r .waits .n ≡ n → p ≡ n + 1 → e ≡ escapeTo r (p - 1) → e ≡ escapeOf r
+unfolding escapeOf
+escape-last r n p e is last all =
+    let end : p - 1 ≡ r .waits .n = omega arith in
+    all ∙ ap (escapeTo r) end
+
+-- ---- the report at the end
+
+pub report-told : (w : List ℤ) → areaRight w ≡ true → over (runIn w) ≡ true → (x : Process) (d e : ℕ) → x ≡ runIn w .process (runIn w .start)
+    → d ≡ runIn w .count → e ≡ escapeOf (runIn w) → toldOf x d e ≡ reportAnswer w
+unfolding reported
+report-told w right o x d e p q s = rw (p, q, s) (report-over w right o)

@@ -13,24 +13,36 @@ use tables::is_process;
 ghost use mathlib.Core.Path.{_≡_};
 ghost use Prim.Native.Nat.{_+_};
 ghost use Rattle.areas.specs.Area.{runIn};
-ghost use Rattle.checks.specs.Calls.{Escape};
+ghost use Rattle.checks.specs.Calls.{escapeOf};
 ghost use Rattle.lenses.specs.Ready.{Ready};
-ghost use Rattle.area_calls.specs.AreaCalls.{Reported, readAnswer};
-ghost use Rattle.reports.specs.Told.{toldOf};
+ghost use Rattle.area_calls.specs.AreaCalls.{reportAnswer, readAnswer};
+ghost use Rattle.reports.specs.Told.{wayOut, toldOf};
 
-// The lowest process with subordinate 1, or 0 if there is none.
+// The way out that was found before, or else process p, if it is one.
+fn way_out(found: u32, x: Process, p: u32) -> u32
+    ensures { λ r. ⌜ r ≡ wayOut found x p ⌝ }
+{
+    if found != 0 {
+        return found;
+    }
+    if x.subordinate == 1 {
+        return p;
+    }
+    found
+}
+
+// 02, N1: the lowest-numbered process with subordinate 1, and 0 only where there is none.
 fn escape_of(area: &[i32], square: &[u16; tables::SQUARE_SIZE], n: usize, m: usize) -> u32
     requires { ⌜ Ready (now area) (now square) n m ⌝ }
-    ensures { λ r. ⌜ Escape (runIn (now (area .entry))) r ⌝ }
+    ensures { λ r. ⌜ r ≡ escapeOf (runIn (now (area .entry))) ⌝ }
 {
+    let mut found: u32 = 0;
     let end = n + 1;
     for p in 1..end {
         let x = records::process(area, square, n, m, p);
-        if x.subordinate == 1 {
-            return p as u32;
-        }
+        found = way_out(found, x, p as u32);
     }
-    0
+    found
 }
 
 // The report by the start's record.
@@ -58,7 +70,7 @@ fn told(start: Process, deliveries: u32, escape: u32) -> Report
 
 // The report of a run that is over: 21, 26.
 pub fn report(area: &[i32]) -> Report
-    ensures { λ r. ⌜ Reported (now (area .entry)) r ⌝ }
+    ensures { λ r. ⌜ r ≡ reportAnswer (now (area .entry)) ⌝ }
 {
     let mut square = [0u16; tables::SQUARE_SIZE];
     let Sizes::Right { n, m } = testing::test(area, &mut square) else {

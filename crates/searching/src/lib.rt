@@ -1,6 +1,6 @@
 // A plain search of a wait graph, written apart from the library that it judges: its own reader of the waits in a table's bytes, its own
-// reachability, and the numbers of "The end of a check" (01) counted from them. It stands on no other crate and refuses nothing: past the
-// bytes, or for numbers that are no process, it finds nothing. It promises only that it is safe and ends.
+// reachability, and the numbers of "The end of a check" (01; escape: 02, N1) found from them. It stands on no other crate and refuses
+// nothing: past the bytes, or for numbers that are no process, it finds nothing. It promises only that it is safe and ends.
 //
 // What it finds stands in 131 rows of 129 cells: in row p for whom p waits, in row 129 who is reachable from the start, in row 130 who
 // reaches it.
@@ -178,4 +178,14 @@ pub fn outsiders(found: &[bool; 16899]) -> u32 {
         count = counted(count, outsider(found, p) == 1);
     }
     count
+}
+
+// The lowest-numbered process that is reachable and does not reach the start, 0 if there is none (02, N1).
+pub fn lowest_outsider(found: &[bool; 16899]) -> u32 {
+    for p in 1..129 {
+        if outsider(found, p) == 1 {
+            return p as u32;
+        }
+    }
+    0
 }

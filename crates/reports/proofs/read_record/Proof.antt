@@ -1,4 +1,4 @@
--- `reports::read_record` meets its contract: each way out is a law of CallLaws.
+-- `reports::read_record` meets its contract: each return is a law of CallLaws.
 -- Assumes nothing.
 use mathlib.Core.Path.{refl, ap, _∙_}
 use borrow.Author.Needs.{needs}

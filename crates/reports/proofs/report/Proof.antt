@@ -1,4 +1,4 @@
--- `reports::report` meets its contract: each way out is a law of ReportLaws.
+-- `reports::report` meets its contract: each return is a law.
 -- Assumes nothing.
 use Prim.Native.Nat.{ℕ}
 use mathlib.Core.Path.{refl, sym, ap, _∙_}
@@ -11,7 +11,8 @@ use Rattle.lenses.specs.Ready.{Ready}
 use Rattle.lenses.specs.ReadyLaws.{right-storable, ready-n}
 use Rattle.machine.specs.FormedLaws.{wellFormed-P}
 use Rattle.checks.specs.Run.{knot}
-use Rattle.reports.specs.ReportLaws.{reported-21, reported-26, reported-over}
+use Rattle.area_calls.specs.CallLaws.{report-21, report-26}
+use Rattle.reports.specs.ReportLaws.{report-told}
 use Rattle.area_calls.specs.TestedLaws.{fresh-long, fresh-empty, wrong-area, right-ready}
 use Rattle.reports.proofs.report.Statement.{statement}
 use Rattle.reports.proofs.report.Tie as tie
@@ -23,7 +24,7 @@ returns : tie.Need-returns
 returns c =
     let test = c .before .before .test in
     let a = c .before .before .before .before .args in
-    reported-21 (a .area .now) (wrong-area (a .area .now) _ (test .ensures .0) (c .enum-told .given .1))
+    report-21 (a .area .now) (wrong-area (a .area .now) _ (test .ensures .0) (c .enum-told .given .1))
 
 -- the area is ready from the test on
 ready : (c : tie.After-square2) → let told = c .before in let test = told .before .before .before .test in Ready
@@ -39,7 +40,7 @@ is-over-requires c κs = ready c
 returns-2 : tie.Need-returns-2
 returns-2 c =
     let y = ready (c .before .before) in
-    reported-26 _ (y .right) (sym (c .before .is-over .ensures) ∙ not-true _ (c .if1 .taken))
+    report-26 _ (y .right) (sym (c .before .is-over .ensures) ∙ not-true _ (c .if1 .taken))
 
 escape-of-requires : tie.Need-escape-of-requires
 escape-of-requires c κs = ready (c .before .before .before)
@@ -66,7 +67,7 @@ returns-3 c =
     let w = over .before .before .before .before .before .before .before .args .area .now in
     let y = ready (over .before) in
     rw (c .told .ensures)
-    (reported-over _ (y .right) (sym (over .is-over .ensures) ∙ not-false _ (escape .before .before .if1 .left)) _ _ _
+    (report-told _ (y .right) (sym (over .is-over .ensures) ∙ not-false _ (escape .before .before .if1 .left)) _ _ _
     (process .process .ensures ∙ ap (λ (s : ℕ). runIn w .process s) (start .start-of .ensures))
     (count .count-of .ensures)
     (escape .escape-of .ensures))

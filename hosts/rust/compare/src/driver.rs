@@ -1,7 +1,6 @@
 //! One call made on both libraries with the same bytes and words, and all that came of it
 //! compared: the number, every value, and every byte and word that was lent.
 
-use crate::layout::SUBORDINATE;
 use calls::{Answer, Calls, LentRecord, Plain, Received};
 use std::collections::BTreeMap;
 use std::fmt::{self, Debug, Display, Formatter};
@@ -258,14 +257,12 @@ impl<'a, L: Calls> Driver<'a, L> {
 
     fn difference(&self, call: Call, by_library: &Answer, by_plain: &Answer) -> Option<String> {
         let (library, plain) = (&self.library_lent, &self.plain_lent);
-        let answers_differ = numbers(by_library, call) != numbers(by_plain, call);
         let parts = [
-            answers_differ.then(|| "the answers differ".to_string()),
+            (by_library != by_plain).then(|| "the answers differ".to_string()),
             first_difference("table byte", &library.table, &plain.table),
             first_difference("list entry", &library.list, &plain.list),
             first_difference("output byte", &library.out, &plain.out),
             first_difference("area word", &library.area, &plain.area),
-            if answers_differ { None } else { escape_wrong(call, by_library, &plain.area) },
         ];
         let parts: Vec<String> = parts.into_iter().flatten().collect();
         if parts.is_empty() {
@@ -274,35 +271,6 @@ impl<'a, L: Calls> Driver<'a, L> {
         let (by_library, by_plain) = (call.describe(by_library), call.describe(by_plain));
         Some(format!("library: {by_library}\nplain:   {by_plain}\n{}", parts.join("\n")))
     }
-}
-
-const ESCAPE: usize = 3;
-
-/// The number and the values of an answer, without the one that 01 leaves open.
-fn numbers(answer: &Answer, call: Call) -> [i64; 10] {
-    let mut numbers = [i64::from(answer.number); 10];
-    numbers[1..].copy_from_slice(&answer.values);
-    if matches!(call, Call::Report) && answer.number == 0 {
-        numbers[1 + ESCAPE] = 0;
-    }
-    numbers
-}
-
-/// 01: escape names a process with subordinate 1, and is 0 exactly if none has.
-fn escape_wrong(call: Call, answer: &Answer, area: &[i32]) -> Option<String> {
-    if !matches!(call, Call::Report) || answer.number != 0 {
-        return None;
-    }
-    let (n, m) = (area[14] as usize, area[15] as usize);
-    let is_subordinate =
-        |process: usize| area[16 + 2 * n + 4 * m + 6 * (process - 1)] & SUBORDINATE != 0;
-    let escape = answer.values[ESCAPE];
-    let right = match usize::try_from(escape) {
-        Ok(0) => !(1..=n).any(is_subordinate),
-        Ok(process) => process <= n && is_subordinate(process),
-        Err(_) => false,
-    };
-    (!right).then(|| format!("escape {escape} is not as 01 has it"))
 }
 
 fn first_difference<T: PartialEq + Debug>(

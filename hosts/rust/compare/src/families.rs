@@ -2,7 +2,7 @@
 //! family can be repeated alone.
 
 use crate::driver::{Call, Driver, Lent, Outcome};
-use crate::graphs::{Graph, Scale, MOST_ARCS, MOST_PROCESSES};
+use crate::graphs::{Graph, Scale, WaysOut, MOST_ARCS, MOST_PROCESSES};
 use crate::layout::{draw_area, draw_count, draw_num, links, Link};
 use crate::rng::Rng;
 use calls::{Calls, LentRecord, Received};
@@ -10,7 +10,7 @@ use calls::{Calls, LentRecord, Received};
 type Family<L> = fn(&mut Driver<L>, &mut Rng, u64) -> Outcome<()>;
 
 /// Every family with its name and the least number of calls in a whole comparison.
-pub fn families<L: Calls>() -> [(&'static str, u64, Family<L>); 11] {
+pub fn families<L: Calls>() -> [(&'static str, u64, Family<L>); 12] {
     [
         ("valid tables", 150_000, valid_tables),
         ("damaged tables", 200_000, damaged_tables),
@@ -23,6 +23,7 @@ pub fn families<L: Calls>() -> [(&'static str, u64, Family<L>); 11] {
         ("areas with surplus or missing words", 80_000, surplus_areas),
         ("any words", 40_000, any_words),
         ("one process's step", 200_000, steps),
+        ("ways out, the lowest reached last", 50_000, ways_out),
     ]
 }
 
@@ -320,15 +321,34 @@ fn any_taste(rng: &mut Rng) -> Taste {
 fn valid_areas<L: Calls>(driver: &mut Driver<L>, rng: &mut Rng, least: u64) -> Outcome<()> {
     while driver.calls_in_family() < least {
         let graph = Graph::any(rng);
-        check_whole(driver, rng, &graph)?;
+        let start = rng.within(1, graph.n);
+        check_whole(driver, rng, &graph, start, &[])?;
     }
     Ok(())
 }
 
-/// A check from start to end in a drawn order; its end is held against a graph search too.
-fn check_whole<L: Calls>(driver: &mut Driver<L>, rng: &mut Rng, graph: &Graph) -> Outcome<()> {
-    let start = rng.within(1, graph.n);
+/// Checks with several ways out, of which the lowest is first reached last (02, N1).
+fn ways_out<L: Calls>(driver: &mut Driver<L>, rng: &mut Rng, least: u64) -> Outcome<()> {
+    while driver.calls_in_family() < least {
+        let WaysOut { graph, start, picks } = Graph::with_ways_out(rng);
+        check_whole(driver, rng, &graph, start, &picks)?;
+    }
+    Ok(())
+}
+
+/// A check from start to end, first by these picks and then in a drawn order; its end is held
+/// against a graph search too.
+fn check_whole<L: Calls>(
+    driver: &mut Driver<L>,
+    rng: &mut Rng,
+    graph: &Graph,
+    start: usize,
+    picks: &[(usize, usize)],
+) -> Outcome<()> {
     let (mut lent, links) = begin(driver, rng, graph, start)?;
+    for &(from, to) in picks {
+        driver.make(Call::Pick { from, to }, &mut lent)?;
+    }
     let taste = any_taste(rng);
     let patience = rng.choose(&[5, 50, 3000]);
     for _ in 0..patience {
@@ -356,14 +376,15 @@ fn hold_against_search<L: Calls>(
     lent: &mut Lent,
 ) -> Outcome<()> {
     let end = graph.end(start);
-    let outside = end.outside as i64;
-    let knot = i64::from(end.outside == 0);
+    let outside = end.outside.len() as i64;
+    let knot = i64::from(outside == 0);
+    // 02, N1: the lowest of those with subordinate 1, who at the end are those outside.
+    let escape = end.outside.first().map_or(0, |&process| process as i64);
     let report = driver.make(Call::Report, lent)?;
-    let [deliveries, found_knot, found_outside, _, returned, ..] = report.values;
-    let found = (report.number, deliveries, found_knot, found_outside, returned);
-    let expected = (0, end.deliveries as i64, knot, outside, knot);
-    if found != expected {
-        let what = format!("both report {found:?}, the graph search {expected:?}");
+    let expected = [end.deliveries as i64, knot, outside, escape, knot];
+    if report.number != 0 || report.values[..5] != expected {
+        let found = &report.values[..5];
+        let what = format!("both report {found:?}, the graph search has {expected:?}");
         return Err(driver.found(Call::Report, lent, what));
     }
     for process in 1..=graph.n {
@@ -398,7 +419,8 @@ fn largest_checks<L: Calls>(driver: &mut Driver<L>, rng: &mut Rng, least: u64) -
             1 => ring.clone(),
             _ => Graph::draw(rng, Scale::Large),
         };
-        check_whole(driver, rng, &graph)?;
+        let start = rng.within(1, graph.n);
+        check_whole(driver, rng, &graph, start, &[])?;
     }
     Ok(())
 }

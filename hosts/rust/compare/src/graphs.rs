@@ -12,6 +12,13 @@ pub struct Graph {
     pub waits: Vec<(usize, usize)>,
 }
 
+/// A check, and the picks that it begins with.
+pub struct WaysOut {
+    pub graph: Graph,
+    pub start: usize,
+    pub picks: Vec<(usize, usize)>,
+}
+
 /// How large a drawn graph may be.
 #[derive(Clone, Copy, Debug)]
 pub enum Scale {
@@ -99,6 +106,50 @@ impl Graph {
         Graph { n, waits }
     }
 
+    /// A check with two ways out or more, of which the lowest-numbered is first reached last.
+    ///
+    /// Some processes stand in a circle with the start, of any numbers: they are reachable and no
+    /// ways out. Some wait for the start only, or for nobody and nobody for them. The ways out,
+    /// highest first, either are a path from the end of the circle, where no order of messages
+    /// can reach one before those in front of it; or the start waits for each, and the picks
+    /// reach them one by one. Waits from a way out to those before it make no way shorter.
+    pub fn with_ways_out(rng: &mut Rng) -> WaysOut {
+        let n = if rng.one_in(64) { MOST_PROCESSES } else { rng.within(3, 24) };
+        let start = rng.within(1, n);
+        let mut others: Vec<usize> = (1..=n).filter(|&process| process != start).collect();
+        rng.shuffle(&mut others);
+        let mut out = others.split_off(rng.below(others.len() - 1));
+        out.sort_by_key(|&process| std::cmp::Reverse(process));
+        let apart = others.split_off(rng.below(others.len() + 1));
+        let mut waits: Vec<_> =
+            apart.into_iter().filter(|_| rng.one_in(2)).map(|process| (process, start)).collect();
+        let mut last = start;
+        for &process in &others {
+            waits.push((last, process));
+            last = process;
+        }
+        if last != start {
+            waits.push((last, start));
+        }
+        let mut picks = Vec::new();
+        if rng.one_in(2) {
+            picks.extend(out.iter().map(|&process| (start, process)));
+            waits.extend(&picks);
+        } else {
+            for &process in &out {
+                waits.push((last, process));
+                last = process;
+            }
+        }
+        for place in 0..out.len() {
+            if rng.one_in(3) {
+                waits.push((out[place], out[rng.below(place + 1)]));
+            }
+        }
+        rng.shuffle(&mut waits);
+        WaysOut { graph: Graph { n, waits }, start, picks }
+    }
+
     /// The waits as a list for the writer.
     pub fn list(&self) -> Vec<u16> {
         self.waits.iter().flat_map(|&(from, to)| [from as u16, to as u16]).collect()
@@ -135,7 +186,7 @@ impl Graph {
         let reaching = self.search(start, |&(from, to)| (to, from));
         let once = self.waits.iter().filter(|&&(from, _)| reachable[from]).count()
             + self.waits.iter().filter(|&&(_, to)| reaching[to]).count();
-        let outside = (1..=self.n).filter(|&p| reachable[p] && !reaching[p]).count();
+        let outside = (1..=self.n).filter(|&p| reachable[p] && !reaching[p]).collect();
         End { reachable, reaching, deliveries: 2 * once, outside }
     }
 
@@ -161,10 +212,32 @@ impl Graph {
 }
 
 /// The end of a check: by process from 1, who is reachable from the start and who reaches it;
-/// the number D; the number of processes outside.
+/// the number D; the processes outside, lowest first.
 pub struct End {
     pub reachable: Vec<bool>,
     pub reaching: Vec<bool>,
     pub deliveries: usize,
-    pub outside: usize,
+    pub outside: Vec<usize>,
+}
+
+#[test]
+fn the_lowest_way_out_is_first_reached_last() {
+    let mut rng = Rng::new(7);
+    for _ in 0..500 {
+        let WaysOut { mut graph, start, picks } = Graph::with_ways_out(&mut rng);
+        let outside = graph.end(start).outside;
+        assert!(outside.len() > 1);
+        if !picks.is_empty() {
+            let falling: Vec<_> =
+                outside.into_iter().rev().map(|process| (start, process)).collect();
+            assert_eq!(picks, falling);
+            continue;
+        }
+        // What comes to the lowest has come to every other one first.
+        let waits = graph.waits.clone();
+        for other in &outside[1..] {
+            graph.waits = waits.iter().copied().filter(|(from, _)| from != other).collect();
+            assert!(!graph.end(start).reachable[outside[0]]);
+        }
+    }
 }

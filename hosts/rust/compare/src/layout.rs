@@ -4,7 +4,6 @@
 use crate::graphs::Graph;
 use crate::rng::Rng;
 
-pub const SUBORDINATE: i32 = 4;
 const HEADING: usize = 14;
 
 /// The link between two neighbours, and the word where its messages begin.

@@ -30,6 +30,9 @@ enum Fault {
     ReportHasAFixedVerdict,
     ReportNamesTheStartAsEscape,
     ReportNamesNoEscape,
+    ReportNamesTheHighestEscape,
+    ReportPassesOverProcess1,
+    ReportNamesTheLowestSucceeding,
     ReportCountsOneMore,
     ReportWritesIntoTheArea,
     RecordHasNoFather,
@@ -41,6 +44,16 @@ enum Fault {
     StepTakesOtherKindsForAcknowledgements,
 }
 use Fault::*;
+
+/// Places of two flags among the values of reading a record.
+const SUCCEEDING: usize = 0;
+const SUBORDINATE: usize = 2;
+
+/// The first of these processes whose record has the flag, or 0.
+fn first_with(flag: usize, area: &mut [i32], mut processes: impl Iterator<Item = usize>) -> i64 {
+    let first = processes.find(|&process| Plain.read_record(area, process).values[flag] == 1);
+    first.map_or(0, |process| process as i64)
+}
 
 struct Planted(Fault);
 
@@ -163,10 +176,22 @@ impl Calls for Planted {
     fn report(&self, area: &mut [i32]) -> Answer {
         let mut answer = self.seen(area, |area| Plain.report(area));
         if answer.number == 0 {
+            let processes = area[14] as usize;
             match self.0 {
                 ReportHasAFixedVerdict => answer.values[1] = 1,
                 ReportNamesTheStartAsEscape => answer.values[3] = area[1].into(),
                 ReportNamesNoEscape => answer.values[3] = 0,
+                ReportNamesTheHighestEscape => {
+                    answer.values[3] = first_with(SUBORDINATE, area, (1..=processes).rev())
+                }
+                ReportPassesOverProcess1 => {
+                    answer.values[3] = first_with(SUBORDINATE, area, 2..=processes)
+                }
+                ReportNamesTheLowestSucceeding => {
+                    let start = area[1] as usize;
+                    let others = (1..=processes).filter(|&process| process != start);
+                    answer.values[3] = first_with(SUCCEEDING, area, others)
+                }
                 ReportCountsOneMore => answer.values[0] += 1,
                 ReportWritesIntoTheArea => area[2] ^= 1,
                 _ => {}
@@ -245,6 +270,9 @@ fn every_planted_fault_is_found_and_its_call_named() {
         (ReportHasAFixedVerdict, "Report"),
         (ReportNamesTheStartAsEscape, "Report"),
         (ReportNamesNoEscape, "Report"),
+        (ReportNamesTheHighestEscape, "Report"),
+        (ReportPassesOverProcess1, "Report"),
+        (ReportNamesTheLowestSucceeding, "Report"),
         (ReportCountsOneMore, "Report"),
         (ReportWritesIntoTheArea, "Report"),
         (RecordHasNoFather, "ReadRecord"),

@@ -1,5 +1,5 @@
 //! The check program compared with the plain Rust on inputs drawn from the generator: all of its
-//! output, but for the process that escape names.
+//! output.
 
 use crate::graphs::Graph;
 use crate::layout::links;
@@ -19,7 +19,7 @@ pub fn compare(program: &Path, seed: u64) -> Result<usize, String> {
         plain::check_program(&input, &mut expected);
         let found =
             run(program, &input).map_err(|error| format!("{}: {error}", program.display()))?;
-        if !agree(&found, &expected) {
+        if found != expected {
             let (found, expected) =
                 (String::from_utf8_lossy(&found), String::from_utf8_lossy(&expected));
             return Err(format!(
@@ -66,30 +66,4 @@ fn draw_input(rng: &mut Rng) -> Vec<u8> {
         _ => {}
     }
     input
-}
-
-/// Equal line by line, but escape may name any process whose line has subordinate 1.
-fn agree(found: &[u8], expected: &[u8]) -> bool {
-    let lines = |text: &[u8]| -> Vec<String> {
-        text.split_inclusive(|&byte| byte == b'\n')
-            .map(|line| String::from_utf8_lossy(line).into_owned())
-            .collect()
-    };
-    let (found, expected) = (lines(found), lines(expected));
-    let is_subordinate = |process: &str| {
-        found.iter().any(|line| {
-            let fields: Vec<&str> = line.split_whitespace().collect();
-            matches!(fields[..], ["process", number, _, _, "1", ..] if number == process)
-        })
-    };
-    found.len() == expected.len()
-        && found.iter().zip(&expected).all(|(a, b)| {
-            a == b
-                || match (a.strip_prefix("escape "), b.strip_prefix("escape ")) {
-                    (Some(process), Some(other)) => {
-                        other != "0\n" && is_subordinate(process.trim_end_matches('\n'))
-                    }
-                    _ => false,
-                }
-        })
 }

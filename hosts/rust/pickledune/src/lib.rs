@@ -100,7 +100,7 @@ pub struct Report {
     pub verdict: Verdict,
     /// How many processes that the start waits for, at any remove, do not wait for it.
     pub outside: i32,
-    /// One of those, if there is any; which one is left open.
+    /// The lowest-numbered of those (the lowest-numbered process with subordinate 1), if there is any (02, N1).
     pub escape: Option<u32>,
     pub mark: Mark,
 }

@@ -84,29 +84,53 @@ fn running_on_does_what_the_picks_do() {
     assert_eq!(area, picked);
 }
 
-/// 01's rows P, from process 1: N, the waits, D, the verdict, outside.
+/// A row P of 01, from process 1: N, the waits, D, the verdict, outside; and escape by 02, N1.
+type Row = (usize, &'static [u16], u32, Verdict, i32, Option<u32>);
+
 #[test]
 fn the_known_verdicts() {
-    let rows: [(usize, &[u16], u32, Verdict, i32); 8] = [
-        (1, &[], 0, Verdict::Knot, 0),
-        (1, &[1, 1], 4, Verdict::Knot, 0),
-        (2, &[1, 2], 2, Verdict::Free, 1),
-        (2, &[2, 1], 2, Verdict::Knot, 0),
-        (2, &[1, 2, 2, 1], 8, Verdict::Knot, 0),
-        (3, &[1, 2, 2, 3, 3, 1], 12, Verdict::Knot, 0),
-        (3, &[1, 2, 2, 1, 2, 3], 10, Verdict::Free, 1),
-        (3, &[1, 2, 2, 3, 3, 2], 6, Verdict::Free, 2),
+    let rows: [Row; 8] = [
+        (1, &[], 0, Verdict::Knot, 0, None),
+        (1, &[1, 1], 4, Verdict::Knot, 0, None),
+        (2, &[1, 2], 2, Verdict::Free, 1, Some(2)),
+        (2, &[2, 1], 2, Verdict::Knot, 0, None),
+        (2, &[1, 2, 2, 1], 8, Verdict::Knot, 0, None),
+        (3, &[1, 2, 2, 3, 3, 1], 12, Verdict::Knot, 0, None),
+        (3, &[1, 2, 2, 1, 2, 3], 10, Verdict::Free, 1, Some(3)),
+        (3, &[1, 2, 2, 3, 3, 2], 6, Verdict::Free, 2, Some(2)),
     ];
-    for (n, list, d, verdict, outside) in rows {
+    for (n, list, d, verdict, outside, escape) in rows {
         let mut area = started(&written(n, list), 1);
         assert_eq!(pickledune::run_on(&mut area, 2048), Ran::Over(d));
         let report = pickledune::report(&area).unwrap();
         assert_eq!(
-            (report.deliveries, report.verdict, report.outside),
-            (d, verdict, outside)
+            (report.deliveries, report.verdict, report.outside, report.escape),
+            (d, verdict, outside, escape)
         );
         assert_eq!(report.mark == Mark::Returned, verdict == Verdict::Knot);
-        assert_eq!(report.escape.is_none(), outside == 0);
+    }
+}
+
+/// 02, N1: 5 waits for the four others; 1 waits for 5 in turn, and 2, 3 and 4 for nobody. The lowest of these three is named, whichever is
+/// reached first.
+#[test]
+fn the_lowest_way_out() {
+    let table = written(5, &[5, 1, 1, 5, 5, 4, 5, 3, 5, 2]);
+    for order in [[4, 3, 2], [3, 2, 4], [2, 3, 4]] {
+        let mut area = started(&table, 5);
+        for to in order {
+            assert_eq!(pickledune::pick(&mut area, 5, to), Ok(Message::Suc));
+        }
+        // D is twice all 5 waits and twice the 2 between 5 and 1; three deliveries are picks.
+        assert_eq!(pickledune::run_on(&mut area, 2048), Ran::Over(11));
+        let report = Report {
+            deliveries: 14,
+            verdict: Verdict::Free,
+            outside: 3,
+            escape: Some(2),
+            mark: Mark::Held,
+        };
+        assert_eq!(pickledune::report(&area), Ok(report));
     }
 }
 

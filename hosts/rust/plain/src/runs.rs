@@ -22,7 +22,8 @@ pub struct Report {
     /// The verdict: a knot, or none.
     pub knot: bool,
     pub outside: i32,
-    /// A process with subordinate 1, here the lowest, or 0.
+    /// 02, N1: "escape is the lowest-numbered process with subordinate 1, and 0 only where there is
+    /// none".
     pub escape: usize,
     /// The mark: returned, or held.
     pub returned: bool,

@@ -35,26 +35,63 @@ fn the_example_of_01() {
     assert_eq!(table(2, &[1, 2]), input[2..22]);
 }
 
+/// N, the waits, D, knot, outside; and escape by 02, N1.
+type Row = (usize, &'static [u16], u32, bool, i32, usize);
+
 #[test]
 fn the_rows_to_be_proved() {
-    let rows: [(usize, &[u16], u32, bool, i32); 8] = [
-        (1, &[], 0, true, 0),
-        (1, &[1, 1], 4, true, 0),
-        (2, &[1, 2], 2, false, 1),
-        (2, &[2, 1], 2, true, 0),
-        (2, &[1, 2, 2, 1], 8, true, 0),
-        (3, &[1, 2, 2, 3, 3, 1], 12, true, 0),
-        (3, &[1, 2, 2, 1, 2, 3], 10, false, 1),
-        (3, &[1, 2, 2, 3, 3, 2], 6, false, 2),
+    let rows: [Row; 8] = [
+        (1, &[], 0, true, 0, 0),
+        (1, &[1, 1], 4, true, 0, 0),
+        (2, &[1, 2], 2, false, 1, 2),
+        (2, &[2, 1], 2, true, 0, 0),
+        (2, &[1, 2, 2, 1], 8, true, 0, 0),
+        (3, &[1, 2, 2, 3, 3, 1], 12, true, 0, 0),
+        (3, &[1, 2, 2, 1, 2, 3], 10, false, 1, 3),
+        (3, &[1, 2, 2, 3, 3, 2], 6, false, 2, 2),
     ];
-    for (n, list, deliveries, knot, outside) in rows {
+    for (n, list, deliveries, knot, outside, escape) in rows {
         let mut area = started(n, list, 1);
         assert_eq!(run_on(&mut area, deliveries), (Stopped::Over, deliveries), "{list:?}");
-        let report = report(&area).unwrap();
-        assert_eq!(report.deliveries, deliveries, "{list:?}");
-        assert_eq!((report.knot, report.returned), (knot, knot), "{list:?}");
-        assert_eq!(report.outside, outside, "{list:?}");
-        assert_eq!(report.escape == 0, knot, "{list:?}");
+        let expected = Report { deliveries, knot, outside, escape, returned: knot };
+        assert_eq!(report(&area), Ok(expected), "{list:?}");
+    }
+}
+
+/// What escape names once the run is over.
+fn escape_at_the_end(mut area: Vec<i32>) -> usize {
+    assert_eq!(run_on(&mut area, u32::MAX).0, Stopped::Over);
+    report(&area).unwrap().escape
+}
+
+/// 02, N1. In every case with several ways out the lowest is first reached last.
+#[test]
+fn escape_is_the_lowest_way_out() {
+    // On a path the ways out are reached one after the other, here the highest first.
+    assert_eq!(escape_at_the_end(started(4, &[1, 4, 4, 3, 3, 2], 1)), 2);
+    assert_eq!(escape_at_the_end(started(5, &[5, 4, 4, 3, 3, 2, 2, 1], 5)), 1);
+    // 1 and 2 are reachable and reach the start, 3 only reaches it, 4 does neither.
+    let list = [5, 1, 1, 2, 2, 5, 3, 5, 2, 8, 8, 7, 7, 6];
+    assert_eq!(escape_at_the_end(started(8, &list, 5)), 6);
+    // No way out, though 1 reaches the start and 4 waits for nobody.
+    assert_eq!(escape_at_the_end(started(4, &[1, 2, 2, 3, 3, 2], 2)), 0);
+    // The picks reach the highest first.
+    let mut area = started(4, &[1, 2, 1, 3, 1, 4], 1);
+    for to in [4, 3, 2] {
+        assert_eq!(pick(&mut area, 1, to), Ok(Message::Suc));
+    }
+    assert_eq!(escape_at_the_end(area), 2);
+}
+
+/// 02, N1 asks for subordinate 1 and for nothing else: in an area that no run leaves, the start may
+/// have it, and processes that are not succeeding.
+#[test]
+fn escape_goes_by_subordinate_alone() {
+    let mut area = started(3, &[], 2);
+    let flags = |process: usize| 16 + 2 * 3 + 6 * (process - 1);
+    for process in [3, 2, 1] {
+        area[flags(process)] |= 4;
+        assert_eq!(report(&area).unwrap().escape, process);
     }
 }
 

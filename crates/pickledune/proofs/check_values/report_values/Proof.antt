@@ -2,8 +2,8 @@
 use mathlib.Core.Path.{sym, ap, _∙_}
 use borrow.Author.Needs.{needs}
 use Rattle.steps.proofs.Counts.{signed-back}
-use Rattle.checks.specs.Calls.{reportNumber, reportEscape}
-use Rattle.pickledune.specs.Values.{reportCount, reportKnot, reportOutside, reportReturned}
+use Rattle.checks.specs.Calls.{reportNumber}
+use Rattle.pickledune.specs.Values.{reportCount, reportKnot, reportOutside, reportEscape, reportReturned}
 use Rattle.pickledune.proofs.check_values.report_values.Statement.{statement}
 use Rattle.pickledune.proofs.check_values.report_values.Tie as tie
 
