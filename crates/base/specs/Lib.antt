@@ -1,4 +1,4 @@
--- Plain mathematics that every floor above uses: Choice (by a test), Sums (sums and tests over 1 to n), Counts (in a list), Checks (a test
+-- Plain mathematics that every floor above uses: Choice (by a test), Sums (sums, tests and searches over 1 to n), Counts (in a list), Checks (a test
 -- with its two meanings), Parts (of an integer, above and below zero). Laws stand apart, in modules named after these;
 -- PrefixLaws serves loops that test 1 to n in turn.
 -- Assumes nothing.

@@ -1,4 +1,4 @@
--- Laws for loops that test the numbers 1 to n in turn, with k the next number: what holds before the first turn, after one more turn, at a
+-- Laws for loops that test or search the numbers 1 to n in turn, with k the next number: what holds before the first turn, after one more turn, at a
 -- number that fails and after the last.
 --   allTo-none, allTo-more, allTo-stop, allTo-last   == each of 1 to n passes
 --   allTo-next    == one more turn, with k the number of turns so far

@@ -1,4 +1,4 @@
--- Laws of sums and tests over the numbers 1 to n, each named after its definition. Those that are cited most:
+-- Laws of sums, tests and searches over the numbers 1 to n, each named after its definition. Those that are cited most:
 --   sumTo-cong, sumTo-add, sumTo-le, sumTo-zero, sumTo-part, sumTo-swap, sumTo-scale, sumTo-times   == sums of like parts
 --   allTo-at, allTo-of, anyTo-of, anyTo-found   == what a test of all, or of some, says of one
 --   sumTo-some, sumTo-one, sumTo-full, sumTo-least   == sums whose parts are 0 or 1, or at least 1
