@@ -1,8 +1,8 @@
 -- Laws of tests and of choice by a test.
 --   tested b, same? m n, below? m n   == Tested, Same and Below (Checks), computed
---   bit-≤1, bit-some, bit-same, bit-apart   == a bit is at most 1; which tests have 1 and which 0
+--   bit-≤1, bit-some, bit-same, bit-apart, bit-test   == a bit is at most 1; which tests have 1 and which 0
 --   value-not, value-yes  == what a branch on a negated test says, where a callee's promise gives the test's value
---   and-left, and-right, and-both, and-three, or-cases, or-left, or-right, or-none   == both of two tests, or one of them
+--   and-left, and-right, and-both, and-three, and-four, or-cases, or-left, or-right, or-none   == both of two tests, or one of them
 -- Assumes nothing.
 use Prim.Native.Nat.{ℕ, _≤_}
 use mathlib.Core.Bool.{Bool, true, false, not, _&&_, _||_, false≢true}
@@ -21,6 +21,10 @@ bit-≤1 false = omega arith
 pub bit-some : (b : Bool) → 1 ≤ bit b → b ≡ true
 bit-some true h = refl
 bit-some false h = absurd (omega arith)
+
+pub bit-test : (b : Bool) → eqb (bit b) 1 ≡ b
+bit-test true = refl
+bit-test false = refl
 
 pub bit-same : (x k : ℕ) → x ≡ k → bit (eqb x k) ≡ 1
 bit-same x k e = ap bit (eq-eqb x k e)
@@ -68,6 +72,9 @@ and-both false b p q = p
 
 pub and-three : (a b c : Bool) → (a && b && c) ≡ true → (a ≡ true) × (b ≡ true) × (c ≡ true)
 and-three a b c e = (and-left a b (and-left (a && b) c e), and-right a b (and-left (a && b) c e), and-right (a && b) c e)
+
+pub and-four : (a b c d : Bool) → (a && b && c && d) ≡ true → (a ≡ true) × (b ≡ true) × (c ≡ true) × (d ≡ true)
+and-four a b c d e = let three = and-three a b c (and-left (a && b && c) d e) in (three .0, three .1, three .2, and-right (a && b && c) d e)
 
 pub or-cases : (a b : Bool) → (a || b) ≡ true → (a ≡ true) ⊎ (b ≡ true)
 or-cases true b e = inl refl

@@ -1,14 +1,19 @@
--- Laws of the calls' answers: a delivery's answer as the code gives it and as the machine does, who is named as escape, and what comes first.
+-- Laws of the calls' answers: a delivery's answer as the code gives it and as the machine does, the parts of a report, and what
+-- comes first.
 --   deliveryOf-refused, deliveryOf-delivered   == what an answer of the code says of the machine's
 --   deliveryOf-number, deliveryOf-accepted     == the same number, and the same count of accepted picks
+--   verdictOf-knot, verdictOf-free             == the verdict by the sum
+--   markOf-chosen                              == the mark of a verdict that goes by a test
 --   escapeOf-P                                 == the lowest process with subordinate 1, or 0 and none has it
 --   pick-21, runOn-21, report-21, readRecord-21   == 21 comes first
 -- Assumes nothing.
-use Prim.Native.Nat.{ℕ}
-use mathlib.Core.Bool.{false}
+use Prim.Native.Nat.{ℕ, zero, suc}
+use mathlib.Core.Bool.{Bool, true, false}
 use mathlib.Core.Path.{_≡_, refl, ap}
 use borrow.Author.Tests.{eqb-true, eq-eqb}
 use native.Mathlib.Omega.{arith}
+use lib.IntN.{ℤ, pos, negsuc}
+use Rattle.base.specs.Choice.{choose}
 use Rattle.base.specs.Sums.{Lowest}
 use Rattle.base.specs.SumLaws.{lowestTo-P}
 use Rattle.machine.specs.declared.Ran.{Ran}
@@ -18,10 +23,12 @@ use Rattle.machine.specs.Lists.{acceptedPick, answerNumber}
 use Rattle.steps.specs.declared.Message.{Message}
 use Rattle.checks.specs.declared.Delivery.{Delivery}
 use Rattle.checks.specs.declared.Delivery.the-variants.{Delivered}
+use Rattle.checks.specs.declared.Verdict.the-variants.{Knot, Free}
+use Rattle.checks.specs.declared.Mark.the-variants.{Returned, Held}
 use Rattle.checks.specs.declared.Report.{Report}
 use Rattle.checks.specs.declared.Reading.{Reading}
 use Rattle.checks.specs.Run.{Run, wellFormed}
-use Rattle.checks.specs.Calls.{refused, deliveryOf, pick, runOn, escapeOf, report, readRecord, deliveryNumber, deliveryMade}
+use Rattle.checks.specs.Calls.{refused, deliveryOf, pick, runOn, escapeOf, verdictOf, markOf, report, readRecord, deliveryNumber, deliveryMade}
 
 pub deliveryOf-refused : (x : Answer Message) {n : ℕ} → deliveryOf x ≡ Delivery.Refused n → x ≡ refusal n
 deliveryOf-refused (refusal k) {n} e = let f : k ≡ n = cc in ap refusal f
@@ -38,6 +45,20 @@ deliveryOf-number (refusal n) = refl
 pub deliveryOf-accepted : (x : Answer Message) → deliveryMade (deliveryOf x) ≡ acceptedPick x
 deliveryOf-accepted (given m) = refl
 deliveryOf-accepted (refusal n) = refl
+
+-- "verdict knot if cs of s is 0, else none"
+pub verdictOf-knot : (z : ℤ) → z ≡ pos 0 → verdictOf z ≡ Knot
+verdictOf-knot z e = rw e
+
+pub verdictOf-free : (z : ℤ) → (z ≡ pos 0 → ⊥) → verdictOf z ≡ Free
+verdictOf-free (pos zero) h = absurd (h refl)
+verdictOf-free (pos (suc n)) h = refl
+verdictOf-free (negsuc n) h = refl
+
+-- "mark returned if the verdict is knot, else held"
+pub markOf-chosen : (b : Bool) → markOf (choose b Knot Free) ≡ choose b Returned Held
+markOf-chosen true = refl
+markOf-chosen false = refl
 
 -- 02, N1, without a test: whom a report names
 pub escapeOf-P : (r : Run) → Lowest (λ p. r .process p .subordinate ≡ 1) (r .waits .n) (escapeOf r)

@@ -4,14 +4,14 @@
 --   ending           == THE THEOREM: after every list of calls on an accepted start, the promise holds
 -- Assumes nothing.
 use Prim.Native.Nat.{ℕ, zero, suc, _+_, _≤_}
-use mathlib.Core.Bool.{Bool, true, false, false≢true}
+use mathlib.Core.Bool.{true, false, false≢true}
 use mathlib.Core.List.{List, []}
 use mathlib.Core.Path.{_≡_, refl, sym, ap, _∙_, subst}
 use native.Mathlib.Omega.{arith}
 use lib.Dec.{eqb}
 use lib.IntN.{pos}
 use Rattle.base.specs.Choice.{choose, bit}
-use Rattle.base.specs.ChoiceLaws.{tested, same?}
+use Rattle.base.specs.ChoiceLaws.{bit-test, tested, same?}
 use Rattle.base.specs.Checks.{Tested, passed, failed, Same, same, apart}
 use Rattle.base.specs.SumLaws.{lowestTo-same}
 use Rattle.tables.specs.Waits.{Waits}
@@ -30,7 +30,8 @@ use Rattle.checks.specs.declared.Verdict.the-variants.{Knot, Free}
 use Rattle.checks.specs.declared.Mark.the-variants.{Returned, Held}
 use Rattle.checks.specs.declared.Report.{Report}
 use Rattle.checks.specs.Run.{Run, knot, over, startRun}
-use Rattle.checks.specs.Calls.{escapeOf, verdictOf, markOf, reported, report}
+use Rattle.checks.specs.AnswerLaws.{markOf-chosen}
+use Rattle.checks.specs.Calls.{escapeOf, verdictOf, reported, report}
 use Rattle.checks.specs.Reach.{inKnot, outsider, outsiders, lowestOutsider, dOf}
 use Rattle.checks.specs.Lists.{endSum, Ended, Promise}
 use Rattle.checks.specs.Lists
@@ -70,16 +71,6 @@ knot-verdict w s = at (tested (inKnot w s)) (outsiders w s) refl
     at (failed e) zero q = absurd (false≢true (sym e ∙ knot-end w s .1 q))
     at (failed e) (suc k) q = rw (e, q)
 
--- "mark returned if the verdict is knot, else held"
-mark-chosen : (b : Bool) → markOf (choose b Knot Free) ≡ choose b Returned Held
-mark-chosen true = refl
-mark-chosen false = refl
-
--- a flag that is a test's is 1 exactly if it passes
-bit-test : (b : Bool) → eqb (bit b) 1 ≡ b
-bit-test true = refl
-bit-test false = refl
-
 module _ (r : Run) (h : Holds r) (o : over r ≡ true) where
   gone : (a b : ℕ) → IsProcess (r .waits .n) a → IsProcess (r .waits .n) b → r .link a b ≡ []
   gone = upheld-empty holds-upheld r h o
@@ -105,7 +96,7 @@ module _ (r : Run) (h : Holds r) (o : over r ≡ true) where
       (lowestOutsider (r .waits) (r .start)) (choose (inKnot (r .waits) (r .start)) Returned Held)
   unfolding report reported
   reports =
-      rw (holds-formed r h, o, escape-end, start-sum, at-d r h o, knot-verdict (r .waits) (r .start), mark-chosen (inKnot (r .waits) (r .start)))
+      rw (holds-formed r h, o, escape-end, start-sum, at-d r h o, knot-verdict (r .waits) (r .start), markOf-chosen (inKnot (r .waits) (r .start)))
 
   process-cs : (p : ℕ) → IsProcess (r .waits .n) p → r .process p .cs ≡ pos (endSum (r .waits) (r .start) p)
   unfolding endSum

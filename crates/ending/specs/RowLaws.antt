@@ -3,7 +3,7 @@
 --   row-holds       == each of the eight rows holds of the table that the writer makes of its waits
 -- Assumes nothing.
 use Prim.Native.Nat.{ℕ}
-use mathlib.Core.Bool.{Bool, true, false, not, _&&_, false≢true}
+use mathlib.Core.Bool.{Bool, true, false, not, false≢true}
 use mathlib.Core.List.{List, _∷_, List·Memᴰ, List·Memᴰ·head, List·Memᴰ·tail}
 use mathlib.Core.Path.{_≡_, refl, sym, ap, _∙_}
 use lib.Dec.{eqb}
@@ -11,7 +11,7 @@ use lib.IntN.{ℤ, pos, negsuc}
 use borrow.Author.Tests.{eqb-true}
 use lib.ListN.{length, replicate, length-replicate}
 use Rattle.base.specs.Choice.{choose}
-use Rattle.base.specs.ChoiceLaws.{tested, and-left, and-right, and-three}
+use Rattle.base.specs.ChoiceLaws.{tested, and-left, and-right, and-three, and-four}
 use Rattle.base.specs.Checks.{Tested, passed, failed}
 use Rattle.base.specs.Sums.{sumTo, countTo, allTo, anyTo, lowestTo}
 use Rattle.tables.specs.Table.{fieldOf, isProcess}
@@ -32,7 +32,8 @@ use Rattle.checks.specs.declared.Mark.{Mark}
 use Rattle.checks.specs.declared.Mark.the-variants.{Returned, Held}
 use Rattle.checks.specs.declared.Report.{Report}
 use Rattle.checks.specs.Run.{Run, over, fatherRight, wellFormed, started, turnOf, replyTo, probesTo, sentTo}
-use Rattle.checks.specs.Calls.{escapeOf, verdictOf, markOf, reported, report}
+use Rattle.checks.specs.AnswerLaws.{markOf-chosen}
+use Rattle.checks.specs.Calls.{escapeOf, verdictOf, reported, report}
 use Rattle.checks.specs.Reach.{within, reaches, inKnot, outsider, outsiders, lowestOutsider, dOf}
 use Rattle.ending.specs.Rows.{PRow, rows, waitsFrom, tableSize, tableFrom, ranFrom, RowOfTable}
 use Rattle.ending.specs.RowTests.{agree, isKnot, isAt, defined, overAfter, reports, runs, writable, holds, all}
@@ -55,10 +56,6 @@ verdict x = choose (x .knot) Knot Free
 
 abbrev mark : PRow → Mark
 mark x = choose (x .knot) Returned Held
-
-mark-of : (b : Bool) → markOf (choose b Knot Free) ≡ choose b Returned Held
-mark-of true = refl
-mark-of false = refl
 
 all-at : (p : PRow → Bool) (xs : List PRow) → all p xs ≡ true → (x : PRow) → List·Memᴰ x xs → p x ≡ true
 unfolding all
@@ -101,24 +98,26 @@ reports-P x r h = at (tested (wellFormed r)) (tested (over r))
     cs : ℤ
     cs = r .process (r .start) .cs
 
-    same : (d : Bool) → d ≡ eqb (r .count) (x .d) → (v : Bool) → v ≡ agree (isKnot (verdictOf cs)) (x .knot) → (o : Bool) → o ≡ isAt cs (x .outside)
-        → (d && v && o && eqb (escapeOf r) (lowestOutsider (waitsFrom x) 1)) ≡ true → reported r ≡ due x
-    same d e1 v e2 o e3 t =
-        let first = and-left (d && v && o) (eqb (escapeOf r) (lowestOutsider (waitsFrom x) 1)) t in
-        let t3 = and-three d v o first in
+    escape : Bool
+    escape = eqb (escapeOf r) (lowestOutsider (waitsFrom x) 1)
+
+    same : (eqb (r .count) (x .d) ≡ true) × (agree (isKnot (verdictOf cs)) (x .knot) ≡ true) × (isAt cs (x .outside) ≡ true) × (escape ≡ true)
+        → reported r ≡ due x
+    same t =
         cc (
-          eqb-true (r .count) (x .d) (sym e1 ∙ t3 .0),
-          verdict-P (verdictOf cs) (x .knot) (sym e2 ∙ t3 .1),
-          isAt-P cs (x .outside) (sym e3 ∙ t3 .2),
-          eqb-true (escapeOf r) (lowestOutsider (waitsFrom x) 1) (and-right (d && v && o) (eqb (escapeOf r) (lowestOutsider (waitsFrom x) 1)) t),
-          mark-of (x .knot),
+          eqb-true (r .count) (x .d) (t .0),
+          verdict-P (verdictOf cs) (x .knot) (t .1),
+          isAt-P cs (x .outside) (t .2),
+          eqb-true (escapeOf r) (lowestOutsider (waitsFrom x) 1) (t .3),
+          markOf-chosen (x .knot),
         )
 
     at : Tested (wellFormed r) → Tested (over r)
         → choose (not (wellFormed r)) (Report.Refused 21) (choose (not (over r)) (Report.Refused 26) (reported r)) ≡ due x
     at (failed f) _ = absurd (false≢true (rw f at h))
     at (passed f) (failed g) = absurd (false≢true (rw (f, g) at h))
-    at (passed f) (passed g) = rw (f, g) (same _ refl _ refl _ refl (rw (f, g) at h))
+    at (passed f) (passed g) =
+        rw (f, g) (same (and-four (eqb (r .count) (x .d)) (agree (isKnot (verdictOf cs)) (x .knot)) (isAt cs (x .outside)) escape (rw (f, g) at h)))
 
 -- ---- each row
 

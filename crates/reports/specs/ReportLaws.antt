@@ -1,5 +1,4 @@
 -- A report by its parts.
---   verdict-knot, verdict-free   == the verdict by the sum
 --   wayOut-found, wayOut-first, wayOut-none   == a way out was found before; this is the first; there is none yet
 --   escape-first, escape-next, escape-last   == the loop that looks for the escape: before the first process, after one more, after the last
 --   report-told                  == the report at the end, made of the start's record, the count and the escape
@@ -10,24 +9,15 @@ use mathlib.Core.List.{List}
 use mathlib.Core.Path.{_≡_, refl, sym, ap, _∙_}
 use native.Mathlib.Omega.{arith}
 use borrow.Author.Tests.{eq-eqb, ne-eqb}
-use lib.IntN.{ℤ, pos, negsuc}
+use lib.IntN.{ℤ}
 use Rattle.base.specs.PrefixLaws.{lowestTo-none, lowestTo-more}
 use Rattle.steps.specs.declared.Process.{Process}
-use Rattle.checks.specs.declared.Verdict.the-variants.{Knot, Free}
 use Rattle.checks.specs.Run.{Run, over}
-use Rattle.checks.specs.Calls.{isSubordinate, escapeOf, verdictOf, reported}
+use Rattle.checks.specs.Calls.{isSubordinate, escapeOf, reported}
 use Rattle.areas.specs.Area.{runIn, areaRight}
 use Rattle.area_calls.specs.AreaCalls.{reportAnswer}
 use Rattle.area_calls.specs.CallLaws.{report-over}
 use Rattle.reports.specs.Told.{escapeTo, wayOut, toldOf}
-
-pub verdict-knot : (z : ℤ) → z ≡ pos 0 → verdictOf z ≡ Knot
-verdict-knot z e = rw e
-
-pub verdict-free : (z : ℤ) → (z ≡ pos 0 → ⊥) → verdictOf z ≡ Free
-verdict-free (pos zero) h = absurd (h refl)
-verdict-free (pos (suc n)) h = refl
-verdict-free (negsuc n) h = refl
 
 -- ---- the escape, process by process
 

@@ -383,8 +383,8 @@ fn hold_against_search<L: Calls>(
     let report = driver.make(Call::Report, lent)?;
     let expected = [end.deliveries as i64, knot, outside, escape, knot];
     if report.number != 0 || report.values[..5] != expected {
-        let found = &report.values[..5];
-        let what = format!("both report {found:?}, the graph search has {expected:?}");
+        let (number, found) = (report.number, &report.values[..5]);
+        let what = format!("both report {number}, {found:?}, the graph search has 0, {expected:?}");
         return Err(driver.found(Call::Report, lent, what));
     }
     for process in 1..=graph.n {
