@@ -7,8 +7,9 @@
 --   small-change                   == new minus old of two flags is a count in range
 --   flag-back                      == a flag cast to a signed number is that number
 --   newSubordinate-flag            == the new subordinate is 0 or 1
+--   newSubordinate-product         == of two flags it is succeeding times (1 minus preceding)
 -- Assumes nothing.
-use Prim.Native.Nat.{ℕ, zero, suc, _+_, _-_, _^_, _≤_, _<_}
+use Prim.Native.Nat.{ℕ, zero, suc, _+_, _-_, _*_, _^_, _≤_, _<_}
 use mathlib.Core.Bool.{Bool, true, false, false≢true, cond, _&&_}
 use mathlib.Core.Path.{_≡_, refl, sym}
 use native.Mathlib.Omega.{arith}
@@ -85,3 +86,15 @@ newSubordinate-flag x = at (eqb (x .succeeding) 1 && eqb (x .preceding) 0)
     at : (b : Bool) → choose b 1 0 ≤ 1
     at true = omega arith
     at false = omega arith
+
+-- 02, N2: "new subordinate is succeeding times (1 minus preceding)"
+pub newSubordinate-product : (x : Process) → x .succeeding ≤ 1 → x .preceding ≤ 1 → x .succeeding * (1 - x .preceding) ≡ newSubordinate x
+unfolding newSubordinate
+newSubordinate-product x = at (x .succeeding) (x .preceding)
+  where
+    at : (s p : ℕ) → s ≤ 1 → p ≤ 1 → s * (1 - p) ≡ choose (eqb s 1 && eqb p 0) 1 0
+    at zero p h k = omega arith
+    at (suc zero) zero h k = refl
+    at (suc zero) (suc zero) h k = refl
+    at (suc zero) (suc (suc p)) h k = absurd (omega arith)
+    at (suc (suc s)) p h k = absurd (omega arith)

@@ -1,7 +1,7 @@
 -- The rules of a step: what their callers need of them, and how they are put together.
---   ranged, lent                == the parts of a record in range, and of what is lent in range
---   rule1-num, rule1-addable    == rule 1 leaves num as it is, and a sum that can be added to
---   setSucceeding-addable, setPreceding-addable   == so does rule 2
+--   lent                        == the parts of what is lent in range
+--   rule1-num, rule1-ready      == rule 1 leaves num as it is, and flags and a sum that rule 3 can compute with
+--   setSucceeding-ready, setPreceding-ready   == so does rule 2
 --   acknowledgeable             == an acknowledgement in range finds a sum and a num that it can change
 --   rule3-made                  == a turn with the new subordinate and the sum that gained the difference is rule 3's
 --   settled-answer              == where num suffices, settled answers as 01 says: 22, or the step
@@ -9,12 +9,13 @@
 use Prim.Native.Nat.{ℕ, _^_, _≤_, _<_}
 use mathlib.Core.Bool.{Bool, true, not, _&&_}
 use mathlib.Core.Path.{_≡_, refl, _∙_}
+use native.Mathlib.Omega.{arith}
 use lib.Dec.{leb}
-use lib.IntN.{ℤ}
+use lib.IntN.{ℤ, natAbs}
 use lib.Signed.{mag}
 use mir.Syntax.{w32}
 use mir.Val.{toZ, ofZ}
-use borrow.Author.Tests.{leb-true}
+use borrow.Author.Tests.{leb-true, le-leb}
 use Rattle.base.specs.Choice.{choose}
 use Rattle.base.specs.ChoiceLaws.{same?, and-left, and-right}
 use Rattle.base.specs.Checks.{Same, same, apart}
@@ -24,7 +25,9 @@ use Rattle.steps.specs.declared.Message.the-variants.{Ack}
 use Rattle.steps.specs.declared.Process.{Process}
 use Rattle.steps.specs.declared.Stepped.{Stepped}
 use Rattle.steps.specs.Step.{Turn, withSubordinate, withCs, small, inRange, countSmall, lentInRange, numSuffices, fitting, answer}
-use Rattle.steps.specs.Step.{mostNum, newSubordinate, gained, rule1, setSucceeding, setPreceding, rule3}
+use Rattle.steps.specs.Step.{mostCount, newSubordinate, gained, rule1, setSucceeding, setPreceding, rule3}
+use Rattle.steps.specs.Effect.{RecordInRange}
+use Rattle.steps.specs.StepLaws.{inRange-P}
 use Rattle.steps.specs.Within.{Addable, settled}
 use Rattle.steps.proofs.Counts.{signed-back}
 
@@ -35,17 +38,6 @@ and-five a b c d e h =
     let abc : (a && b && c) ≡ true = and-left (a && b && c) d abcd in
     let ab : (a && b) ≡ true = and-left (a && b) c abc in
     (and-left a b ab, and-right a b ab, and-right (a && b) c abc, and-right (a && b && c) d abcd, and-right (a && b && c && d) e h)
-
-pub record Ranged (x : Process) : Type 0 where
-  pub flag : x .subordinate ≤ 1
-  pub count : small (x .cs) ≡ true
-  pub few : x .num ≤ mostNum
-
-pub ranged : (x : Process) → inRange x ≡ true → Ranged x
-unfolding inRange
-ranged x e =
-    let h = and-five (leb (x .succeeding) 1) (leb (x .preceding) 1) (leb (x .subordinate) 1) (small (x .cs)) (leb (x .num) mostNum) e in
-    record { flag = leb-true (x .subordinate) 1 (h .2); count = h .3; few = leb-true (x .num) mostNum (h .4) }
 
 pub record Lent (m : Message) (o i : ℕ) (x : Process) : Type 0 where
   pub process : inRange x ≡ true
@@ -67,38 +59,45 @@ rule1-num p x = at (same? (x .num) 0)
     at (same _ f) = rw f
     at (apart _ f) = rw f
 
-pub rule1-addable : (p : ℕ) (x : Process) → Ranged x → Addable (rule1 p x .process)
-unfolding rule1 small
-rule1-addable p x h = at (same? (x .num) 0)
-  where
-    at : Same (x .num) 0 → Addable (rule1 p x .process)
-    at (same _ f) = rw f (record { flag = h .flag; count = h .count })
-    at (apart _ f) = rw f (record { flag = h .flag; count = refl })
+-- what rule 3 asks of a record: two flags, and a sum that it can add to
+abbrev Ready : Process → Type 0
+Ready x = (x .succeeding ≤ 1) × ((x .preceding ≤ 1) × Addable x)
 
-pub setSucceeding-addable : (o : ℕ) (t : Turn) → Addable (t .process) → Addable (setSucceeding o t .process)
-unfolding setSucceeding
-setSucceeding-addable o t h = at (same? (t .process .succeeding) 0)
+pub rule1-ready : (p : ℕ) (x : Process) → inRange x ≡ true → Ready (rule1 p x .process)
+unfolding rule1 small
+rule1-ready p x e = at (same? (x .num) 0)
   where
-    at : Same (t .process .succeeding) 0 → Addable (setSucceeding o t .process)
-    at (same _ f) = rw f (record { flag = h .flag; count = h .count })
+    h : RecordInRange x
+    h = inRange-P x e
+
+    at : Same (x .num) 0 → Ready (rule1 p x .process)
+    at (same _ f) = rw f (h .succeeding, (h .preceding, record { flag = h .subordinate; count = le-leb (natAbs (x .cs)) mostCount (h .cs) }))
+    at (apart _ f) = rw f (h .succeeding, (h .preceding, record { flag = h .subordinate; count = refl }))
+
+pub setSucceeding-ready : (o : ℕ) (t : Turn) → Ready (t .process) → Ready (setSucceeding o t .process)
+unfolding setSucceeding
+setSucceeding-ready o t h = at (same? (t .process .succeeding) 0)
+  where
+    at : Same (t .process .succeeding) 0 → Ready (setSucceeding o t .process)
+    at (same _ f) = rw f (omega arith, (h .1 .0, record { flag = h .1 .1 .flag; count = h .1 .1 .count }))
     at (apart _ f) = rw f h
 
-pub setPreceding-addable : (i : ℕ) (t : Turn) → Addable (t .process) → Addable (setPreceding i t .process)
+pub setPreceding-ready : (i : ℕ) (t : Turn) → Ready (t .process) → Ready (setPreceding i t .process)
 unfolding setPreceding
-setPreceding-addable i t h = at (same? (t .process .preceding) 0)
+setPreceding-ready i t h = at (same? (t .process .preceding) 0)
   where
-    at : Same (t .process .preceding) 0 → Addable (setPreceding i t .process)
-    at (same _ f) = rw f (record { flag = h .flag; count = h .count })
+    at : Same (t .process .preceding) 0 → Ready (setPreceding i t .process)
+    at (same _ f) = rw f (h .0, (omega arith, record { flag = h .1 .1 .flag; count = h .1 .1 .count }))
     at (apart _ f) = rw f h
 
 -- what an acknowledgement asks of the record and of its count, which is read back
 pub acknowledgeable : (m : Message) (c : ℤ) (x : Process) → m ≡ Ack c → mag c < 2 ^ 31 → inRange x ≡ true → countSmall m ≡ true → numSuffices m x ≡ true
     → (small (toZ w32 (ofZ w32 c)) ≡ true) × ((small (x .cs) ≡ true) × (1 ≤ x .num))
-unfolding countSmall numSuffices
+unfolding countSmall numSuffices small
 acknowledgeable m c x e h r s n =
     let few : leb 1 (x .num) ≡ true = rw e at n in
     let count : small c ≡ true = rw e at s in
-    (rw (signed-back c h) count, (ranged x r .count, leb-true 1 (x .num) few))
+    (rw (signed-back c h) count, (le-leb (natAbs (x .cs)) mostCount (inRange-P x r .cs), leb-true 1 (x .num) few))
 
 pub rule3-made : (t : Turn) (v : ℕ) (z : ℤ) → v ≡ newSubordinate (t .process) → z ≡ gained v (t .process)
     → (record { process = withSubordinate v (withCs z (t .process)); probes = t .probes; reply = t .reply }) ≡ rule3 t

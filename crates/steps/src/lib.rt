@@ -231,18 +231,19 @@ fn set_preceding(in_degree: u32, turn: Turn) -> Turn
     }
 }
 
-// "The new subordinate is 1 if succeeding and not preceding, else 0."
+// "new subordinate is succeeding times (1 minus preceding)" (02, N2): of two flags, "1 if succeeding and not preceding, else 0"
 fn new_subordinate(process: Process) -> u32
+    requires { ⌜ process .succeeding ≤ 1 ⌝ }
+    requires { ⌜ process .preceding ≤ 1 ⌝ }
     ensures { λ r. ⌜ r ≡ newSubordinate process ⌝ }
 {
-    if process.succeeding != 1 {
-        return 0;
-    }
-    if process.preceding == 0 { 1 } else { 0 }
+    process.succeeding * (1 - process.preceding)
 }
 
 // Rule 3: the new subordinate, and "cs gains new minus old".
 fn rule3(turn: Turn) -> Turn
+    requires { ⌜ turn .process .succeeding ≤ 1 ⌝ }
+    requires { ⌜ turn .process .preceding ≤ 1 ⌝ }
     requires { ⌜ Addable (turn .process) ⌝ }
     ensures { λ r. ⌜ r ≡ rule3 turn ⌝ }
 {

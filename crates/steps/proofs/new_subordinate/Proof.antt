@@ -1,21 +1,20 @@
--- `steps::new_subordinate` meets its contract: its two tests are those of the definition.
+-- `steps::new_subordinate` meets its contract: of two flags the product is what the definition says, so it is a flag.
 -- Assumes nothing.
-use borrow.Author.Tests.{eq-eqb, ne-eqb}
-use Rattle.steps.specs.Step.{newSubordinate}
+use native.Mathlib.Omega.{arith}
+use Rattle.steps.proofs.Counts.{newSubordinate-flag, newSubordinate-product}
 use Rattle.steps.proofs.new_subordinate.Statement.{statement}
 use Rattle.steps.proofs.new_subordinate.Tie as tie
 
 returns : tie.Need-returns
-unfolding newSubordinate
-returns c = rw (ne-eqb _ _ (c .if1 .taken))
-
-returns-2 : tie.Need-returns-2
-unfolding newSubordinate
-returns-2 c = rw (eq-eqb _ _ (c .before .before .if1 .left), eq-eqb _ _ (c .if2 .taken))
-
-returns-3 : tie.Need-returns-3
-unfolding newSubordinate
-returns-3 c = rw (eq-eqb _ _ (c .before .before .if1 .left), ne-eqb _ _ (c .if2 .left))
+returns c = newSubordinate-product (c .before .before .args .process) (c .before .before .pre .0) (c .before .before .pre .1)
 
 pub new-subordinate-spec : {M : Type 1} → statement M
-new-subordinate-spec = tie.close (tie.spec returns returns-2 returns-3)
+new-subordinate-spec =
+    tie.close
+    (tie.spec
+    (λ c. omega arith)
+    (λ c.
+    let start = c .before .before in
+    let x = start .args .process in
+    omega (arith, newSubordinate-product x (start .pre .0) (start .pre .1), newSubordinate-flag x))
+    returns)

@@ -4,8 +4,9 @@ use borrow.Author.Needs.{needs}
 use native.Mathlib.Omega.{arith}
 use mathlib.Core.Path.{ap, _∙_}
 use Rattle.steps.specs.Step.{rule1, setSucceeding, setPreceding, rule3, rule4, turn}
+use Rattle.steps.specs.StepLaws.{inRange-P}
 use Rattle.steps.proofs.Counts.{signed-back}
-use Rattle.steps.proofs.Rules.{ranged, lent, rule1-num, rule1-addable, setSucceeding-addable, setPreceding-addable, acknowledgeable}
+use Rattle.steps.proofs.Rules.{lent, rule1-num, rule1-ready, setSucceeding-ready, setPreceding-ready, acknowledgeable}
 use Rattle.steps.proofs.take_turn.Statement.{statement}
 use Rattle.steps.proofs.take_turn.Tie as tie
 
@@ -14,7 +15,7 @@ set-succeeding-requires c κs =
     let start = c .before .before .before in
     let x = start .args .process in
     let h = lent (start .args .message) (start .args .out-degree) (start .args .in-degree) x (start .pre .0) in
-    (omega arith, rw (c .rule1 .ensures, rule1-num (start .args .sender) x) (ranged x (h .process) .few))
+    (omega arith, rw (c .rule1 .ensures, rule1-num (start .args .sender) x) (inRange-P x (h .process) .num))
 
 rule3-requires : tie.Need-rule3-requires
 rule3-requires c κs =
@@ -22,14 +23,14 @@ rule3-requires c κs =
     let x = start .args .process in
     let h = lent (start .args .message) (start .args .out-degree) (start .args .in-degree) x (start .pre .0) in
     rw (c .set-succeeding .ensures, c .before .rule1 .ensures)
-    (setSucceeding-addable _ (rule1 (start .args .sender) x) (rule1-addable (start .args .sender) x (ranged x (h .process))))
+    (setSucceeding-ready _ (rule1 (start .args .sender) x) (rule1-ready (start .args .sender) x (h .process)))
 
 set-preceding-requires : tie.Need-set-preceding-requires
 set-preceding-requires c κs =
     let start = c .before .before .before in
     let x = start .args .process in
     let h = lent (start .args .message) (start .args .out-degree) (start .args .in-degree) x (start .pre .0) in
-    (omega arith, rw (c .rule12 .ensures, rule1-num (start .args .sender) x) (ranged x (h .process) .few))
+    (omega arith, rw (c .rule12 .ensures, rule1-num (start .args .sender) x) (inRange-P x (h .process) .num))
 
 rule3-requires-2 : tie.Need-rule3-requires-2
 rule3-requires-2 c κs =
@@ -37,7 +38,7 @@ rule3-requires-2 c κs =
     let x = start .args .process in
     let h = lent (start .args .message) (start .args .out-degree) (start .args .in-degree) x (start .pre .0) in
     rw (c .set-preceding .ensures, c .before .rule12 .ensures)
-    (setPreceding-addable _ (rule1 (start .args .sender) x) (rule1-addable (start .args .sender) x (ranged x (h .process))))
+    (setPreceding-ready _ (rule1 (start .args .sender) x) (rule1-ready (start .args .sender) x (h .process)))
 
 acknowledged-requires : tie.Need-acknowledged-requires
 acknowledged-requires c κs =
