@@ -1,6 +1,6 @@
 -- The rules of a step: what their callers need of them, and how they are put together.
 --   lent                        == the parts of what is lent in range
---   rule1-num, rule1-ready      == rule 1 leaves num as it is, and flags and a sum that rule 3 can compute with
+--   rule1-num, rule1-ready      == rule 1 leaves num as it is, and a sum and flags that rule 3 can compute with
 --   setSucceeding-ready, setPreceding-ready   == so does rule 2
 --   acknowledgeable             == an acknowledgement in range finds a sum and a num that it can change
 --   rule3-made                  == a turn with the new subordinate and the sum that gained the difference is rule 3's
@@ -59,9 +59,9 @@ rule1-num p x = at (same? (x .num) 0)
     at (same _ f) = rw f
     at (apart _ f) = rw f
 
--- what rule 3 asks of a record: two flags, and a sum that it can add to
+-- what rule 3 asks of a record: a sum that it can add to, and two flags
 abbrev Ready : Process → Type 0
-Ready x = (x .succeeding ≤ 1) × ((x .preceding ≤ 1) × Addable x)
+Ready x = Addable x × ((x .succeeding ≤ 1) × (x .preceding ≤ 1))
 
 pub rule1-ready : (p : ℕ) (x : Process) → inRange x ≡ true → Ready (rule1 p x .process)
 unfolding rule1 small
@@ -71,15 +71,15 @@ rule1-ready p x e = at (same? (x .num) 0)
     h = inRange-P x e
 
     at : Same (x .num) 0 → Ready (rule1 p x .process)
-    at (same _ f) = rw f (h .succeeding, (h .preceding, record { flag = h .subordinate; count = le-leb (natAbs (x .cs)) mostCount (h .cs) }))
-    at (apart _ f) = rw f (h .succeeding, (h .preceding, record { flag = h .subordinate; count = refl }))
+    at (same _ f) = rw f (record { flag = h .subordinate; count = le-leb (natAbs (x .cs)) mostCount (h .cs) }, (h .succeeding, h .preceding))
+    at (apart _ f) = rw f (record { flag = h .subordinate; count = refl }, (h .succeeding, h .preceding))
 
 pub setSucceeding-ready : (o : ℕ) (t : Turn) → Ready (t .process) → Ready (setSucceeding o t .process)
 unfolding setSucceeding
 setSucceeding-ready o t h = at (same? (t .process .succeeding) 0)
   where
     at : Same (t .process .succeeding) 0 → Ready (setSucceeding o t .process)
-    at (same _ f) = rw f (omega arith, (h .1 .0, record { flag = h .1 .1 .flag; count = h .1 .1 .count }))
+    at (same _ f) = rw f (record { flag = h .0 .flag; count = h .0 .count }, (omega arith, h .1 .1))
     at (apart _ f) = rw f h
 
 pub setPreceding-ready : (i : ℕ) (t : Turn) → Ready (t .process) → Ready (setPreceding i t .process)
@@ -87,7 +87,7 @@ unfolding setPreceding
 setPreceding-ready i t h = at (same? (t .process .preceding) 0)
   where
     at : Same (t .process .preceding) 0 → Ready (setPreceding i t .process)
-    at (same _ f) = rw f (h .0, (omega arith, record { flag = h .1 .1 .flag; count = h .1 .1 .count }))
+    at (same _ f) = rw f (record { flag = h .0 .flag; count = h .0 .count }, (h .1 .0, omega arith))
     at (apart _ f) = rw f h
 
 -- what an acknowledgement asks of the record and of its count, which is read back

@@ -242,9 +242,9 @@ fn new_subordinate(process: Process) -> u32
 
 // Rule 3: the new subordinate, and "cs gains new minus old".
 fn rule3(turn: Turn) -> Turn
+    requires { ⌜ Addable (turn .process) ⌝ }
     requires { ⌜ turn .process .succeeding ≤ 1 ⌝ }
     requires { ⌜ turn .process .preceding ≤ 1 ⌝ }
-    requires { ⌜ Addable (turn .process) ⌝ }
     ensures { λ r. ⌜ r ≡ rule3 turn ⌝ }
 {
     let process = turn.process;

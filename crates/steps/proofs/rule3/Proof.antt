@@ -11,20 +11,20 @@ use Rattle.steps.proofs.rule3.Statement.{statement}
 use Rattle.steps.proofs.rule3.Tie as tie
 
 change-requires : tie.Need-change-requires
-change-requires c κs = (rw (c .new-subordinate .ensures) (newSubordinate-flag (c .before .before .args .turn .process)), c .before .before .pre .1 .1 .flag)
+change-requires c κs = (rw (c .new-subordinate .ensures) (newSubordinate-flag (c .before .before .args .turn .process)), c .before .before .pre .0 .flag)
 
 -- the difference of the two flags is in range
 changed : (c : tie.After-change) → small (c .change .result) ≡ true
 changed c =
     let x = c .before .before .before .args .turn .process in
     let v = c .before .new-subordinate .result in
-    rw (c .change .ensures) (small-change v (x .subordinate) (change-requires (c .before) (c .change .lifetimes) .0) (c .before .before .before .pre .1 .1 .flag))
+    rw (c .change .ensures) (small-change v (x .subordinate) (change-requires (c .before) (c .change .lifetimes) .0) (c .before .before .before .pre .0 .flag))
 
 sum-requires : tie.Need-sum-requires
 sum-requires c κs =
     let start = c .before .before .before .before in
     let x = start .args .turn .process in (
-      rw (signed-back (x .cs) (small-fits (x .cs) (start .pre .1 .1 .count))) (start .pre .1 .1 .count),
+      rw (signed-back (x .cs) (small-fits (x .cs) (start .pre .0 .count))) (start .pre .0 .count),
       rw
           (signed-back (c .before .change .result) (c .before .change .ok)) (changed (c .before)),
     )
@@ -38,7 +38,7 @@ returns c =
     let d = c .before .before .change in
     rule3-made (start .args .turn) (v .result) _ (v .ensures)
     (signed-back (c .sum .result) (c .sum .ok) ∙ c .sum .ensures
-    ∙ ap₂ _+ℤ_ (signed-back (x .cs) (small-fits (x .cs) (start .pre .1 .1 .count))) (signed-back (d .result) (d .ok) ∙ d .ensures))
+    ∙ ap₂ _+ℤ_ (signed-back (x .cs) (small-fits (x .cs) (start .pre .0 .count))) (signed-back (d .result) (d .ok) ∙ d .ensures))
 
 pub rule3-spec : {M : Type 1} → statement M
-rule3-spec = tie.close (tie.spec (λ c κs. (c .before .pre .0, c .before .pre .1 .0)) change-requires sum-requires returns)
+rule3-spec = tie.close (tie.spec (λ c κs. c .before .pre .1) change-requires sum-requires returns)
