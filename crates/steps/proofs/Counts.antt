@@ -12,6 +12,7 @@
 use Prim.Native.Nat.{ℕ, zero, suc, _+_, _-_, _*_, _^_, _≤_, _<_}
 use mathlib.Core.Bool.{Bool, true, false, false≢true, cond, _&&_}
 use mathlib.Core.Path.{_≡_, refl, sym}
+use native.Mathlib.Nat.{mul-add}
 use native.Mathlib.Omega.{arith}
 use lib.Dec.{eqb, ltb}
 use lib.IntN.{ℤ, pos, negsuc, subℕ, _+ℤ_, _-ℤ_, natAbs}
@@ -25,6 +26,7 @@ use Rattle.base.specs.Checks.{Tested, passed, failed}
 use Rattle.base.specs.Choice.{choose}
 use Rattle.steps.specs.declared.Process.{Process}
 use Rattle.steps.specs.Step.{mostCount, small, newSubordinate}
+use Rattle.steps.specs.StepLaws.{newSubordinate-both}
 
 pub signed-back : (z : ℤ) → mag z < 2 ^ 31 → toZ w32 (ofZ w32 z) ≡ z
 signed-back z h = toZ-ofZ {w = w32} {z = z} (record { sfits = h })
@@ -89,12 +91,7 @@ newSubordinate-flag x = at (eqb (x .succeeding) 1 && eqb (x .preceding) 0)
 
 -- 02, N2: "new subordinate is succeeding times (1 minus preceding)"
 pub newSubordinate-product : (x : Process) → x .succeeding ≤ 1 → x .preceding ≤ 1 → x .succeeding * (1 - x .preceding) ≡ newSubordinate x
-unfolding newSubordinate
-newSubordinate-product x = at (x .succeeding) (x .preceding)
-  where
-    at : (s p : ℕ) → s ≤ 1 → p ≤ 1 → s * (1 - p) ≡ choose (eqb s 1 && eqb p 0) 1 0
-    at zero p h k = omega arith
-    at (suc zero) zero h k = refl
-    at (suc zero) (suc zero) h k = refl
-    at (suc zero) (suc (suc p)) h k = absurd (omega arith)
-    at (suc (suc s)) p h k = absurd (omega arith)
+newSubordinate-product x h k =
+    let whole : 1 - x .preceding + x .preceding ≡ 1 = omega arith in
+    let parts = rw whole at (mul-add (x .succeeding) (1 - x .preceding) (x .preceding)) in
+    omega (arith, newSubordinate-both x h k)

@@ -1,6 +1,7 @@
 -- Laws of the step, from one look at its rules.
 --   Asked a x t       == rule 1: a became the father of a process with num 0, or was acknowledged with the old sum
 --   Marked m o i x t  == rules 1 and 2: the flag of the probe is set, and num gained the probes sent
+--   newSubordinate-both             == of two flags: the new subordinate, and 1 for both, are succeeding
 --   turn-effect, startTurn-effect   == every step has the effect that Effect says
 --   turn-named, startTurn-named     == whom a step of any record takes as father, and whom it acknowledges
 --   turn-grown, startTurn-grown, grown-sucs, grown-pres   == where the step of any record broadcasts, num grows by the number of probes
@@ -131,7 +132,7 @@ only-both (suc zero) (suc zero) h k = refl
 only-both (suc zero) (suc (suc p)) h k = absurd (omega arith)
 only-both (suc (suc s)) p h k = absurd (omega arith)
 
-newSubordinate-both : (x : Process) → x .succeeding ≤ 1 → x .preceding ≤ 1 → newSubordinate x + both x ≡ x .succeeding
+pub newSubordinate-both : (x : Process) → x .succeeding ≤ 1 → x .preceding ≤ 1 → newSubordinate x + both x ≡ x .succeeding
 unfolding newSubordinate
 newSubordinate-both x h k = only-both (x .succeeding) (x .preceding) h k
 
