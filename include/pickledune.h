@@ -38,6 +38,7 @@
  *   24  no message waits on that link, or, when running on, on any link
  *   25  there is no such link; for one process's step: the sender is 0 or over 128; for reading a record: the process is 0 or over N
  *   26  the run is not over yet
+ *   31  the place is 0 or beyond the messages waiting on that link
  */
 #ifndef PICKLEDUNE_H
 #define PICKLEDUNE_H
@@ -107,13 +108,15 @@ size_t pickledune_next(const uint8_t *table, size_t table_bytes, uint32_t chain,
  * Refused, in this order: 1, 2, 3, 4, 5, 6, 7, 8, 9. */
 uint32_t pickledune_start(const uint8_t *table, size_t table_bytes, size_t start, int32_t *area, size_t words);
 
-/* Delivers the oldest message on the link from one process to another.
+/* Delivers the message at a place of the link from one process to another. Place 1 has the oldest message. The message is taken out of
+ * the middle, and the others keep their order.
  * Lent: words words, the run area, which takes the delivery.
- * Back: *kind and *count of the message: PICKLEDUNE_SUC or PICKLEDUNE_PRE with 0, or PICKLEDUNE_ACK with its count.
- * Refused, in this order: 21, 25, 23, 24, 22. */
-uint32_t pickledune_pick(int32_t *area, size_t words, size_t from, size_t to, uint32_t *kind, int32_t *count);
+ * Back: *kind and *count of the message that was taken: PICKLEDUNE_SUC or PICKLEDUNE_PRE with 0, or PICKLEDUNE_ACK with its count.
+ * Refused, in this order: 21, 25, 23, 24, 31, 22. */
+uint32_t pickledune_pick(int32_t *area, size_t words, size_t from, size_t to, size_t place, uint32_t *kind, int32_t *count);
 
-/* Makes up to k deliveries, each on the link with a message that has the lowest sender and then the lowest receiver.
+/* Makes up to k deliveries, each of the oldest message on the link with a message that has the lowest sender and then the lowest
+ * receiver.
  * Lent: words words, the run area, which takes the deliveries.
  * Back: *over is 1 if the run is over and 0 if the k deliveries are spent and it is not; *made, the deliveries made. No run that
  * pickledune_start began takes more than 2048 deliveries, so that k = 2048 runs it to the end.

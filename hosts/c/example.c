@@ -30,14 +30,15 @@ static void print_delivery(const char *how, size_t from, size_t to, uint32_t kin
     }
 }
 
-/* The delivery that running on makes next, by picks: 24 and 25 say that nothing waits there. Returns 0 if the run is over. */
+/* The delivery that running on makes next, by picks of the oldest message: 24 and 25 say that nothing waits there. Returns 0 if the run is
+ * over. */
 static int deliver_next(int32_t *area)
 {
     for (size_t from = 1; from <= PROCESSES; from++) {
         for (size_t to = 1; to <= PROCESSES; to++) {
             uint32_t kind;
             int32_t count;
-            uint32_t number = pickledune_pick(area, WORDS, from, to, &kind, &count);
+            uint32_t number = pickledune_pick(area, WORDS, from, to, 1, &kind, &count);
             if (number == 0) {
                 print_delivery("own", from, to, kind, count);
                 return 1;
@@ -89,6 +90,26 @@ static void step_by_itself(void)
     expect(record.succeeding == 1 && probes == 0 && to == 0 && count == 0, "a refusal keeps the record and gives zeros");
 }
 
+/* Overtaking (02, N5): 1 and 2 wait for each other, so that a suc probe and then a pre probe wait on the link from 1 to 2. The second is
+ * picked first, and the check ends as it does in any other order. */
+static void overtake(void)
+{
+    const uint16_t list[4] = {1, 2, 2, 1};
+    uint8_t table[PICKLEDUNE_TABLE_BYTES(2, 2)];
+    int32_t area[PICKLEDUNE_AREA_WORDS(2, 2)];
+    const size_t words = PICKLEDUNE_AREA_WORDS(2, 2);
+    size_t length;
+    uint32_t kind;
+    int32_t count;
+    uint32_t over;
+    uint32_t made;
+    expect(pickledune_write_table(2, list, 4, table, sizeof table, &length) == 0, "writing a table of two waits");
+    expect(pickledune_start(table, length, 1, area, words) == 0, "its start");
+    expect(pickledune_pick(area, words, 1, 2, 2, &kind, &count) == 0 && kind == PICKLEDUNE_PRE, "the second message first");
+    expect(pickledune_pick(area, words, 1, 2, 1, &kind, &count) == 0 && kind == PICKLEDUNE_SUC, "then the first");
+    expect(pickledune_run_on(area, words, 2048, &over, &made) == 0 && over == 1 && made == 6, "8 deliveries in any order");
+}
+
 static void print_report(const int32_t *area)
 {
     uint32_t deliveries;
@@ -129,7 +150,8 @@ int main(void)
 
     expect(pickledune_start(table, length, 1, area, WORDS - 1) == 9, "an area that is too short");
     expect(pickledune_start(table, length, 1, area, WORDS) == 0, "the start");
-    expect(pickledune_pick(area, WORDS, 1, 2, &kind, &count) == 0, "the pick");
+    expect(pickledune_pick(area, WORDS, 1, 2, 2, &kind, &count) == 31, "one message waits there, and none at place 2");
+    expect(pickledune_pick(area, WORDS, 1, 2, 1, &kind, &count) == 0, "the pick");
     print_delivery("pick", 1, 2, kind, count);
     memcpy(picked, area, sizeof area);
     while (deliver_next(area)) {
@@ -137,5 +159,6 @@ int main(void)
     compare_with_running_on(picked, area);
     print_report(area);
     step_by_itself();
+    overtake();
     return 0;
 }

@@ -3,8 +3,9 @@
  *
  * Everything that is lent ends where a page begins that may not be touched, so reading or writing past it stops the program. What 01
  * says of every call is checked after it: a refusal gives zeros and changes nothing (running on keeps the deliveries made before it),
- * nothing but the area changes, and the answers of calls that follow each other agree. The archive itself is not built for the fuzzer,
- * so each answer is counted as coverage (calls by their refusal numbers). */
+ * nothing but the area changes, the answers of calls that follow each other agree, and a pick is held to the words of its link (02, N5).
+ * The archive itself is not built for the fuzzer, so each answer is counted as coverage (calls by their refusal numbers, accepted picks by
+ * their places too). */
 #include "pickledune.h"
 
 #include <stdint.h>
@@ -14,13 +15,15 @@
 #include <sys/mman.h>
 #include <unistd.h>
 
-enum { CALLS = 10, NUMBERS = 40, TABLE = 8192, LIST = 2200, AREA = 12000, STEPS = 4096 };
+enum { CALLS = 10, ROWS = CALLS + 1, NUMBERS = 50, TABLE = 8192, LIST = 2200, AREA = 12000, STEPS = 4096, WAITING = 4 };
 
-__attribute__((section("__libfuzzer_extra_counters"))) static uint8_t seen[CALLS * NUMBERS];
+__attribute__((section("__libfuzzer_extra_counters"))) static uint8_t seen[ROWS * NUMBERS];
 
-/* The numbers that each call has answered in the whole run, printed at its end. */
-static const char *const call_names[CALLS] = {"read_table", "write_table", "open", "next", "start", "pick", "run_on", "report", "read_record", "step"};
-static uint64_t answered[CALLS][NUMBERS];
+/* The numbers that each call has answered in the whole run, printed at its end. The last row has accepted picks, by how many messages waited
+ * and by place: 32 is the second of three. */
+static const char *const row_names[ROWS] = {"read_table", "write_table", "open",        "next", "start", "pick",
+                                            "run_on",     "report",      "read_record", "step", "picked"};
+static uint64_t answered[ROWS][NUMBERS];
 
 static uint8_t *table_end, *out_end;
 static uint16_t *list_end;
@@ -49,26 +52,32 @@ static void *lent(size_t bytes)
     return at + whole;
 }
 
+static void note(int row, size_t number)
+{
+    seen[(size_t)row * NUMBERS + number] = 1;
+    answered[row][number] += 1;
+}
+
 static uint32_t count(int call, uint32_t number)
 {
-    expect(number < NUMBERS, "a number that is in no table");
-    seen[call * NUMBERS + number] = 1;
-    answered[call][number] += 1;
+    expect(number <= 11 || (21 <= number && number <= 26) || number == 31, "a number that is in no table");
+    note(call, number);
     return number;
 }
 
 static void print_answers(void)
 {
-    for (int call = 0; call < CALLS; call++) {
-        fprintf(stderr, "%s:", call_names[call]);
+    for (int row = 0; row < ROWS; row++) {
+        fprintf(stderr, "%s:", row_names[row]);
         for (int number = 0; number < NUMBERS; number++)
-            if (answered[call][number])
-                fprintf(stderr, " %d (%llu)", number, (unsigned long long)answered[call][number]);
+            if (answered[row][number])
+                fprintf(stderr, " %d (%llu)", number, (unsigned long long)answered[row][number]);
         fprintf(stderr, "\n");
     }
 }
 
-/* The steps that this input has made; at STEPS it ends. Each record that a report is held to counts as one: reading it tests the whole area. */
+/* The steps that this input has made; at STEPS it ends. Each record that a report is held to and each place that is tried counts as one: it
+ * tests the whole area. */
 static int steps_made;
 
 /* The input, read from its front; zeros after its end. */
@@ -222,25 +231,128 @@ static void change_value(void)
         value = messages[byte() % 8];
     } else {
         at = place == 4 ? 2 : records + 6 * (byte() % n) + place;
-        value = place == 0 ? (int32_t)(byte() % 8) : place == 1 ? (int32_t)(byte() % 257) - 128 : (int32_t)(number() % (place == 4 ? 2049 : 257));
+        value = place == 0 ? (int32_t)(byte() % 8) : place == 1 ? (int32_t)(byte() % 257) - 128 : (int32_t)(number() % 257);
+        if (place == 4) /* often the most deliveries, after which the next is refused with 22 */
+            value = 2048 - (int32_t)(byte() % 4 ? byte() % 2 : number() % 2049);
     }
     if (at < area_len)
         area[at] = value;
 }
 
-static void pick(void)
+/* Whether words of the area's length have N, M and the start in their ranges, and are as many as N and M need. */
+static int has_its_words(const int32_t *words)
+{
+    return area_len >= 16 && 1 <= words[14] && words[14] <= 128 && 0 <= words[15] && words[15] <= 512 && 1 <= words[1] &&
+           words[1] <= words[14] && area_len >= PICKLEDUNE_AREA_WORDS((size_t)words[14], (size_t)words[15]);
+}
+
+/* Two processes: any two numbers, which as a rule have no link, or the two ends of an arc. */
+static void draw_ends(size_t *from, size_t *to)
+{
+    size_t most = byte() % 8 ? 9 : 256;
+    *from = byte() % most;
+    *to = byte() % most;
+    if (byte() % 2 && has_its_words(area) && area[15]) {
+        const int32_t *arc = area + 16 + 2 * area[14] + 4 * (number() % (uint32_t)area[15]);
+        uint32_t back = byte() % 2;
+        *from = (size_t)arc[back];
+        *to = (size_t)arc[1 - back];
+    }
+}
+
+/* A place on a link: 0 to 5, or far out. */
+static size_t draw_place(void)
+{
+    uint32_t drawn = byte() % 16, low;
+    if (drawn < 12)
+        return (drawn + 1) % 6;
+    if (drawn < 14)
+        return word();
+    low = byte();
+    return drawn == 14 ? (size_t)((uint64_t)word() << 32 | low % 6) : SIZE_MAX - low;
+}
+
+/* Where the messages of a link stand in a well-formed area as it was before the call (docs/LAYOUT.md), or 0 if there is no such link. */
+static size_t link_place(size_t from, size_t to)
+{
+    size_t n = (size_t)before[14], m = (size_t)before[15], links = 16 + 8 * n + 4 * m, back = 0;
+    if (from < 1 || from > n || to < 1 || to > n)
+        return 0;
+    for (size_t k = 0; k < m; k++) {
+        const int32_t *arc = before + 16 + 2 * n + 4 * k;
+        if ((size_t)arc[0] == from && (size_t)arc[1] == to)
+            return links + 16 * k;
+        if ((size_t)arc[0] == to && (size_t)arc[1] == from)
+            back = links + 16 * k + 8;
+    }
+    return back;
+}
+
+/* The first refusal that a pick meets in a well-formed area as it was before the call, or 0 if there is none before 22. */
+static uint32_t first_refusal(size_t link, size_t load, size_t place)
+{
+    size_t n = (size_t)before[14], m = (size_t)before[15], start = (size_t)before[1];
+    if (link == 0)
+        return 25;
+    if (before[16 + 2 * n + 4 * m + 6 * (start - 1) + 2] == 0)
+        return 23;
+    if (load == 0)
+        return 24;
+    return place == 0 || place > load ? 31 : 0;
+}
+
+/* A pick, held to the words of its link: 02, N5. */
+static void pick_at(size_t from, size_t to, size_t place)
 {
     uint32_t kind = 7;
     int32_t carried = 7;
-    size_t most = byte() % 8 ? 9 : 256, from = byte() % most, to = byte() % most;
+    size_t link, load = 0;
     keep();
-    uint32_t refused = count(5, pickledune_pick(area, area_len, from, to, &kind, &carried));
+    uint32_t refused = count(5, pickledune_pick(area, area_len, from, to, place, &kind, &carried));
     if (refused)
         expect(kind == 0 && carried == 0 && kept(), "a refused pick changes nothing");
     else {
         expect(1 <= kind && kind <= 3 && -128 <= carried && carried <= 128, "a message");
         expect(kind == 3 || carried == 0, "a probe has no count");
         expect(area[2] == before[2] + 1, "a delivery is counted");
+    }
+    if (refused == 21)
+        return;
+    expect(has_its_words(before), "21 for an area that is too short, or has sizes or a start out of range");
+    link = link_place(from, to);
+    while (link && load < WAITING && before[link + load])
+        load += 1;
+    uint32_t first = first_refusal(link, load, place);
+    expect(first ? refused == first : refused == 0 || refused == 22, "25, 23, 24, 31, 22, in this order");
+    if (refused)
+        return;
+    note(CALLS, 10 * load + place);
+    int32_t taken = before[link + place - 1];
+    expect(taken <= 2 ? (int32_t)kind == taken : kind == 3 && carried == taken - 256, "the message at the place");
+    for (size_t i = 1; i < load; i++)
+        expect(area[link + i - 1] == before[link + i - (i < place)], "the others keep their order");
+    /* Only on a loop does the receiver send on the link that it got the message by. */
+    for (size_t i = load; i <= WAITING && from != to; i++)
+        expect(area[link + i - 1] == 0, "nothing behind the others");
+}
+
+static void pick(void)
+{
+    size_t from, to;
+    draw_ends(&from, &to);
+    pick_at(from, to, draw_place());
+}
+
+/* Every place of one link, 0 and those beyond, each on the same words. */
+static void pick_every_place(void)
+{
+    static const size_t places[] = {0, 1, 2, 3, 4, 5, 257, SIZE_MAX};
+    size_t from, to;
+    draw_ends(&from, &to);
+    for (size_t i = 0; i < sizeof places / sizeof *places; i++) {
+        pick_at(from, to, places[i]);
+        memcpy(area, before, area_len * sizeof *area);
+        steps_made += 1;
     }
 }
 
@@ -339,7 +451,7 @@ int LLVMFuzzerTestOneInput(const uint8_t *data, size_t size)
     area = area_end;
     table_len = area_len = 0;
     for (steps_made = 0; steps_made < STEPS && left > 0; steps_made++) {
-        switch (byte() % 16) {
+        switch (byte() % 17) {
         case 0: /* the input's own bytes as a table */
             table_len = number() % TABLE;
             table_len = table_len < left ? table_len : left;
@@ -384,6 +496,9 @@ int LLVMFuzzerTestOneInput(const uint8_t *data, size_t size)
             break;
         case 14: /* a value of a record or a link is changed to another in range, so that the area may stay well formed */
             change_value();
+            break;
+        case 15:
+            pick_every_place();
             break;
         default:
             step();

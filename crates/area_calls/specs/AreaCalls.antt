@@ -1,6 +1,6 @@
 -- The four calls on the words that a start left, and any list of them. Each call reads the run that the area holds, does what `checks`
 -- defines, and stores the run again; an area that is not well formed gets 21 and keeps every word.
---   pickAnswer w a b, pickArea w a b     == a pick
+--   pickAnswer w a b k, pickArea w a b k   == a pick of place k
 --   runOnAnswer k w, runOnArea k w       == running on
 --   reportAnswer w                       == the report
 --   readAnswer w p                       == reading one process's record
@@ -21,11 +21,11 @@ use Rattle.checks.specs.Calls.{pick, runOn, report, readRecord, deliveryNumber,
 use Rattle.checks.specs.{Run.Run, Lists.Promise}
 use Rattle.areas.specs.Area.{keeping, runIn, areaRight}
 
-unfoldable pub pickAnswer : List ℤ → ℕ → ℕ → Delivery
-pickAnswer w a b = choose (areaRight w) (pick (runIn w) a b .answer) (Delivery.Refused 21)
+unfoldable pub pickAnswer : List ℤ → ℕ → ℕ → ℕ → Delivery
+pickAnswer w a b k = choose (areaRight w) (pick (runIn w) a b k .answer) (Delivery.Refused 21)
 
-unfoldable pub pickArea : List ℤ → ℕ → ℕ → List ℤ
-pickArea w a b = choose (areaRight w) (keeping w (pick (runIn w) a b .run)) w
+unfoldable pub pickArea : List ℤ → ℕ → ℕ → ℕ → List ℤ
+pickArea w a b k = choose (areaRight w) (keeping w (pick (runIn w) a b k .run)) w
 
 unfoldable pub runOnAnswer : ℕ → List ℤ → Ran
 runOnAnswer k w = choose (areaRight w) (runOn k (runIn w) .answer) (Ran.Refused 21 0)
@@ -43,7 +43,8 @@ readAnswer w p = choose (areaRight w) (readRecord (runIn w) p) (Reading.Refused 
 
 -- one call; a report and a reading change no word
 abbrev pub areaPassedBy : Call → List ℤ → Passed (List ℤ)
-areaPassedBy (picking a b) w = record { left = pickArea w a b; made = deliveryMade (pickAnswer w a b); numbers = deliveryNumber (pickAnswer w a b) ∷ [] }
+areaPassedBy (picking a b k) w =
+    record { left = pickArea w a b k; made = deliveryMade (pickAnswer w a b k); numbers = deliveryNumber (pickAnswer w a b k) ∷ [] }
 areaPassedBy (runningOn k) w = record { left = runOnArea k w; made = ranMade (runOnAnswer k w); numbers = ranNumber (runOnAnswer k w) ∷ [] }
 areaPassedBy reporting w = record { left = w; made = 0; numbers = reportNumber (reportAnswer w) ∷ [] }
 areaPassedBy (reading p) w = record { left = w; made = 0; numbers = readingNumber (readAnswer w p) ∷ [] }

@@ -31,9 +31,9 @@ use Rattle.area_calls.specs.AreaCalls.{pickAnswer, pickArea, runOnAnswer
 -- ---- 21
 
 module _ (w : List ℤ) (e : areaRight w ≡ false) where
-  pub pick-21 : (a b : ℕ) → (Delivery.Refused 21 ≡ pickAnswer w a b) × (w ≡ pickArea w a b)
+  pub pick-21 : (a b k : ℕ) → (Delivery.Refused 21 ≡ pickAnswer w a b k) × (w ≡ pickArea w a b k)
   unfolding pickAnswer pickArea
-  pick-21 a b = (rw e, rw e)
+  pick-21 a b k = (rw e, rw e)
 
   pub runOn-21 : (k : ℕ) → (Ran.Refused 21 0 ≡ runOnAnswer k w) × (w ≡ runOnArea k w)
   unfolding runOnAnswer runOnArea
@@ -56,18 +56,20 @@ module _ (w : List ℤ) (e : areaRight w ≡ true) where
   pub same : w ≡ keeping w (runIn w)
   same = sym (stored-same w e)
 
-  pub pick-25 : (a b : ℕ) → neighbours (runIn w .waits) a b ≡ false → (Delivery.Refused 25 ≡ pickAnswer w a b) × (w ≡ pickArea w a b)
+  pub pick-25 : (a b k : ℕ) → neighbours (runIn w .waits) a b ≡ false → (Delivery.Refused 25 ≡ pickAnswer w a b k) × (w ≡ pickArea w a b k)
   unfolding pickAnswer pickArea MachineCalls.pick
-  pick-25 a b n = (rw (e, formed, n), rw (e, formed, n) same)
+  pick-25 a b k n = (rw (e, formed, n), rw (e, formed, n) same)
 
-  pub pick-23 : (a b : ℕ) → neighbours (runIn w .waits) a b ≡ true → over (runIn w) ≡ true → (Delivery.Refused 23 ≡ pickAnswer w a b) × (w ≡ pickArea w a b)
+  pub pick-23 : (a b k : ℕ) → neighbours (runIn w .waits) a b ≡ true → over (runIn w) ≡ true →
+      (Delivery.Refused 23 ≡ pickAnswer w a b k) × (w ≡ pickArea w a b k)
   unfolding pickAnswer pickArea MachineCalls.pick
-  pick-23 a b n o = (rw (e, formed, n, o), rw (e, formed, n, o) same)
+  pick-23 a b k n o = (rw (e, formed, n, o), rw (e, formed, n, o) same)
 
-  pub pick-on : (a b : ℕ) → neighbours (runIn w .waits) a b ≡ true → over (runIn w) ≡ false →
-      (deliver (runIn w) a b (runIn w .link a b) .answer ≡ pickAnswer w a b) × (keeping w (deliver (runIn w) a b (runIn w .link a b) .run) ≡ pickArea w a b)
+  pub pick-on : (a b k : ℕ) → neighbours (runIn w .waits) a b ≡ true → over (runIn w) ≡ false →
+      (deliver (runIn w) a b k (runIn w .link a b) .answer ≡ pickAnswer w a b k) ×
+      (keeping w (deliver (runIn w) a b k (runIn w .link a b) .run) ≡ pickArea w a b k)
   unfolding pickAnswer pickArea MachineCalls.pick
-  pick-on a b n o = (rw (e, formed, n, o), rw (e, formed, n, o))
+  pick-on a b k n o = (rw (e, formed, n, o), rw (e, formed, n, o))
 
   pub runOn-on : (k : ℕ) → (runFrom k 0 (runIn w) .answer ≡ runOnAnswer k w) × (keeping w (runFrom k 0 (runIn w) .run) ≡ runOnArea k w)
   unfolding runOnAnswer runOnArea MachineCalls.runOn
@@ -108,7 +110,7 @@ passed-21 w e [] = refl
 passed-21 w e (c ∷ cs) = ap (λ (v : List ℤ). areaPassed cs v .left) (stays c) ∙ passed-21 w e cs
   where
     stays : (c : Call) → areaPassedBy c w .left ≡ w
-    stays (picking a b) = sym (pick-21 w e a b .1)
+    stays (picking a b k) = sym (pick-21 w e a b k .1)
     stays (runningOn k) = sym (runOn-21 w e k .1)
     stays reporting = refl
     stays (reading p) = refl

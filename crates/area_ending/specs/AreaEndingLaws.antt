@@ -2,12 +2,13 @@
 --   call-keeps        == a call that makes no delivery leaves every word: so does every refused call, whatever its number, but for a running
 --                        on that was refused after it had made some
 --   pick-keeps        == a refused pick leaves every word, whatever its number
+--   area-takes        == after every list that is not over: the pick of every message that waits, wherever it stands, answers with it
 --   area-reports      == after every list that is over: what the report of the words that the list left answers
 --   area-runs-out, area-over   == after every list: running on with as many deliveries as are left ends over, with their number
 --   area-runs-out-most, area-over-most   == .. as 2,048 do from wherever a list has come to
 -- Assumes nothing.
 use Prim.Native.Nat.{ℕ, _+_, _-_, _≤_}
-use mathlib.Core.Bool.{true}
+use mathlib.Core.Bool.{true, false}
 use mathlib.Core.List.{List}
 use mathlib.Core.Path.{_≡_, refl, sym, ap, _∙_}
 use native.Mathlib.Omega.{arith}
@@ -20,13 +21,16 @@ use Rattle.tables.specs.Waits.{Waits, waitsOf}
 use Rattle.tables.specs.Sound.{Sound}
 use Rattle.tables.specs.WaitsLaws.{waitsOf-sound}
 use Rattle.machine.specs.declared.Ran.{Ran}
-use Rattle.machine.specs.Calls.{fixedOrder}
+use Rattle.machine.specs.Calls.{cut, atPlace, fixedOrder}
 use Rattle.machine.specs.Calls as MachineCalls
-use Rattle.machine.specs.Lists.{Call, picking, runningOn, reporting, reading, Passed}
+use Rattle.machine.specs.Lists.{Call, picking, runningOn, reporting, reading, Passed, Taken}
+use Rattle.machine.specs.AmongLaws.{cut-placed}
 use Rattle.machine.specs.Made.{Made, none}
 use Rattle.machine.specs.MadeLaws.{pick-made, runOn-made}
 use Rattle.machine.specs.ChooserLaws.{fixedOrder-finds}
+use Rattle.steps.specs.declared.Message.{Message}
 use Rattle.checks.specs.declared.Delivery.{Delivery}
+use Rattle.checks.specs.declared.Delivery.the-variants.{Delivered}
 use Rattle.checks.specs.declared.Verdict.the-variants.{Knot, Free}
 use Rattle.checks.specs.declared.Mark.the-variants.{Returned, Held}
 use Rattle.checks.specs.declared.Report.{Report}
@@ -62,19 +66,19 @@ unfolding pickArea pickAnswer runOnArea runOnAnswer
 call-keeps c w = at c (tested (areaRight w))
   where
     at : (c : Call) → Tested (areaRight w) → areaPassedBy c w .made ≡ 0 → areaPassedBy c w .left ≡ w
-    at (picking a b) (failed e) z = rw e
-    at (picking a b) (passed e) z =
-        let m = pick-made knot (runIn w) (right-storable w e .sound) a b in
-        let x = MachineCalls.pick knot (runIn w) a b .answer in
-        rw e (kept w e (pick (runIn w) a b .run) (none-made m (sym (deliveryOf-accepted x) ∙ (rw e at z))))
+    at (picking a b k) (failed e) z = rw e
+    at (picking a b k) (passed e) z =
+        let m = pick-made knot (runIn w) (right-storable w e .sound) a b k in
+        let x = MachineCalls.pick knot (runIn w) a b k .answer in
+        rw e (kept w e (pick (runIn w) a b k .run) (none-made m (sym (deliveryOf-accepted x) ∙ (rw e at z))))
     at (runningOn k) (failed e) z = rw e
     at (runningOn k) (passed e) z =
         rw e (kept w e (runOn k (runIn w) .run) (none-made (runOn-made knot fixedOrder fixedOrder-finds k 0 (runIn w)) (rw e at z)))
     at reporting _ z = refl
     at (reading p) _ z = refl
 
-pub pick-keeps : (w : List ℤ) (a b n : ℕ) → pickAnswer w a b ≡ Delivery.Refused n → pickArea w a b ≡ w
-pick-keeps w a b n e = call-keeps (picking a b) w (ap deliveryMade e)
+pub pick-keeps : (w : List ℤ) (a b k n : ℕ) → pickAnswer w a b k ≡ Delivery.Refused n → pickArea w a b k ≡ w
+pick-keeps w a b k n e = call-keeps (picking a b k) w (ap deliveryMade e)
 
 -- ---- after every list
 
@@ -92,6 +96,18 @@ module _ (bs : List ℕ) (s : ℕ) (w : List ℤ) (e : startNumber bs s w ≡ 0)
   area-reports z =
       let p = area-ending bs s w e cs in
       report-on (list .left) (p .right) ∙ p .promise .ended (p .promise .over-at-d .1 z) .reports
+
+  -- the pick of every message that waits, on any link and at any place of it, answers with that message (02, N5)
+  pub area-takes : over (runIn (list .left)) ≡ false → (a b k : ℕ) → IsProcess (waits .n) a → IsProcess (waits .n) b → {m : Message} {rest : List Message} →
+      atPlace k (runIn (list .left) .link a b) ≡ cut m rest → pickAnswer (list .left) a b k ≡ Delivered m
+  unfolding pickAnswer
+  area-takes o a b k pa pb {m} {rest} c =
+      let p = area-ending bs s w e cs in
+      let h = cut-placed k (runIn (list .left) .link a b) c in
+      let t : Taken knot (runIn (list .left)) a b k = p .promise .goes-on o .each a b k pa pb (h .1 .0) (h .1 .1) in
+      let two : cut m rest ≡ cut (t .message) (t .rest) = sym c ∙ t .waits in
+      let same : t .message ≡ m = cc in
+      rw (p .right, t .accepted) (ap Delivered same)
 
   sound : Sound waits
   sound = waitsOf-sound (fieldOf bs) (table bs s w e .right)

@@ -48,15 +48,15 @@ module _ (t : Fields) (tb : RightTable t) (w : List ℤ) (long : areaOf t ≤ le
         numbers = passedBy knot fixedOrder asked c r .numbers;
       }
   unfolding pickArea pickAnswer runOnArea runOnAnswer reportAnswer readAnswer
-  call-stored (picking a b) r f =
-      let x = MachineCalls.pick knot r a b .answer in
-      rw (right r f, run r f, keeps r (pick r a b .run), deliveryOf-number x, deliveryOf-accepted x)
+  call-stored (picking a b k) r f =
+      let x = MachineCalls.pick knot r a b k .answer in
+      rw (right r f, run r f, keeps r (pick r a b k .run), deliveryOf-number x, deliveryOf-accepted x)
   call-stored (runningOn k) r f = rw (right r f, run r f, keeps r (runOn k r .run))
   call-stored reporting r f = rw (right r f, run r f)
   call-stored (reading p) r f = rw (right r f, run r f)
 
   pub fit-call : (c : Call) (r : Run) → Storable t r → Storable t (passedBy knot fixedOrder asked c r .left)
-  fit-call (picking a b) r f = storable-pick t r f a b
+  fit-call (picking a b k) r f = storable-pick t r f a b k
   fit-call (runningOn k) r f = storable-runOn t k r f
   fit-call reporting r f = f
   fit-call (reading p) r f = f

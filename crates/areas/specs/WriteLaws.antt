@@ -1,6 +1,6 @@
 -- A store into an area with a run in it is the area with a changed run in it.
 --   stored-record     == the words of a process's record: the run with that record replaced
---   stored-taken      == a link's words moved down by one: the run with the oldest message off that link
+--   stored-taken      == a link's words from a slot on moved down by one: the run with the message of that slot off that link
 --   stored-push       == one word past a link's messages: the run with one message more on it
 --   stored-count      == the count's word: the run with the count replaced
 --   movedWord-next, movedWord-last, movedWord-below, movedWord-past, movedDown-length, movedDown-at   == the words and the length of a list from
@@ -10,7 +10,7 @@ use Prim.Native.Nat.{ℕ, zero, suc, _+_, _-_, _≤_, _<_}
 use mathlib.Core.Bool.{Bool, true, false, _&&_}
 use mathlib.Core.List.{List, [], _∷_, _++_}
 use mathlib.Core.Path.{_≡_, refl, sym, ap, ap₂, _∙_}
-use mathlib.Core.Logic.{inl, inr}
+use mathlib.Core.Logic.{_⊎_, inl, inr}
 use native.Mathlib.Omega.{arith}
 use borrow.Author.Tests.{eqb-true, le-leb, lt-leb, lt-ltb, le-ltb}
 use lib.Dec.{eqb, leb, ltb}
@@ -244,11 +244,12 @@ module _ (w : List ℤ) (i e : ℕ) where
           List·getD-eq-default (movedDown w i e) (pos 0) (omega (arith, movedDown-length))
           ∙ sym (movedWord-past k (omega arith) ∙ List·getD-eq-default w (pos 0) u)
 
--- the message of the first slot taken out: the messages that stay stand one slot further on before
-pub stored-taken : (t : Fields) → Right t → (r : Run) (w : List ℤ) (a b : ℕ) (rest : List Message) → neighbours (waitsOf t) a b ≡ true → areaOf t ≤ length w
-    → length (r .link a b) ≤ linkSlots → ((j : ℕ) → slotWord rest j ≡ slotWord (r .link a b) (suc j))
-    → movedDown (stored t r w) (linkOf t a b) (linkOf t a b + linkSlots) ≡ stored t (putLink r a b rest) w
-stored-taken t s r w a b rest n long few shift =
+-- the message of slot p taken out: those before it stay, and those behind it stand one slot further on before
+pub stored-taken : (t : Fields) → Right t → (r : Run) (w : List ℤ) (a b p : ℕ) (rest : List Message) → neighbours (waitsOf t) a b ≡ true
+    → areaOf t ≤ length w → length (r .link a b) ≤ linkSlots → p < linkSlots → ((j : ℕ) → j < p → slotWord rest j ≡ slotWord (r .link a b) j)
+    → ((j : ℕ) → p ≤ j → slotWord rest j ≡ slotWord (r .link a b) (suc j))
+    → movedDown (stored t r w) (linkOf t a b + p) (linkOf t a b + linkSlots) ≡ stored t (putLink r a b rest) w
+stored-taken t s r w a b p rest n long few inside stay shift =
     stored-of t q w (movedDown old i e) (pos 0) long (movedDown-length old i e ∙ stored-length t r w long)
     (λ k u. movedDown-at old i e within k ∙ low k u (below? k i) (below? k e))
     (λ k u. movedDown-at old i e within k ∙ movedWord-past old i e k (omega (arith, linkOf-fits t a b n)) ∙ stored-past t r w k (pos 0) u)
@@ -260,7 +261,7 @@ stored-taken t s r w a b rest n long few shift =
     old = stored t r w
 
     i : ℕ
-    i = linkOf t a b
+    i = linkOf t a b + p
 
     e : ℕ
     e = linkOf t a b + linkSlots
@@ -268,35 +269,37 @@ stored-taken t s r w a b rest n long few shift =
     within : e ≤ length old
     within = omega (arith, linkOf-fits t a b n, stored-length t r w long)
 
-    -- a word that is none of the link's slots
-    other : (k : ℕ) → k < areaOf t → Outside i linkSlots k → getD old k (pos 0) ≡ wordOf t q k
+    -- a word that is none of the slots from p on
+    other : (k : ℕ) → k < areaOf t → (k < i) ⊎ (e ≤ k) → getD old k (pos 0) ≡ wordOf t q k
     other k u o = stored-word t r w k (pos 0) u ∙ sym (wordOf-putLink t s r a b rest k u (λ j v f. free j f o))
       where
-        free : (j : ℕ) → k ≡ linkOf t a b + j → Outside i linkSlots k → linkWord rest j ≡ linkWord (r .link a b) j
-        free j f (inl v) = absurd (omega arith)
+        free : (j : ℕ) → k ≡ linkOf t a b + j → (k < i) ⊎ (e ≤ k) → linkWord rest j ≡ linkWord (r .link a b) j
+        free j f (inl v) = linkWord-slot rest j (omega arith) ∙ stay j (omega arith) ∙ sym (linkWord-slot (r .link a b) j (omega arith))
         free j f (inr v) = linkWord-free rest j (omega arith) ∙ sym (linkWord-free (r .link a b) j (omega arith))
 
     -- the slot j
-    slot : (j : ℕ) → j < linkSlots → wordOf t q (i + j) ≡ slotWord (r .link a b) (suc j)
-    slot j h =
+    slot : (j : ℕ) → p ≤ j → j < linkSlots → wordOf t q (linkOf t a b + j) ≡ slotWord (r .link a b) (suc j)
+    slot j l h =
         wordOf-link t q a b j n (omega arith)
         ∙ ap (λ (l : List Message). linkWord l j) (putLink-at r a b rest)
         ∙ linkWord-slot rest j h
-        ∙ shift j
+        ∙ shift j l
 
-    next : (j : ℕ) → j < linkSlots → Below (i + j + 1) e → movedWord old i e (i + j) ≡ slotWord (r .link a b) (suc j)
-    next j h (below u _) =
-        let f : i + j + 1 ≡ i + suc j = omega arith in
-        movedWord-next old i e (i + j) (omega arith) u
+    next : (j : ℕ) → p ≤ j → j < linkSlots → Below (linkOf t a b + j + 1) e → movedWord old i e (linkOf t a b + j) ≡ slotWord (r .link a b) (suc j)
+    next j l h (below u _) =
+        let f : linkOf t a b + j + 1 ≡ linkOf t a b + suc j = omega arith in
+        movedWord-next old i e (linkOf t a b + j) (omega arith) u
         ∙ rw f (stored-link-word t r w a b (suc j) (pos 0) n (omega arith) ∙ linkWord-slot (r .link a b) (suc j) (omega arith))
-    next j h (beyond u _) = movedWord-last old i e (i + j) (omega arith) (omega arith) u ∙ sym (slotWord-past (r .link a b) (suc j) (omega arith))
+    next j l h (beyond u _) =
+        movedWord-last old i e (linkOf t a b + j) (omega arith) (omega arith) u ∙ sym (slotWord-past (r .link a b) (suc j) (omega arith))
 
     low : (k : ℕ) → k < areaOf t → Below k i → Below k e → movedWord old i e k ≡ wordOf t q k
     low k u (below v _) _ = movedWord-below old i e k v ∙ other k u (inl v)
     low k u (beyond v _) (beyond x _) = movedWord-past old i e k x ∙ other k u (inr x)
     low k u (beyond v _) (below x _) =
-        let f : k ≡ i + (k - i) = omega arith in
-        rw f (next (k - i) (omega arith) (below? (i + (k - i) + 1) e) ∙ sym (slot (k - i) (omega arith)))
+        let j : ℕ = k - linkOf t a b in
+        let f : k ≡ linkOf t a b + j = omega arith in
+        rw f (next j (omega arith) (omega arith) (below? (linkOf t a b + j + 1) e) ∙ sym (slot j (omega arith) (omega arith)))
 
 -- ---- one message more
 

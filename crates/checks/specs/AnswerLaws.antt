@@ -70,9 +70,9 @@ escapeOf-P r =
 -- ---- 21 first: a run that is not well formed is refused before anything else is looked at, and left as it was
 
 module _ (r : Run) (bad : wellFormed r ≡ false) where
-  pub pick-21 : (a b : ℕ) → pick r a b ≡ refused 21 r
+  pub pick-21 : (a b k : ℕ) → pick r a b k ≡ refused 21 r
   unfolding Machines.pick
-  pick-21 a b = rw bad
+  pick-21 a b k = rw bad
 
   pub runOn-21 : (k : ℕ) → runOn k r ≡ record { answer = Ran.Refused 21 0; run = r }
   unfolding Machines.runOn

@@ -1,7 +1,7 @@
--- What each call of a knot check does and answers (01, "Steps" and "Refused because of the state"; 02, N1). Picks and running on are the machine's
--- (crate machine, Calls), by the knot check's rules.
+-- What each call of a knot check does and answers (01, "Steps" and "Refused because of the state"; 02, N1 and N5). Picks and running on are
+-- the machine's (crate machine, Calls), by the knot check's rules.
 --   Picked             == an answer and the run that a delivery leaves
---   pick r a b         == "A pick checks 21, 25, 23, 24, 22."
+--   pick r a b k       == a pick of place k checks 21, 25, 23, 24, 31, 22
 --   runOn k r          == "Running on checks 21 first, then over, then spent, then 24, 22.", in the fixed order
 --   isSubordinate x, escapeOf r   == "escape is the lowest-numbered process with subordinate 1, and 0 only where there is none" (02, N1)
 --   report r           == "The report checks 21, 26"
@@ -48,13 +48,13 @@ deliveryOf (refusal n) = Delivery.Refused n
 abbrev pub answering : Machines.Picked Process Message → Picked
 answering p = record { answer = deliveryOf (p .answer); run = p .run }
 
--- 24, "nothing waits on that link", then 22: "It answers with that message."
-abbrev pub deliver : Run → ℕ → ℕ → List Message → Picked
-deliver r a b ms = answering (Machines.deliver knot r a b ms)
+-- 24, "nothing waits on that link", then 31, 22: "It answers with that message."
+abbrev pub deliver : Run → ℕ → ℕ → ℕ → List Message → Picked
+deliver r a b k ms = answering (Machines.deliver knot r a b k ms)
 
--- "A pick checks 21, 25, 23, 24, 22."
-abbrev pub pick : Run → ℕ → ℕ → Picked
-pick r a b = answering (Machines.pick knot r a b)
+-- "A pick checks 21, 25, 23, 24, 22."; 02, N5: "A pick may name a place", and 31 "after 24"
+abbrev pub pick : Run → ℕ → ℕ → ℕ → Picked
+pick r a b k = answering (Machines.pick knot r a b k)
 
 -- ---- running on
 

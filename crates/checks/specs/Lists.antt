@@ -60,11 +60,11 @@ pub record Promise (w : Waits) (s : ℕ) (p : Passed Run) : Type 0 where
   pub counted : p .left .count ≡ p .made
   -- "the run is over exactly when A is D"
   pub over-at-d : (over (p .left) ≡ true) ↔ (p .made ≡ dOf w s)
-  -- "otherwise a message waits on some link, and a pick can take it"
-  pub goes-on : over (p .left) ≡ false → Waiting knot (p .left)
+  -- "otherwise a message waits on some link, and a pick can take it"; each that waits, at its place (02, N5)
+  pub goes-on : over (p .left) ≡ false → Waiting knot w (p .left)
   -- "When it is over .."
   pub ended : over (p .left) ≡ true → Ended w s (p .left)
-  -- the numbers that occur: "22 never occurs in a run made by start and deliveries", nor does 21
-  pub answers : (n : ℕ) → List·Memᴰ n (p .numbers) → List·Memᴰ n (0 ∷ 23 ∷ 24 ∷ 25 ∷ 26 ∷ [])
+  -- the numbers that occur: "22 never occurs in a run made by start and deliveries", whichever message is taken, nor does 21
+  pub answers : (n : ℕ) → List·Memᴰ n (p .numbers) → List·Memᴰ n (0 ∷ 23 ∷ 24 ∷ 25 ∷ 26 ∷ 31 ∷ [])
   -- "with at most 4 messages waiting"
   pub at-most-4 : (a b : ℕ) → IsProcess (w .n) a → IsProcess (w .n) b → length (p .left .link a b) ≤ mostWaiting

@@ -8,7 +8,7 @@
 -- Assumes nothing.
 use Prim.Native.Nat.{ℕ, _+_}
 use mathlib.Core.Bool.{true, false, false≢true}
-use mathlib.Core.List.{List, [], _∷_}
+use mathlib.Core.List.{List, []}
 use mathlib.Core.Path.{_≡_, refl, sym, _∙_}
 use mathlib.Core.Logic.{⊎-elim}
 use native.Mathlib.Omega.{arith}
@@ -23,6 +23,7 @@ use Rattle.tables.specs.Table.{IsProcess}
 use Rattle.tables.specs.WaitsLaws.{neighbours-swap, neighbours-ends}
 use Rattle.machine.specs.Formed.{Formed}
 use Rattle.machine.specs.FormedLaws.{accepts-P, formed-after}
+use Rattle.machine.specs.Among.{Among}
 use Rattle.steps.specs.declared.Message.{Message}
 use Rattle.steps.specs.declared.Message.the-variants.{Ack}
 use Rattle.steps.specs.declared.Probes.{Probes}
@@ -159,7 +160,7 @@ module _ (r : Run) (a b : ℕ) (m : Message) (rest : List Message) (ok : accepts
     nothing-sent = rw (no-replies (turnAt r a b m .reply) refl, no-probes (turnAt r a b m .probes))
 
   pub knot-after :
-      Formed knot r → Sound (r .waits) → neighbours (r .waits) a b ≡ true → r .link a b ≡ m ∷ rest → Formed knot (after r a b m rest)
+      Formed knot r → Sound (r .waits) → neighbours (r .waits) a b ≡ true → Among m rest (r .link a b) → Formed knot (after r a b m rest)
   knot-after f sd j l =
       let i = neighbours-ends (r .waits) sd a b j in
       formed-after knot r f a b (i .0, i .1) (i .2, i .3) m rest l ok

@@ -24,13 +24,13 @@ use Rattle.steps.specs.declared.Reply.{Reply}
 use Rattle.checks.specs.declared.Delivery.{Delivery}
 use Rattle.checks.specs.declared.Delivery.the-variants.{Delivered}
 use Rattle.checks.specs.Run.{Run}
-use Rattle.checks.specs.Calls.{Picked, refused, deliver}
+use Rattle.checks.specs.Calls.{Picked, refused}
 use Rattle.machine.specs.Calls.{Selection, nobody, pair, lowest}
 use Rattle.machine.specs.ChooserLaws.{lowest-pair}
 use Rattle.areas.specs.Area.{fieldsIn, runIn, keeping}
 use Rattle.delivery.specs.declared.delivering.Prepared.{Prepared}
 use Rattle.delivery.specs.declared.delivering.Prepared.the-variants.{Go}
-use Rattle.delivery.specs.Delivering.{carriedOut, Carried, preparedOf}
+use Rattle.delivery.specs.Delivering.{carriedOut, Carried, deliverAt, preparedOf}
 use Rattle.delivery.specs.DeliveryFacts.{Going}
 use Rattle.delivery.specs.PreparedLaws.{refused-of, going-of}
 use Rattle.delivery.specs.StorableLaws.{storable-on, waiting-joined}
@@ -124,19 +124,19 @@ module _ {w : List ℤ} {sq : List ℕ} {n m : ℕ} (y : Ready w sq n m) {l : Li
         let p = lowest-pair (runIn w) chosen in
         (y, (joined, (omega (arith, p .0, ready-n y), omega (arith, p .1, ready-n y))))
 
-    this : nextOf (runIn w) ≡ deliver (runIn w) a b (runIn w .link a b)
+    this : nextOf (runIn w) ≡ deliverAt (runIn w) a b 1
     this = deliverOn-pair (runIn w) a b chosen
 
     -- o is the prepared delivery
-    module _ {o : Prepared} (f : o ≡ preparedOf (runIn w) a b (runIn w .link a b)) where
+    module _ {o : Prepared} (f : o ≡ preparedOf (runIn w) a b 1 (runIn w .link a b)) where
       pub left-refused : {k : ℕ} → o ≡ Prepared.Refused k → Left w sq n m (ChosenDelivery.Refused k) w l
       left-refused {k} e =
-          let p : nextOf (runIn w) ≡ refused k (runIn w) = this ∙ refused-of (runIn w) a b k (runIn w .link a b) (sym f ∙ e) in
+          let p : nextOf (runIn w) ≡ refused k (runIn w) = this ∙ refused-of (runIn w) a b 1 k (runIn w .link a b) (sym f ∙ e) in
           left-same p (refused-answer (pair a b) chosen p)
 
       module _ {s : Message} {x : Process} {p : Probes} {z : Reply} {k : ℕ} (e : o ≡ Go s x p z k) where
-        going : Going (runIn w) n a b s x p z k
-        going = going-of y a b joined (sym f ∙ e)
+        going : Going (runIn w) n a b 1 s x p z k
+        going = going-of y a b 1 joined (sym f ∙ e)
 
         pub note-asks
             : (length l ≡ memorySize)
@@ -148,20 +148,20 @@ module _ {w : List ℤ} {sq : List ℕ} {n m : ℕ} (y : Ready w sq n m) {l : Li
             let small : getD l (backlogAt b) 0 ≤ mostBacklog = omega (arith, remembers-few w h b (q .1 .0) (q .1 .1)) in
             (h .long, ((omega (arith, q .0), remembers-some h a b (q .0) (q .1) (q .2)), (omega (arith, q .1), small, put)))
 
-        pub carry-asks : Ready w sq n m × Carried (runIn w) a b x p z
+        pub carry-asks : Ready w sq n m × Carried (runIn w) a b 1 x p z
         carry-asks = (y, going .carried)
 
         -- what is remembered, and the area after it
         pub left-delivered
             : {j : List ℕ} {v : List ℤ}
             → j ≡ noted l a b z k
-            → v ≡ keeping w (carriedOut (runIn w) a b x p z)
+            → v ≡ keeping w (carriedOut (runIn w) a b 1 x p z)
             → Left w sq n m (ChosenDelivery.Delivered a b s) v j
         left-delivered {j} {v} t u =
-            let run : nextOf (runIn w) .run ≡ carriedOut (runIn w) a b x p z = ap (λ (o : Picked). o .run) this ∙ going .run in
+            let run : nextOf (runIn w) .run ≡ carriedOut (runIn w) a b 1 x p z = ap (λ (o : Picked). o .run) this ∙ going .run in
             let kept : v ≡ keeping w (nextOf (runIn w) .run) = u ∙ ap (keeping w) (sym run) in
             let holds = holding-next-of y (holding-first y) kept in
-            let now-run : runIn v ≡ carriedOut (runIn w) a b x p z = holding-run y holds ∙ run in
+            let now-run : runIn v ≡ carriedOut (runIn w) a b 1 x p z = holding-run y holds ∙ run in
             let after = remembers-noted (runIn w) sound chosen h x p z (going .carried) k (going .sent) in
             let says : nextOf (runIn w) .answer ≡ Delivered s = ap (λ (o : Picked). o .answer) this ∙ going .answer in
             let told : chosenAnswer (lowest (runIn w)) (nextOf (runIn w) .answer) ≡ ChosenDelivery.Delivered a b s =

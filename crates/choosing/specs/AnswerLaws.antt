@@ -32,7 +32,7 @@ module _ (r : Run) {c : Selection} where
   unfolding MachineCalls.deliverOn
   deliverOn-nobody e = rw e
 
-  pub deliverOn-pair : (a b : ℕ) → c ≡ pair a b → deliverOn r c ≡ deliver r a b (r .link a b)
+  pub deliverOn-pair : (a b : ℕ) → c ≡ pair a b → deliverOn r c ≡ deliver r a b 1 (r .link a b)
   unfolding MachineCalls.deliverOn
   deliverOn-pair a b e = rw e
 
@@ -54,7 +54,7 @@ module _ (r : Run) where
       → deliverOn r c .answer ≡ Delivery.Refused j
   unfolding MachineCalls.deliverOn
   chosenAnswer-refused nobody j e = cc
-  chosenAnswer-refused (pair a b) j e = answer-refused a b j (deliver r a b (r .link a b) .answer) e
+  chosenAnswer-refused (pair a b) j e = answer-refused a b j (deliver r a b 1 (r .link a b) .answer) e
 
   module _ (a b : ℕ) (m : Message) where
     pub chosenAnswer-delivered
@@ -63,4 +63,4 @@ module _ (r : Run) where
         → (c ≡ pair a b) × (deliverOn r c .answer ≡ Delivery.Delivered m)
     unfolding MachineCalls.deliverOn
     chosenAnswer-delivered nobody e = (cc, cc)
-    chosenAnswer-delivered (pair x y) e = answer-delivered a b m x y (deliver r x y (r .link x y) .answer) e
+    chosenAnswer-delivered (pair x y) e = answer-delivered a b m x y (deliver r x y 1 (r .link x y) .answer) e

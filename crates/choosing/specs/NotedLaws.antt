@@ -64,7 +64,7 @@ module _ (r : Run) {a b : ℕ} (e : lowest r ≡ pair a b) where
 -- ---- a delivery
 
 module _ (r : Run) (s : Sound (r .waits)) {a b : ℕ} (e : lowest r ≡ pair a b) {l : List ℕ} (h : Remembers r l) (x : Process) (y : Probes) (z : Reply)
-    (k : Carried r a b x y z) where
+    (k : Carried r a b 1 x y z) where
   sender : IsProcess (r .waits .n) a
   sender = lowest-pair r e .0
 
@@ -75,18 +75,18 @@ module _ (r : Run) (s : Sound (r .waits)) {a b : ℕ} (e : lowest r ≡ pair a b
   abbrev Between : Run → List ℕ → Type 0
   Between q j = Remembers q j × ((q .waits ≡ r .waits) × (getD j (boundAt 0) 0 ≤ b))
 
-  between-taken : Between (changed r a b x) (notedTaken l a b)
+  between-taken : Between (changed r a b 1 x) (notedTaken l a b)
   unfolding notedTaken
   between-taken =
       let here = getD-set-same (renewed l a left b) (boundAt 0) (min a b) 0 (simp length-set (omega (arith, h .long))) in
-      (remembers-renewed (taken-from r a b x) h sender (s .few) left b (min a b) is bound least beside before, (taken-from r a b x .waits, omega arith))
+      (remembers-renewed (taken-from r a b 1 x) h sender (s .few) left b (min a b) is bound least beside before, (taken-from r a b 1 x .waits, omega arith))
     where
       left : ℕ
       left = getD l (backlogAt a) 0 - 1
 
-      is : left ≡ backlogOf (changed r a b x) a
+      is : left ≡ backlogOf (changed r a b 1 x) a
       is =
-          let t = taken-backlog r a b x (k .waits) (receiver .0) (receiver .1) in
+          let t = taken-backlog r a b 1 x (k .placed) (receiver .0) (receiver .1) in
           omega (arith, t, h .backlogs a (sender .0) (sender .1))
 
       bound : (1 ≤ b) × (b ≤ r .waits .n + 1)
@@ -95,11 +95,11 @@ module _ (r : Run) (s : Sound (r .waits)) {a b : ℕ} (e : lowest r ≡ pair a b
       least : (1 ≤ min a b) × (min a b ≤ r .waits .n + 1)
       least = omega (arith, sender, receiver)
 
-      beside : (v : ℕ) → 1 ≤ v → v ≤ r .waits .n → v < b → changed r a b x .link a v ≡ []
-      beside v lo hi u = taken-empty r a b x a v (beside-none r e v (lo, hi) u)
+      beside : (v : ℕ) → 1 ≤ v → v ≤ r .waits .n → v < b → changed r a b 1 x .link a v ≡ []
+      beside v lo hi u = taken-empty r a b 1 x a v (beside-none r e v (lo, hi) u)
 
-      before : (u v : ℕ) → 1 ≤ u → u ≤ r .waits .n → u < min a b → 1 ≤ v → v ≤ r .waits .n → changed r a b x .link u v ≡ []
-      before u v lo hi i lv uv = taken-empty r a b x u v (before-none r e u v (lo, hi) (lv, uv) (omega arith))
+      before : (u v : ℕ) → 1 ≤ u → u ≤ r .waits .n → u < min a b → 1 ≤ v → v ≤ r .waits .n → changed r a b 1 x .link u v ≡ []
+      before u v lo hi i lv uv = taken-empty r a b 1 x u v (before-none r e u v (lo, hi) (lv, uv) (omega arith))
 
   -- one more part: b's backlog is v, and below u its links are as they were
   module _ {q t : Run} {j : List ℕ} (g : Between q j) (d : LinksFrom q t b) (v u : ℕ) where
@@ -145,29 +145,29 @@ module _ (r : Run) (s : Sound (r .waits)) {a b : ℕ} (e : lowest r ≡ pair a b
     bound-at : 1 ≤ getD j (boundAt b) 0
     bound-at = g .0 .firsts b (receiver .0) (rw (g .1 .0) (receiver .1)) .0
 
-  between-replied : Between (answered (changed r a b x) b z) (notedReply (notedTaken l a b) b z)
+  between-replied : Between (answered (changed r a b 1 x) b z) (notedReply (notedTaken l a b) b z)
   unfolding notedReply answered
   between-replied = at z refl
     where
-      at : (v : Reply) → z ≡ v → Between (answered (changed r a b x) b v) (notedReply (notedTaken l a b) b v)
+      at : (v : Reply) → z ≡ v → Between (answered (changed r a b 1 x) b v) (notedReply (notedTaken l a b) b v)
       at Reply.Nothing i = between-taken
       at (To p c) i =
           let n = neighbours-ends (r .waits) s b p (k .replied p c i) in
-          let q = changed r a b x in
+          let q = changed r a b 1 x in
           let j = notedTaken l a b in
-          let t = replied-backlog q b p c (n .2) (rw (taken-from r a b x .waits) (n .3)) in
+          let t = replied-backlog q b p c (n .2) (rw (taken-from r a b 1 x .waits) (n .3)) in
           let d = replied-from q b (To p c) in
           let low : 1 ≤ min p (getD j (boundAt b) 0) = omega (arith, n, bound-at between-taken) in
           let is : getD j (backlogAt b) 0 + 1 ≡ backlogOf (answered q b (To p c)) b = omega (arith, t, backlog-at between-taken) in
           let more = between-more between-taken d (getD j (backlogAt b) 0 + 1) (min p (getD j (boundAt b) 0)) is low (omega arith) in
           more (λ v _ _ u. replied-other q b p c v (λ f. absurd (omega arith)))
 
-  pub remembers-noted : (i : ℕ) → i ≡ probesSent (r .waits) b y → Remembers (carriedOut r a b x y z) (noted l a b z i)
+  pub remembers-noted : (i : ℕ) → i ≡ probesSent (r .waits) b y → Remembers (carriedOut r a b 1 x y z) (noted l a b z i)
   unfolding notedProbes carriedOut
   remembers-noted i f = at (same? i 0)
     where
       q : Run
-      q = answered (changed r a b x) b z
+      q = answered (changed r a b 1 x) b z
 
       j : List ℕ
       j = notedReply (notedTaken l a b) b z

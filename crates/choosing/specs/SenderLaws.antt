@@ -1,13 +1,13 @@
 -- Which links a delivered message and an acknowledgement change, and the backlogs they leave.
---   changed r a b x (delivery)         == the message is off the link from a to b, and b's record is changed
+--   changed r a b k x (delivery)    == the message at place k is off the link from a to b, and b's record is changed
 --   backlog-others, backlog-more    == the backlogs of the others stand; a backlog that has grown, link by link
 --   taken-from, replied-from        == each changes the links from one process alone
 --   taken-backlog, replied-backlog  == the backlog of that process after it
 --   taken-empty, replied-other      == an empty link stays empty; an acknowledgement goes to one process
 -- Assumes nothing.
 use Prim.Native.Nat.{ℕ, _+_, _≤_}
-use mathlib.Core.Bool.{Bool, true, _&&_}
-use mathlib.Core.List.{List, [], _∷_, _++_, append-nil}
+use mathlib.Core.Bool.{_&&_}
+use mathlib.Core.List.{[], _++_, append-nil}
 use mathlib.Core.Path.{_≡_, refl, sym, ap, ap₂, _∙_}
 use native.Mathlib.Omega.{arith}
 use borrow.Author.Tests.{eq-eqb, ne-eqb}
@@ -19,14 +19,13 @@ use Rattle.base.specs.ChoiceLaws.{same?}
 use Rattle.base.specs.Checks.{Same, same, apart}
 use Rattle.base.specs.Sums.{sumTo, spot}
 use Rattle.base.specs.SumLaws.{spot-at, spot-off, sumTo-cong, sumTo-add, sumTo-spot}
-use Rattle.steps.specs.declared.Message.{Message}
 use Rattle.steps.specs.declared.Process.{Process}
 use Rattle.steps.specs.declared.Reply.{Reply}
 use Rattle.steps.specs.declared.Reply.the-variants.{To}
 use Rattle.checks.specs.Run.{Run, replyTo}
-use Rattle.machine.specs.Calls.{waiting}
 use Rattle.areas.specs.Replaced.{putProcess, putLink}
-use Rattle.lenses.specs.Changes.{tailOf, answered}
+use Rattle.lenses.specs.Changes.{without, answered}
+use Rattle.lenses.specs.ChangeLaws.{without-none, without-length}
 use Rattle.delivery.specs.Delivering.{changed}
 use Rattle.delivery.specs.DeliveryLaws.{answered-relinked, answered-link}
 use Rattle.choosing.specs.Memory.{backlogOf}
@@ -50,37 +49,33 @@ backlog-more r q b f w h =
 
 -- ---- the message is off
 
-tail-one : (ms : List Message) → waiting ms ≡ true → length (tailOf ms) + 1 ≡ length ms
-tail-one [] e = absurd (mathlib.Core.Bool.false≢true e)
-tail-one (m ∷ ms) e = omega arith
-
-module _ (r : Run) (a b : ℕ) (x : Process) where
-  taken-link : (u v : ℕ) → changed r a b x .link u v ≡ choose (eqb u a && eqb v b) (tailOf (r .link a b)) (r .link u v)
+module _ (r : Run) (a b k : ℕ) (x : Process) where
+  taken-link : (u v : ℕ) → changed r a b k x .link u v ≡ choose (eqb u a && eqb v b) (without k (r .link a b)) (r .link u v)
   unfolding putProcess putLink
   taken-link u v = refl
 
-  pub taken-from : LinksFrom r (changed r a b x) a
+  pub taken-from : LinksFrom r (changed r a b k x) a
   unfolding putProcess putLink
   taken-from = record { waits = refl; others = λ u v h. rw (ne-eqb u a h) }
 
-  pub taken-empty : (u v : ℕ) → r .link u v ≡ [] → changed r a b x .link u v ≡ []
+  pub taken-empty : (u v : ℕ) → r .link u v ≡ [] → changed r a b k x .link u v ≡ []
   taken-empty u v e = taken-link u v ∙ at (same? u a) (same? v b)
     where
-      at : Same u a → Same v b → choose (eqb u a && eqb v b) (tailOf (r .link a b)) (r .link u v) ≡ []
+      at : Same u a → Same v b → choose (eqb u a && eqb v b) (without k (r .link a b)) (r .link u v) ≡ []
       at (same f p) (same g q) =
-          let k : r .link a b ≡ [] = ap₂ (λ (i j : ℕ). r .link i j) (sym f) (sym g) ∙ e in
-          rw (p, q, k)
+          let z : r .link a b ≡ [] = ap₂ (λ (i j : ℕ). r .link i j) (sym f) (sym g) ∙ e in
+          rw (p, q, z) (without-none k)
       at (same f p) (apart g q) = rw (p, q) e
       at (apart f p) _ = rw p e
 
-  pub taken-backlog : waiting (r .link a b) ≡ true → 1 ≤ b → b ≤ r .waits .n → backlogOf (changed r a b x) a + 1 ≡ backlogOf r a
+  pub taken-backlog : (1 ≤ k) × (k ≤ length (r .link a b)) → 1 ≤ b → b ≤ r .waits .n → backlogOf (changed r a b k x) a + 1 ≡ backlogOf r a
   taken-backlog e l u =
-      let q = changed r a b x in
+      let q = changed r a b k x in
       let s : sumTo (q .waits .n) (spot b 1) ≡ 1 = sumTo-spot (q .waits .n) b 1 l (rw (taken-from .waits) u) in
       sym (backlog-more q r a (spot b 1) (sym (taken-from .waits)) (λ v _ _. at v (same? v b)) ∙ rw s)
     where
-      at : (v : ℕ) → Same v b → length (r .link a v) ≡ length (changed r a b x .link a v) + spot b 1 v
-      at v (same f p) = rw (taken-link a v, eq-eqb a a refl, p, f, spot-at b 1) (sym (tail-one (r .link a b) e))
+      at : (v : ℕ) → Same v b → length (r .link a v) ≡ length (changed r a b k x .link a v) + spot b 1 v
+      at v (same f p) = rw (taken-link a v, eq-eqb a a refl, p, f, spot-at b 1) (sym (without-length k (r .link a b) (e .0) (e .1)))
       at v (apart f p) = rw (taken-link a v, eq-eqb a a refl, p, spot-off b 1 v f) (omega arith)
 
 -- ---- the acknowledgement

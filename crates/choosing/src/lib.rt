@@ -106,7 +106,7 @@ pub fn deliver_next(
     let Chosen::Link { from, to } = choose(area, square, n, m, memory) else {
         return ChosenDelivery::Refused(24);
     };
-    match delivering::prepare(area, square, n, m, from, to) {
+    match delivering::prepare(area, square, n, m, from, to, links::OLDEST) {
         Prepared::Refused(number) => ChosenDelivery::Refused(number),
         Prepared::Go {
             message,
@@ -116,7 +116,18 @@ pub fn deliver_next(
             sent,
         } => {
             noting::note(from, to, reply, sent, memory);
-            carrying::carry_out(area, square, n, m, from, to, process, probes, reply);
+            carrying::carry_out(
+                area,
+                square,
+                n,
+                m,
+                from,
+                to,
+                links::OLDEST,
+                process,
+                probes,
+                reply,
+            );
             ChosenDelivery::Delivered { from, to, message }
         }
     }

@@ -1,6 +1,7 @@
 // One run of a case, from its start to its end, with every call compared with what the plain search expects (the crate `expecting`), for
 // the program `trials`. It calls the library as a host does: `starting`, `runs` and `reports`. It promises only that it is safe and ends; a
-// difference is an answer. The module `written` compares how a table is read back.
+// difference is an answer. The module `waiting` looks at the messages on a link, and `written` compares how a table is read back.
+pub mod waiting;
 pub mod written;
 
 use expecting::Expected;
@@ -15,12 +16,29 @@ use ordering::Way;
 // Far more turns than a run takes.
 const TURNS: u32 = 100000000;
 
+// Makes a pick. Now and then the messages on its link are looked at before and after it, which says exactly what it is to take.
+fn pick(area: &mut [i32], found: &[bool; 16899], call: Call, c: Course) -> Course {
+    let looked = ordering::is_looked_into(area.len(), call, c);
+    let before = waiting::messages(area, call, looked);
+    let answer = runs::picking::pick(area, call.from, call.to, call.place);
+    let after = waiting::messages(area, call, looked);
+    let d = answers::picked(found, call, answer, c);
+    if !looked || waiting::is_barred(answer) {
+        return d;
+    }
+    answers::expect(
+        d,
+        waiting::is_taken(before, after, call.place, answer),
+        faults::PLACE,
+    )
+}
+
 // Makes a call, with N.
 fn make(area: &mut [i32], found: &[bool; 16899], n: usize, call: Call, c: Course) -> Course {
     let kind = call.kind;
     let p = call.from;
     match kind {
-        ordering::PICK => answers::picked(found, call, runs::picking::pick(area, p, call.to), c),
+        ordering::PICK => pick(area, found, call, c),
         ordering::RUN_ON => answers::ran(call.k, runs::running::run_on(area, call.k), c),
         _ => answers::read(n, p, reports::read_record(area, p), c),
     }

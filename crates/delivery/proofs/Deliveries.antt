@@ -1,25 +1,21 @@
 -- A delivery in code: what each call asks, and that each answer is the one that the promise names.
---   Answer w a b d        == d is a delivery from a to b before anything is changed
---   place-asks, place-small, place-within, message-asks   == what is asked up to the oldest message's word
---   none-waits            == the answer where that word is 0
---   Oldest w sq n m a b x == x is the oldest message on the link from a to b; oldest-of, where the word is not 0
+--   Answer w a b i d      == d is a delivery from a to b, of the message at place i, before anything is changed
+--   place-asks            == what is asked for what waits at a place
+--   nothing-waits, none-there, message-small, message-prepared   == the answer by what waits there
+--   Sent w sq n m a b x   == what is known where x is delivered from a to b
 --   step-asks, room-asks, process-asks, sent-asks   == what the step, the test of room, the reading of the record and the count of probes ask
---   step-refused, count-full, links-full, prepared   == the answer at each later return
---   Outcome w a b d v     == the answer d and the area v that a delivery from a to b leaves
+--   step-refused, count-full, links-full, prepared   == the answer at each return
+--   Outcome w a b i d v   == the answer d and the area v that a delivery from a to b leaves
 --   refusal, delivery     == the outcome where it is refused, and where it is carried out
 -- Assumes nothing.
-use Prim.Native.Nat.{ℕ, suc, _^_, _-_, _≤_, _<_}
+use Prim.Native.Nat.{ℕ, _≤_, _<_}
 use mathlib.Core.Bool.{Bool, true, false, not}
-use mathlib.Core.List.{List, _∷_}
+use mathlib.Core.List.{List}
 use mathlib.Core.Path.{_≡_, sym, ap, _∙_}
 use native.Mathlib.Omega.{arith}
-use lib.IntN.{ℤ, pos, natAbs}
-use lib.ListN.{length, getD}
-use lib.Signed.{mag}
-use mir.Syntax.{w32}
-use mir.Val.{toZ, ofZ}
+use lib.IntN.{ℤ}
 use Rattle.base.specs.Sums.{allTo}
-use Rattle.tables.specs.Table.{mostProcesses, mostArcs}
+use Rattle.tables.specs.Table.{mostProcesses}
 use Rattle.tables.specs.declared.Chain.{Chain}
 use Rattle.tables.specs.Waits.{neighbours}
 use Rattle.tables.specs.WaitsLaws.{neighbours-ends}
@@ -32,100 +28,89 @@ use Rattle.steps.specs.declared.Stepped.{Stepped}
 use Rattle.steps.specs.declared.Stepped.the-variants.{Taken}
 use Rattle.steps.specs.Step.{countSmall}
 use Rattle.base.specs.ChoiceLaws.{value-not, value-yes}
+use Rattle.machine.specs.Among.{Among}
+use Rattle.machine.specs.AmongLaws.{among-right, cut-placed}
 use Rattle.checks.specs.declared.Delivery.{Delivery}
 use Rattle.checks.specs.declared.Delivery.the-variants.{Delivered}
 use Rattle.checks.specs.Run.{mostDeliveries, accepts}
-use Rattle.checks.specs.Calls.{Picked, deliver}
-use Rattle.areas.specs.Places.{areaLength}
-use Rattle.areas.specs.Used.{linkSlots}
-use Rattle.areas.specs.Area.{fieldsIn, messageOf, messagesAt, runIn, keeping}
-use Rattle.areas.specs.Squares.{joinedBy, placeBy}
+use Rattle.checks.specs.Calls.{Picked}
+use Rattle.areas.specs.Area.{fieldsIn, runIn, keeping}
 use Rattle.areas.specs.AreaLaws.{stored-same}
+use Rattle.lenses.specs.declared.links.AtPlace.{AtPlace}
+use Rattle.lenses.specs.declared.links.AtPlace.the-variants.{Beyond}
+use Rattle.lenses.specs.Standing.{standing, OneAt}
 use Rattle.lenses.specs.Ready.{Ready}
 use Rattle.lenses.specs.Storable.{Storable}
 use Rattle.lenses.specs.ReadyLaws.{right-storable, ready-n, ready-sizes}
+use Rattle.lenses.specs.ChangeLaws.{link-right}
+use Rattle.lenses.specs.StandingLaws.{none-standing, beyond-standing, message-standing}
 use Rattle.delivery.specs.Rooms.{roomy, roomTo}
-use Rattle.delivery.specs.Delivering.{steppedAt, probesOf, carriedOut, Carried, grownBy, preparedOf}
-use Rattle.delivery.specs.AcceptLaws.{message-small, accepts-refused, accepts-full, taken-replied, accepts-crowded}
-use Rattle.delivery.specs.PreparedLaws.{prepared-empty, prepared-refused, sent-grows, sent-is, prepared-go, refused-of, going-of}
-use Rattle.areas.proofs.Signs.{word-is, word-zero}
-use Rattle.lenses.proofs.Stores.{joined, link-small, link-within}
-use Rattle.lenses.proofs.Lookups.{first-none, first-some, first-fits}
-use Rattle.steps.proofs.Counts.{signed-back}
+use Rattle.delivery.specs.Delivering.{steppedAt, probesOf, carriedOut, Carried, grownBy, deliverAt, PreparedFor, preparedOf}
+use Rattle.delivery.specs.AcceptLaws.{accepts-refused, accepts-full, taken-replied, accepts-crowded}
+use Rattle.delivery.specs.PreparedLaws.{prepared-empty, prepared-beyond, prepared-at, prepared-refused, sent-grows, sent-is, prepared-go}
+use Rattle.delivery.specs.PreparedLaws.{refused-of, going-of}
 use Rattle.delivery.specs.declared.delivering.Prepared.{Prepared}
 use Rattle.delivery.specs.declared.delivering.Prepared.the-variants.{Go}
 
 -- a delivery before anything is changed
-abbrev pub Answer : List ℤ → ℕ → ℕ → Prepared → Type 0
-Answer w a b d = d ≡ preparedOf (runIn w) a b (runIn w .link a b)
+abbrev pub Answer : List ℤ → ℕ → ℕ → ℕ → Prepared → Type 0
+Answer w a b i d = d ≡ preparedOf (runIn w) a b i (runIn w .link a b)
 
--- the oldest message on the link from a to b
-pub record Oldest (w : List ℤ) (sq : List ℕ) (n m a b : ℕ) (x : Message) : Type 0 where
+-- ---- by what waits at the place
+
+module _ {w : List ℤ} {sq : List ℕ} {n m : ℕ} (y : Ready w sq n m) {a b : ℕ} (j : neighbours (runIn w .waits) a b ≡ true) (lu : (a ≤ n) × (b ≤ n)) where
+  pub place-asks : Ready w sq n m × (((a ≤ mostProcesses) × (b ≤ mostProcesses)) × (neighbours (runIn w .waits) a b ≡ true))
+  place-asks = (y, (omega (arith, ready-sizes y), j))
+
+  module _ (i : ℕ) {p : AtPlace} (e : p ≡ standing i (runIn w .link a b)) where
+    pub nothing-waits : p ≡ AtPlace.Nothing → Answer w a b i (Prepared.Refused 24)
+    nothing-waits o = sym (prepared-empty (runIn w) a b i (runIn w .link a b) (none-standing i (runIn w .link a b) (sym e ∙ o)))
+
+    pub none-there : p ≡ Beyond → Answer w a b i (Prepared.Refused 31)
+    none-there o = sym (prepared-beyond (runIn w) a b i (runIn w .link a b) (beyond-standing i (runIn w .link a b) (sym e ∙ o)))
+
+    module _ {x : Message} (o : p ≡ AtPlace.Message x) where
+      here : OneAt i (runIn w .link a b) x
+      here = message-standing i (runIn w .link a b) (sym e ∙ o)
+
+      among : Among x (here .rest) (runIn w .link a b)
+      among = cut-placed i (runIn w .link a b) (here .is) .0
+
+      pub message-small : countSmall x ≡ true
+      message-small = among-right countSmall among (link-right (fieldsIn w) (runIn w) (right-storable w (y .right)) a b .1) .0
+
+      pub message-prepared : {d : Prepared} → PreparedFor w a b x d → Answer w a b i d
+      message-prepared h = h (here .rest) among ∙ sym (prepared-at (runIn w) a b i (runIn w .link a b) (here .is))
+
+-- ---- the delivery of a message
+
+-- what is known where x is delivered from a to b
+pub record Sent (w : List ℤ) (sq : List ℕ) (n m a b : ℕ) (x : Message) : Type 0 where
   pub ready : Ready w sq n m
   pub near : neighbours (runIn w .waits) a b ≡ true
   pub ends : (a ≤ n) × (b ≤ n)
-  pub rest : List Message
-  pub link : runIn w .link a b ≡ x ∷ rest
+  pub small : countSmall x ≡ true
 
--- ---- up to the word of the oldest message
-
-module _ {w : List ℤ} {sq : List ℕ} {n m : ℕ} (y : Ready w sq n m) {a b : ℕ} (j : neighbours (runIn w .waits) a b ≡ true) (lu : (a ≤ n) × (b ≤ n)) where
-  low : a ≤ mostProcesses
-  low = omega (arith, ready-sizes y)
-
-  high : b ≤ mostProcesses
-  high = omega (arith, ready-sizes y)
-
-  pub place-asks : ((a ≤ mostProcesses) × (b ≤ mostProcesses)) × (((n ≤ mostProcesses) × (m ≤ mostArcs)) × (joinedBy sq a b ≡ true))
-  place-asks = ((low, high), (ready-sizes y, joined y j low high))
-
-  module _ {i : ℕ} (e : i ≡ placeBy sq n m a b) where
-    pub place-small : i < areaLength mostProcesses mostArcs
-    place-small = omega (arith, link-small y j low high e)
-
-    pub place-within : i < length w
-    place-within = omega (arith, link-within y j low high e)
-
-    module _ (h : mag (getD w i (pos 0)) < 2 ^ 31) where
-      pub none-waits : ofZ w32 (getD w i (pos 0)) ≡ 0 → Answer w a b (Prepared.Refused 24)
-      none-waits z =
-          sym (prepared-empty (runIn w) a b (first-none y j low high e (ap natAbs (word-is (getD w i (pos 0)) 0 h (omega arith) z))))
-
-      pub message-asks : natAbs (toZ w32 (ofZ w32 (getD w i (pos 0)))) ≤ 65535
-      message-asks = rw (signed-back (getD w i (pos 0)) h) (first-fits y j low high e)
-
-      pub oldest-of : (ofZ w32 (getD w i (pos 0)) ≡ 0 → ⊥) → {x : Message} → x ≡ messageOf (toZ w32 (ofZ w32 (getD w i (pos 0)))) → Oldest w sq n m a b x
-      oldest-of z {x} g =
-          record {
-            ready = y;
-            near = j;
-            ends = lu;
-            rest = messagesAt w (suc i) (linkSlots - 1);
-            link = rw (g, signed-back (getD w i (pos 0)) h) (first-some y j low high e (λ q. z (word-zero (getD w i (pos 0)) q)));
-          }
-
--- ---- from there on
-
-module _ {w : List ℤ} {sq : List ℕ} {n m a b : ℕ} {x : Message} (h : Oldest w sq n m a b x) where
+module _ {w : List ℤ} {sq : List ℕ} {n m a b : ℕ} {x : Message} (h : Sent w sq n m a b x) where
   f : Storable (fieldsIn w) (runIn w)
   f = right-storable w (h .ready .right)
 
   pub step-asks : Ready w sq n m × (((1 ≤ a) × (a ≤ n)) × (((1 ≤ b) × (b ≤ n)) × (countSmall x ≡ true)))
   step-asks =
       let k = neighbours-ends (runIn w .waits) (f .sound) a b (h .near) in
-      (h .ready, ((k .0, h .ends .0), ((k .2, h .ends .1), message-small (runIn w) (f .formed) (f .sound) a b (h .near) x (h .rest) (h .link))))
+      (h .ready, ((k .0, h .ends .0), ((k .2, h .ends .1), h .small)))
 
-  by-22 : accepts (runIn w) a b x (h .rest) ≡ false → Answer w a b (Prepared.Refused 22)
-  by-22 k = sym (prepared-refused (runIn w) (f .formed) (f .sound) a b (h .near) x (h .rest) (h .link) k)
+  by-22 : ((rest : List Message) → Among x rest (runIn w .link a b) → accepts (runIn w) a b x rest ≡ false) → PreparedFor w a b x (Prepared.Refused 22)
+  by-22 k rest l = sym (prepared-refused (runIn w) a b x rest (k rest l))
 
   pub process-asks : Ready w sq n m × ((1 ≤ b) × (b ≤ n))
   process-asks = (h .ready, step-asks .1 .1 .0)
 
-  pub step-refused : {s : Stepped} {k : ℕ} → s ≡ steppedAt (runIn w) a b x → s ≡ Stepped.Refused k → Answer w a b (Prepared.Refused 22)
-  step-refused {k = k} t o = by-22 (accepts-refused (runIn w) (f .formed) (f .sound) a b (h .near) x (h .rest) (h .link) k (sym t ∙ o))
+  pub step-refused : {s : Stepped} {k : ℕ} → s ≡ steppedAt (runIn w) a b x → s ≡ Stepped.Refused k → PreparedFor w a b x (Prepared.Refused 22)
+  step-refused {k = k} t o = by-22 (λ rest l. accepts-refused (runIn w) (f .formed) (f .sound) a b (h .near) x rest l k (sym t ∙ o))
 
-  pub count-full : {c : ℕ} → c ≡ runIn w .count → mostDeliveries ≤ c → Answer w a b (Prepared.Refused 22)
-  count-full k u = by-22 (accepts-full (runIn w) (f .formed) (f .sound) a b (h .near) x (h .rest) (h .link) (omega arith))
+  pub count-full : {c : ℕ} → c ≡ runIn w .count → mostDeliveries ≤ c → PreparedFor w a b x (Prepared.Refused 22)
+  count-full k u = by-22 (λ rest l. accepts-full (runIn w) (f .formed) (f .sound) a b (h .near) x rest l (omega arith))
 
   module _ {s : Stepped} {q : Process} {p : Probes} {z : Reply} (t : s ≡ steppedAt (runIn w) a b x) (o : s ≡ Taken q p z) where
     -- the room that code counts, over the N that it is given
@@ -138,47 +123,46 @@ module _ {w : List ℤ} {sq : List ℕ} {n m a b : ℕ} {x : Message} (h : Oldes
         within : (i : ℕ) (c : ℤ) → z ≡ To i c → (1 ≤ i) × (i ≤ n)
         within i c e =
             let k = neighbours-ends (runIn w .waits) (f .sound) b i
-            (taken-replied (runIn w) (f .formed) (f .sound) a b (h .near) x (h .rest) (h .link) q p z (sym t ∙ o) i c e) in
+            (taken-replied (runIn w) (f .formed) (f .sound) a b (h .near) x (h .small) q p z (sym t ∙ o) i c e) in
             (k .2, omega (arith, k .3, ready-n (h .ready)))
 
-    pub links-full : (v : Bool) → v ≡ allTo n (roomTo (runIn w) a b p z) → not v ≡ true → Answer w a b (Prepared.Refused 22)
+    pub links-full : (v : Bool) → v ≡ allTo n (roomTo (runIn w) a b p z) → not v ≡ true → PreparedFor w a b x (Prepared.Refused 22)
     links-full v e k =
-        by-22 (accepts-crowded (runIn w) (f .formed) (f .sound) a b (h .near) x (h .rest) (h .link) q p z (sym t ∙ o) (value-not (sym (room-is e)) k))
+        by-22 (λ rest l. accepts-crowded (runIn w) (f .formed) (f .sound) a b (h .near) x rest l q p z (sym t ∙ o) (value-not (sym (room-is e)) k))
 
     -- the record as it was, of which the growth of num is counted
     module _ {v : Process} (d : v ≡ runIn w .process b) where
       pub sent-asks : (c : Chain) → p ≡ probesOf c → v .num ≤ q .num
       sent-asks c e =
-          let g = sent-grows (runIn w) (f .formed) (f .sound) a b (h .near) x (h .rest) (h .link) q p z (sym t ∙ o) c e in
+          let g = sent-grows (runIn w) (f .formed) (f .sound) a b (h .near) x (h .small) q p z (sym t ∙ o) c e in
           let u : v .num ≡ runIn w .process b .num = ap (λ (y : Process). y .num) d in
           omega arith
 
       pub prepared : {c : ℕ} → c ≡ runIn w .count → c < mostDeliveries → (r : Bool) → r ≡ allTo n (roomTo (runIn w) a b p z) → not r ≡ false → {k : ℕ}
-          → k ≡ grownBy v q p → Answer w a b (Go x q p z k)
-      prepared c u r e l s =
-          let i = sent-is (runIn w) (f .formed) (f .sound) a b (h .near) x (h .rest) (h .link) q p z (sym t ∙ o) in
+          → k ≡ grownBy v q p → PreparedFor w a b x (Go x q p z k)
+      prepared c u r e y s rest l =
+          let i = sent-is (runIn w) (f .formed) (f .sound) a b (h .near) x (h .small) q p z (sym t ∙ o) in
+          let free : roomy (runIn w) a b p z ≡ true = value-yes (sym (room-is e)) y in
           ap (Go x q p z) (s ∙ ap (λ (y : Process). grownBy y q p) d ∙ i)
-          ∙ sym
-          (prepared-go (runIn w) (f .formed) (f .sound) a b (h .near) x (h .rest) (h .link) q p z (sym t ∙ o) (omega arith) (value-yes (sym (room-is e)) l))
+          ∙ sym (prepared-go (runIn w) (f .formed) (f .sound) a b (h .near) x (h .small) q p z (sym t ∙ o) rest l (omega arith) free)
 
 -- ---- the delivery itself
 
 -- the answer and the area that a delivery leaves
-abbrev pub Outcome : List ℤ → ℕ → ℕ → Delivery → List ℤ → Type 0
-Outcome w a b d v =
-    (d ≡ deliver (runIn w) a b (runIn w .link a b) .answer) × (v ≡ keeping w (deliver (runIn w) a b (runIn w .link a b) .run))
+abbrev pub Outcome : List ℤ → ℕ → ℕ → ℕ → Delivery → List ℤ → Type 0
+Outcome w a b i d v = (d ≡ deliverAt (runIn w) a b i .answer) × (v ≡ keeping w (deliverAt (runIn w) a b i .run))
 
 module _ {w : List ℤ} {sq : List ℕ} {n m : ℕ} (y : Ready w sq n m) where
   -- a refusal leaves the area as it was
-  pub refusal : (a b : ℕ) {d : Prepared} → Answer w a b d → {k : ℕ} → d ≡ Prepared.Refused k → Outcome w a b (Delivery.Refused k) w
-  refusal a b t {k} o =
-      let e = refused-of (runIn w) a b k (runIn w .link a b) (sym t ∙ o) in
+  pub refusal : (a b i : ℕ) {d : Prepared} → Answer w a b i d → {k : ℕ} → d ≡ Prepared.Refused k → Outcome w a b i (Delivery.Refused k) w
+  refusal a b i t {k} o =
+      let e = refused-of (runIn w) a b i k (runIn w .link a b) (sym t ∙ o) in
       (sym (ap (λ (p : Picked). p .answer) e), sym (stored-same w (y .right)) ∙ sym (ap (λ (p : Picked). keeping w (p .run)) e))
 
-  module _ (a b : ℕ) (j : neighbours (runIn w .waits) a b ≡ true) {d : Prepared} (t : Answer w a b d) {g : Message} {x : Process} {p : Probes} {z : Reply}
+  module _ (a b i : ℕ) (j : neighbours (runIn w .waits) a b ≡ true) {d : Prepared} (t : Answer w a b i d) {g : Message} {x : Process} {p : Probes} {z : Reply}
       {k : ℕ} (o : d ≡ Go g x p z k) where
-    pub carry-asks : Ready w sq n m × Carried (runIn w) a b x p z
-    carry-asks = (y, going-of y a b j (sym t ∙ o) .carried)
+    pub carry-asks : Ready w sq n m × Carried (runIn w) a b i x p z
+    carry-asks = (y, going-of y a b i j (sym t ∙ o) .carried)
 
-    pub delivery : {l : List ℤ} → l ≡ keeping w (carriedOut (runIn w) a b x p z) → Outcome w a b (Delivered g) l
-    delivery e = let i = going-of y a b j (sym t ∙ o) in (sym (i .answer), e ∙ ap (keeping w) (sym (i .run)))
+    pub delivery : {l : List ℤ} → l ≡ keeping w (carriedOut (runIn w) a b i x p z) → Outcome w a b i (Delivered g) l
+    delivery e = let h = going-of y a b i j (sym t ∙ o) in (sym (h .answer), e ∙ ap (keeping w) (sym (h .run)))

@@ -23,15 +23,15 @@ use Rattle.areas.specs.Used.{linkSlots}
 use Rattle.areas.specs.Area.{fieldsIn, runIn, keeping}
 use Rattle.areas.specs.Replaced.{putProcess, putLink, putCount}
 use Rattle.lenses.specs.Ready.{Ready}
-use Rattle.lenses.specs.Changes.{tailOf, answered, off, Spreadable, Answerable}
+use Rattle.lenses.specs.Changes.{without, answered, off, Spreadable, Answerable}
 use Rattle.lenses.specs.Storable.{Storable}
-use Rattle.lenses.specs.ReadyLaws.{right-storable, ready-n, ready-sizes}
+use Rattle.lenses.specs.ReadyLaws.{right-storable, runIn-few, ready-n, ready-sizes}
 use Rattle.delivery.specs.Delivering.{probesOf, spreadBy, changed, carriedOut, Carried}
 use Rattle.delivery.specs.CarryLaws.{carried-ends, storable-off, off-father, storable-changed, reply-room, storable-replied, probes-room}
 use Rattle.delivery.specs.CarryLaws.{storable-sent, carried-count, storable-carried}
 use Rattle.lenses.proofs.Holding.{Holding, holding-run, holding-ready, holding-next}
 
-module _ {w : List ℤ} {sq : List ℕ} {n m : ℕ} (y : Ready w sq n m) {a b : ℕ} {x : Process} {p : Probes} {z : Reply} (k : Carried (runIn w) a b x p z) where
+module _ {w : List ℤ} {sq : List ℕ} {n m : ℕ} (y : Ready w sq n m) {a b i : ℕ} {x : Process} {p : Probes} {z : Reply} (k : Carried (runIn w) a b i x p z) where
   abbrev r : Run
   r = runIn w
 
@@ -39,55 +39,57 @@ module _ {w : List ℤ} {sq : List ℕ} {n m : ℕ} (y : Ready w sq n m) {a b : 
   f = right-storable w (y .right)
 
   between : (1 ≤ b) × (b ≤ n)
-  between = let e = carried-ends (fieldsIn w) r f a b x p z k in (e .2, omega (arith, e .3, ready-n y))
+  between = let e = carried-ends (fieldsIn w) r f a b i x p z k in (e .2, omega (arith, e .3, ready-n y))
 
-  pub take-asks : Ready w sq n m × (((a ≤ mostProcesses) × (b ≤ mostProcesses)) × (neighbours (runIn w .waits) a b ≡ true))
+  pub take-asks : Ready w sq n m
+      × (((a ≤ mostProcesses) × (b ≤ mostProcesses)) × ((neighbours (runIn w .waits) a b ≡ true) × ((1 ≤ i) × (i ≤ linkSlots))))
   take-asks =
-      let e = carried-ends (fieldsIn w) r f a b x p z k in
-      (y, (omega (arith, e .1, e .3, ready-n y, ready-sizes y), k .joined))
+      let e = carried-ends (fieldsIn w) r f a b i x p z k in
+      (y, (omega (arith, e .1, e .3, ready-n y, ready-sizes y), (k .joined, (k .placed .0, omega (arith, k .placed .1, runIn-few w a b)))))
 
-  pub taken-off : {u : List ℤ} → u ≡ keeping w (putLink (runIn w) a b (tailOf (runIn w .link a b))) → Holding w u (off r a b)
-  taken-off e = record { is = e; fit = storable-off (fieldsIn w) r f a b x p z k }
+  pub taken-off : {u : List ℤ} → u ≡ keeping w (putLink (runIn w) a b (without i (runIn w .link a b))) → Holding w u (off r a b i)
+  taken-off e = record { is = e; fit = storable-off (fieldsIn w) r f a b i x p z k }
 
-  module _ {v : List ℤ} (h : Holding w v (off r a b)) where
+  module _ {v : List ℤ} (h : Holding w v (off r a b i)) where
     pub put-asks : Ready v sq n m × (((1 ≤ b) × (b ≤ n)) × ((inRange x ≡ true) × (fatherRight (runIn v .waits) b x ≡ true)))
     put-asks =
-        (holding-ready y h, (between, (k .range, rw (holding-run y h) (off-father (fieldsIn w) r f a b x p z k))))
+        (holding-ready y h, (between, (k .range, rw (holding-run y h) (off-father (fieldsIn w) r f a b i x p z k))))
 
-    pub record-put : {u : List ℤ} → u ≡ keeping v (putProcess (runIn v) b x) → Holding w u (changed r a b x)
-    record-put e = holding-next y h (λ q. putProcess q b x) e (storable-changed (fieldsIn w) r f a b x p z k)
+    pub record-put : {u : List ℤ} → u ≡ keeping v (putProcess (runIn v) b x) → Holding w u (changed r a b i x)
+    record-put e = holding-next y h (λ q. putProcess q b x) e (storable-changed (fieldsIn w) r f a b i x p z k)
 
-  module _ {v : List ℤ} (h : Holding w v (changed r a b x)) where
+  module _ {v : List ℤ} (h : Holding w v (changed r a b i x)) where
     pub reply-asks : Ready v sq n m
         × (((1 ≤ b) × (b ≤ n)) × ((replyFits z ≡ true) × Answerable (runIn v) n b z))
     reply-asks =
         (holding-ready y h, (between, (k .replies, rw (holding-run y h) room)))
       where
-        room : (q : ℕ) (c : ℤ) → z ≡ To q c → (q ≤ n) × (neighbours (changed r a b x .waits) b q ≡ true) × (length (changed r a b x .link b q) ≤ linkSlots - 1)
-        room q c e = let g = reply-room (fieldsIn w) r f a b x p z k q c e in (omega (arith, g .0, ready-n y), g .1, g .2)
+        room : (q : ℕ) (c : ℤ) → z ≡ To q c → (q ≤ n)
+            × (neighbours (changed r a b i x .waits) b q ≡ true) × (length (changed r a b i x .link b q) ≤ linkSlots - 1)
+        room q c e = let g = reply-room (fieldsIn w) r f a b i x p z k q c e in (omega (arith, g .0, ready-n y), g .1, g .2)
 
-    pub reply-sent : {u : List ℤ} → u ≡ keeping v (answered (runIn v) b z) → Holding w u (answered (changed r a b x) b z)
-    reply-sent e = holding-next y h (λ q. answered q b z) e (storable-replied (fieldsIn w) r f a b x p z k)
+    pub reply-sent : {u : List ℤ} → u ≡ keeping v (answered (runIn v) b z) → Holding w u (answered (changed r a b i x) b z)
+    reply-sent e = holding-next y h (λ q. answered q b z) e (storable-replied (fieldsIn w) r f a b i x p z k)
 
-  module _ {v : List ℤ} (h : Holding w v (answered (changed r a b x) b z)) where
+  module _ {v : List ℤ} (h : Holding w v (answered (changed r a b i x) b z)) where
     pub send-asks : Ready v sq n m
         × (((1 ≤ b) × (b ≤ n)) × ((c : Chain) → p ≡ probesOf c → Spreadable c (runIn v) n b))
     send-asks =
         (holding-ready y h, (between, rw (holding-run y h) room))
       where
-        room : (c : Chain) → p ≡ probesOf c → (q : ℕ) → 1 ≤ q → q ≤ n → joins c (answered (changed r a b x) b z .waits) b q ≡ true
-            → length (answered (changed r a b x) b z .link b q) ≤ linkSlots - 1
-        room c e q l u j = probes-room (fieldsIn w) r f a b x p z k c e q l (omega (arith, ready-n y)) j
+        room : (c : Chain) → p ≡ probesOf c → (q : ℕ) → 1 ≤ q → q ≤ n → joins c (answered (changed r a b i x) b z .waits) b q ≡ true
+            → length (answered (changed r a b i x) b z .link b q) ≤ linkSlots - 1
+        room c e q l u j = probes-room (fieldsIn w) r f a b i x p z k c e q l (omega (arith, ready-n y)) j
 
-    pub probes-sent : {u : List ℤ} → u ≡ keeping v (spreadBy p (runIn v) b) → Holding w u (spreadBy p (answered (changed r a b x) b z) b)
-    probes-sent e = holding-next y h (λ q. spreadBy p q b) e (storable-sent (fieldsIn w) r f a b x p z k)
+    pub probes-sent : {u : List ℤ} → u ≡ keeping v (spreadBy p (runIn v) b) → Holding w u (spreadBy p (answered (changed r a b i x) b z) b)
+    probes-sent e = holding-next y h (λ q. spreadBy p q b) e (storable-sent (fieldsIn w) r f a b i x p z k)
 
-  module _ {v : List ℤ} (h : Holding w v (spreadBy p (answered (changed r a b x) b z) b)) {c : ℕ} (g : c ≡ runIn v .count) where
+  module _ {v : List ℤ} (h : Holding w v (spreadBy p (answered (changed r a b i x) b z) b)) {c : ℕ} (g : c ≡ runIn v .count) where
     pub count-asks : Ready v sq n m × (c + 1 ≤ mostDeliveries)
     count-asks =
-        (holding-ready y h, rw (g, holding-run y h) (carried-count (fieldsIn w) r f a b x p z k))
+        (holding-ready y h, rw (g, holding-run y h) (carried-count (fieldsIn w) r f a b i x p z k))
 
-    pub all-done : {u : List ℤ} → u ≡ keeping v (putCount (runIn v) (c + 1)) → u ≡ keeping w (carriedOut r a b x p z)
+    pub all-done : {u : List ℤ} → u ≡ keeping v (putCount (runIn v) (c + 1)) → u ≡ keeping w (carriedOut r a b i x p z)
     unfolding carriedOut
     all-done e =
-        holding-next y h (λ q. putCount q (q .count + 1)) (rw g at e) (storable-carried (fieldsIn w) r f a b x p z k) .is
+        holding-next y h (λ q. putCount q (q .count + 1)) (rw g at e) (storable-carried (fieldsIn w) r f a b i x p z k) .is

@@ -12,7 +12,7 @@
 -- Assumes nothing.
 use Prim.Native.Nat.{ℕ, _+_, _≤_, _<_}
 use mathlib.Core.Bool.{Bool, true, false, not, _&&_}
-use mathlib.Core.List.{List, _∷_}
+use mathlib.Core.List.{List}
 use mathlib.Core.Path.{_≡_, refl, sym, ap, _∙_, fun-ext}
 use native.Mathlib.Omega.{arith}
 use borrow.Author.Tests.{leb-true, le-leb, lt-leb}
@@ -22,7 +22,7 @@ use lib.IntN.{ℤ}
 use Rattle.machine.specs.Machine as Machines
 use Rattle.machine.specs.Calls as MachineCalls
 use Rattle.base.specs.Choice.{choose}
-use Rattle.base.specs.ChoiceLaws.{tested, and-both, and-left, and-three}
+use Rattle.base.specs.ChoiceLaws.{tested, and-both, and-three}
 use Rattle.base.specs.Checks.{Tested, passed, failed}
 use Rattle.base.specs.Sums.{allTo}
 use Rattle.base.specs.SumLaws.{allTo-at, countTo-most}
@@ -40,13 +40,16 @@ use Rattle.steps.specs.declared.Stepped.the-variants.{Taken}
 use Rattle.steps.specs.Step.{inRange, countSmall, numSuffices, replyFits, fitting, lentInRange, startStepped, answer}
 use Rattle.steps.specs.StepLaws.{stepped-inside}
 use Rattle.checks.specs.declared.Delivery.the-variants.{Delivered}
+use Rattle.machine.specs.Calls.{cut, atPlace}
+use Rattle.machine.specs.Among.{Among}
+use Rattle.machine.specs.AmongLaws.{among-right, cut-placed}
+use Rattle.machine.specs.MadeLaws.{deliver-cut}
 use Rattle.machine.specs.FormedLaws.{wellFormed-P}
 use Rattle.checks.specs.RunLaws.{formed-range, formed-father, new-father, replied, new-range, new-reply}
-use Rattle.checks.specs.Run.{Run, mostDeliveries, knot, turnOf, wellFormed, countsSmall, turnAt, after, accepts}
-use Rattle.checks.specs.Calls.{deliver}
+use Rattle.checks.specs.Run.{Run, mostDeliveries, knot, turnOf, wellFormed, turnAt, after, accepts}
 use Rattle.lenses.specs.ChangeLaws.{father-few}
 use Rattle.delivery.specs.Rooms.{loadAfter, roomy}
-use Rattle.delivery.specs.Delivering.{steppedAt, carriedOut, Carried}
+use Rattle.delivery.specs.Delivering.{steppedAt, carriedOut, Carried, deliverAt}
 use Rattle.delivery.specs.DeliveryLaws.{carriedOut-is, loadAfter-is}
 use Rattle.delivery.specs.DeliveryFacts.{Taking}
 
@@ -115,6 +118,15 @@ module _ (r : Run) (h : wellFormed r ≡ true) (sd : Sound (r .waits)) (a b : �
           absurd (omega arith)
       at (failed f) = f
 
+  -- whom the step acknowledges is a neighbour of the receiver
+  pub taken-replied :
+      (x : Process) (y : Probes) (z : Reply) → steppedAt r a b m ≡ Taken x y z → (p : ℕ) (c : ℤ) → z ≡ To p c → neighbours (r .waits) b p ≡ true
+  unfolding fitting
+  taken-replied x y z e p c f =
+      let t : Taking r a b m x y z = steppedAt-taken x y z e in
+      let k = and-three (numSuffices m (r .process b)) (inRange (turnAt r a b m .process)) (replyFits (turnAt r a b m .reply)) (t .fits) in
+      replied (wellFormed-P knot r .0 h) sd a b j m (k .2) p c (sym (t .reply) ∙ f)
+
 -- ---- a delivery
 
 -- no link from b holds a fifth message
@@ -135,14 +147,12 @@ and-true true b = refl
 and-true false b = refl
 
 module _ (r : Run) (h : wellFormed r ≡ true) (sd : Sound (r .waits)) (a b : ℕ) (j : neighbours (r .waits) a b ≡ true) (m : Message)
-    (rest : List Message) (l : r .link a b ≡ m ∷ rest) where
+    (rest : List Message) (l : Among m rest (r .link a b)) where
   -- the counts of waiting messages are in range
   pub message-small : countSmall m ≡ true
-  unfolding Machines.allRight
   message-small =
       let e = neighbours-ends (r .waits) sd a b j in
-      let k : countsSmall (m ∷ rest) ≡ true = rw l at (wellFormed-P knot r .0 h .messages a b (e .0, e .1) (e .2, e .3)) in
-      and-left (countSmall m) (countsSmall rest) k
+      among-right countSmall l (wellFormed-P knot r .0 h .messages a b (e .0, e .1) (e .2, e .3)) .0
 
   abbrev counted : Bool
   counted = leb (r .count + 1) mostDeliveries
@@ -155,7 +165,7 @@ module _ (r : Run) (h : wellFormed r ≡ true) (sd : Sound (r .waits)) (a b : �
 
   -- the room that a promise asks for is the room that is counted
   roomy-is : held ≡ roomy r a b (turnAt r a b m .probes) (turnAt r a b m .reply)
-  roomy-is = ap (allTo (r .waits .n)) (fun-ext (λ q. ap (λ (k : ℕ). leb k 4) (loadAfter-is r sd a b m rest l q)))
+  roomy-is = ap (allTo (r .waits .n)) (fun-ext (λ q. ap (λ (k : ℕ). leb k 4) (loadAfter-is r a b m rest l q)))
 
   -- the step of an accepted delivery is taken, and the count and the links have room
   pub accepts-taken : accepts r a b m rest ≡ true
@@ -178,13 +188,6 @@ module _ (r : Run) (h : wellFormed r ≡ true) (sd : Sound (r .waits)) (a b : �
     taking : Taking r a b m x y z
     taking = steppedAt-taken r h sd a b j m message-small x y z e
 
-    -- whom the step acknowledges is a neighbour of the receiver
-    pub taken-replied : (p : ℕ) (c : ℤ) → z ≡ To p c → neighbours (r .waits) b p ≡ true
-    unfolding fitting
-    taken-replied p c f =
-        let k = and-three (numSuffices m (r .process b)) (inRange (turnAt r a b m .process)) (replyFits (turnAt r a b m .reply)) (taking .fits) in
-        replied (wellFormed-P knot r .0 h) sd a b j m (k .2) p c (sym (taking .reply) ∙ f)
-
     roomy-taken : held ≡ roomy r a b y z
     roomy-taken = rw (taking .probes, taking .reply) roomy-is
 
@@ -200,23 +203,27 @@ module _ (r : Run) (h : wellFormed r ≡ true) (sd : Sound (r .waits)) (a b : �
       pub accepts-of : accepts r a b m rest ≡ true
       accepts-of = accepts-is ∙ and-both counted (roomy r a b y z) (le-leb (r .count + 1) mostDeliveries (omega arith)) free
 
-      pub carried-of : Carried r a b x y z
-      carried-of =
-          record {
-            joined = j;
-            waits = rw l;
-            range = rw (taking .process) (new-range r a b m rest accepts-of);
-            father = rw (taking .process) (new-father (wellFormed-P knot r .0 h) sd a b j m);
-            replies = rw (taking .reply) (new-reply r a b m rest accepts-of);
-            replied = taken-replied;
-            count = omega arith;
-            room = λ q u v. leb-true (loadAfter r a b y z q) 4 (allTo-at (r .waits .n) (λ q. leb (loadAfter r a b y z q) 4) free q u v);
-          }
+      -- the same with the place of the message
+      module _ (i : ℕ) (p : atPlace i (r .link a b) ≡ cut m rest) where
+        pub carried-of : Carried r a b i x y z
+        carried-of =
+            record {
+              joined = j;
+              placed = cut-placed i (r .link a b) p .1;
+              range = rw (taking .process) (new-range r a b m rest accepts-of);
+              father = rw (taking .process) (new-father (wellFormed-P knot r .0 h) sd a b j m);
+              replies = rw (taking .reply) (new-reply r a b m rest accepts-of);
+              replied = taken-replied r h sd a b j m message-small x y z e;
+              count = omega arith;
+              room = λ q u v. leb-true (loadAfter r a b y z q) 4 (allTo-at (r .waits .n) (λ q. leb (loadAfter r a b y z q) 4) free q u v);
+            }
 
-      pub deliver-answer : deliver r a b (r .link a b) .answer ≡ Delivered m
-      unfolding MachineCalls.deliver MachineCalls.delivered
-      deliver-answer = rw (l, accepts-of)
+        pub deliver-answer : deliverAt r a b i .answer ≡ Delivered m
+        unfolding MachineCalls.delivered
+        deliver-answer = rw (deliver-cut knot r a b i (r .link a b) p, accepts-of)
 
-      pub deliver-run : deliver r a b (r .link a b) .run ≡ carriedOut r a b x y z
-      unfolding MachineCalls.deliver MachineCalls.delivered
-      deliver-run = rw (l, accepts-of, taking .process, taking .probes, taking .reply) (sym (carriedOut-is r sd a b m rest l))
+        pub deliver-run : deliverAt r a b i .run ≡ carriedOut r a b i x y z
+        unfolding MachineCalls.delivered
+        deliver-run =
+            rw (deliver-cut knot r a b i (r .link a b) p, accepts-of, taking .process, taking .probes, taking .reply)
+            (sym (carriedOut-is r sd a b i m rest p))

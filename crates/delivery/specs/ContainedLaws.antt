@@ -3,7 +3,7 @@
 -- Assumes nothing.
 use Prim.Native.Nat.{ℕ}
 use mathlib.Core.Bool.{true, false, false≢true}
-use mathlib.Core.List.{List, [], _∷_}
+use mathlib.Core.List.{List, []}
 use mathlib.Core.Path.{_≡_, sym, ap, _∙_, subst}
 use native.Mathlib.Omega.{arith}
 use lib.Dec.{eqb}
@@ -17,6 +17,7 @@ use Rattle.tables.specs.Sound.{Sound}
 use Rattle.tables.specs.WaitsLaws.{neighbours-ends}
 use Rattle.machine.specs.Machine.{taken}
 use Rattle.machine.specs.Machine as Machines
+use Rattle.machine.specs.Among.{Among}
 use Rattle.machine.specs.Formed.{Formed}
 use Rattle.machine.specs.FormedLaws.{taken-empty}
 use Rattle.steps.specs.declared.Message.{Message}
@@ -27,7 +28,7 @@ use Rattle.areas.specs.Contained.{Contained}
 use Rattle.areas.specs.ContainedLaws.{contained-joined}
 
 module _ (t : Fields) (r : Run) (hd : Contained t r) (h : Formed knot r) (sd : Sound (r .waits)) (a b : ℕ) (j : neighbours (r .waits) a b ≡ true)
-    (m : Message) (rest : List Message) (l : r .link a b ≡ m ∷ rest) (ok : accepts r a b m rest ≡ true) where
+    (m : Message) (rest : List Message) (l : Among m rest (r .link a b)) (ok : accepts r a b m rest ≡ true) where
   pub contained-after : Contained t (after r a b m rest)
   unfolding Machines.after waitsOf
   contained-after =

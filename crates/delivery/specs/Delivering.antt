@@ -2,19 +2,24 @@
 --   steppedAt r a b m     == the receiver's step as the answer of `step` or of the start's step
 --   probesOf c            == the probes that go along a chain
 --   probesGo, replyGoes   == whether a broadcast, and an acknowledgement, goes to q
---   changed r a b x       == the run after the message is off its link and the record is changed
+--   changed r a b k x     == the run after the message at place k is off its link and the record is changed
 --   Relinked r q          == q differs from r in its links alone
---   carriedOut r a b x y z   == the delivery as changes one after another; that this is `after` is a law
---   Carried r a b x y z   == what makes these changes possible
+--   carriedOut r a b k x y z   == the delivery as changes one after another; that this is `after` is a law
+--   Carried r a b k x y z == what makes these changes possible
+--   deliverAt r a b k     == the delivery of the message at place k of the link from a to b
 --   probesSent w b y      == how many probes a broadcast of b sends
 --   grownBy x y z         == by how much num grows from the record x to the record y, where the step of both sends probes
---   preparedOf r a b ms   == a delivery as far as nothing is changed: 24, then 22, and else what the receiver's step leaves and sends
+--   preparedWith r a b m rest   == the delivery of m, where rest stays, as far as nothing is changed: 22, or what the receiver's step leaves
+--                            and sends
+--   PreparedFor w a b m d == d is that of m in the area w, wherever m stands on its link
+--   preparedOf r a b k ms == the same of the message at place k: 24, then 31, then 22
 -- Assumes nothing.
 use Prim.Native.Nat.{ℕ, _+_, _-_, _≤_}
 use mathlib.Core.Bool.{Bool, true, false}
 use mathlib.Core.List.{List, [], _∷_}
 use mathlib.Core.Path.{_≡_}
 use lib.IntN.{ℤ}
+use lib.ListN.{length}
 use lib.Dec.{eqb}
 use Rattle.base.specs.Choice.{choose}
 use Rattle.tables.specs.declared.Chain.{Chain}
@@ -29,10 +34,13 @@ use Rattle.steps.specs.declared.Reply.the-variants.{To}
 use Rattle.steps.specs.declared.Stepped.{Stepped}
 use Rattle.steps.specs.Step.{stepped, startStepped, inRange, replyFits}
 use Rattle.checks.specs.Run.{Run, mostDeliveries, fatherRight, turnAt, accepts}
-use Rattle.machine.specs.Calls.{waiting}
+use Rattle.checks.specs.Calls.{Picked, deliver}
+use Rattle.machine.specs.Calls.{Cut, nowhere, cut, atPlace}
+use Rattle.machine.specs.Among.{Among}
+use Rattle.areas.specs.Area.{runIn}
 use Rattle.areas.specs.Replaced.{putProcess, putLink, putCount}
 use Rattle.areas.specs.Squares.{joinsBy}
-use Rattle.lenses.specs.Changes.{tailOf, answered, spread, off}
+use Rattle.lenses.specs.Changes.{without, answered, spread, off}
 use Rattle.delivery.specs.Rooms.{loadAfter}
 use Rattle.delivery.specs.declared.delivering.Prepared.{Prepared}
 use Rattle.delivery.specs.declared.delivering.Prepared.the-variants.{Go}
@@ -63,9 +71,9 @@ spreadBy Probes.Nothing r b = r
 spreadBy Sucs r b = spread Out r b
 spreadBy Pres r b = spread In r b
 
--- the oldest message is off the link from a to b, and the record of b is changed
-abbrev pub changed : Run → ℕ → ℕ → Process → Run
-changed r a b x = putProcess (off r a b) b x
+-- the message at place k is off the link from a to b, and the record of b is changed
+abbrev pub changed : Run → ℕ → ℕ → ℕ → Process → Run
+changed r a b k x = putProcess (off r a b k) b x
 
 -- q differs from r in its links alone
 pub record Relinked (r q : Run) : Type 0 where
@@ -75,21 +83,25 @@ pub record Relinked (r q : Run) : Type 0 where
   pub process : (p : ℕ) → q .process p ≡ r .process p
 
 -- the changes that make a delivery, one after another
-unfoldable pub carriedOut : Run → ℕ → ℕ → Process → Probes → Reply → Run
-carriedOut r a b x y z =
-    let q : Run = spreadBy y (answered (putProcess (putLink r a b (tailOf (r .link a b))) b x) b z) b in
+unfoldable pub carriedOut : Run → ℕ → ℕ → ℕ → Process → Probes → Reply → Run
+carriedOut r a b k x y z =
+    let q : Run = spreadBy y (answered (putProcess (putLink r a b (without k (r .link a b))) b x) b z) b in
     putCount q (q .count + 1)
 
 -- what makes each of them possible
-pub record Carried (r : Run) (a b : ℕ) (x : Process) (y : Probes) (z : Reply) : Type 0 where
+pub record Carried (r : Run) (a b k : ℕ) (x : Process) (y : Probes) (z : Reply) : Type 0 where
   pub joined : neighbours (r .waits) a b ≡ true
-  pub waits : waiting (r .link a b) ≡ true
+  pub placed : (1 ≤ k) × (k ≤ length (r .link a b))
   pub range : inRange x ≡ true
   pub father : fatherRight (r .waits) b x ≡ true
   pub replies : replyFits z ≡ true
   pub replied : (p : ℕ) (c : ℤ) → z ≡ To p c → neighbours (r .waits) b p ≡ true
   pub count : r .count + 1 ≤ mostDeliveries
   pub room : (q : ℕ) → 1 ≤ q → q ≤ r .waits .n → loadAfter r a b y z q ≤ 4
+
+-- the delivery of the message at place k of the link from a to b
+abbrev pub deliverAt : Run → ℕ → ℕ → ℕ → Picked
+deliverAt r a b k = deliver r a b k (r .link a b)
 
 -- ---- before anything is changed
 
@@ -105,10 +117,23 @@ grownBy x y Probes.Nothing = 0
 grownBy x y Sucs = y .num - x .num
 grownBy x y Pres = y .num - x .num
 
--- 24, "nothing waits on that link", then 22
-unfoldable pub preparedOf : Run → ℕ → ℕ → List Message → Prepared
-preparedOf r a b [] = Prepared.Refused 24
-preparedOf r a b (m ∷ rest) =
+-- 22, or what the receiver's step leaves and sends
+unfoldable pub preparedWith : Run → ℕ → ℕ → Message → List Message → Prepared
+preparedWith r a b m rest =
     choose (accepts r a b m rest)
     (Go m (turnAt r a b m .process) (turnAt r a b m .probes) (turnAt r a b m .reply) (probesSent (r .waits) b (turnAt r a b m .probes)))
     (Prepared.Refused 22)
+
+-- d is the prepared delivery of m, wherever on the link from a to b it stands
+abbrev pub PreparedFor : List ℤ → ℕ → ℕ → Message → Prepared → Type 0
+PreparedFor w a b m d = (rest : List Message) → Among m rest (runIn w .link a b) → d ≡ preparedWith (runIn w) a b m rest
+
+-- 31, "a place that is 0 or beyond the messages waiting" (02, N5), then 22
+abbrev pub preparedFound : Run → ℕ → ℕ → Cut Message → Prepared
+preparedFound r a b nowhere = Prepared.Refused 31
+preparedFound r a b (cut m rest) = preparedWith r a b m rest
+
+-- 24, "nothing waits on that link", then 31, 22
+unfoldable pub preparedOf : Run → ℕ → ℕ → ℕ → List Message → Prepared
+preparedOf r a b k [] = Prepared.Refused 24
+preparedOf r a b k (m ∷ ms) = preparedFound r a b (atPlace k (m ∷ ms))

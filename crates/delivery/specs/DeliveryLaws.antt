@@ -6,7 +6,7 @@
 --   carriedOut-is         == the changes one after another make `after`
 --   loadAfter-is          == loadAfter counts the messages on the receiver's links after the delivery
 -- Assumes nothing.
-use Prim.Native.Nat.{ℕ, _+_, _-_}
+use Prim.Native.Nat.{ℕ, _+_, _-_, _≤_}
 use mathlib.Core.Bool.{Bool, true, false, _&&_, false≢true}
 use mathlib.Core.List.{List, [], _∷_, _++_, append-nil, append-assoc}
 use mathlib.Core.Path.{_≡_, refl, sym, ap, ap₂, _∙_, fun-ext}
@@ -32,9 +32,12 @@ use Rattle.steps.specs.declared.Reply.{Reply}
 use Rattle.steps.specs.declared.Reply.the-variants.{To}
 use Rattle.checks.specs.Run.{Run, one, turnAt, replyTo, probesTo, sentTo, after}
 use Rattle.machine.specs.Machine.{taken}
+use Rattle.machine.specs.Calls.{cut, atPlace}
+use Rattle.machine.specs.Among.{Among, Here}
+use Rattle.machine.specs.AmongLaws.{among-length, atPlace-here}
 use Rattle.areas.specs.Replaced.{putProcess, putLink, putCount}
-use Rattle.lenses.specs.Changes.{probeOf, spreadTo, tailOf, answered, spread, off}
-use Rattle.lenses.specs.ChangeLaws.{joins-high, tail-length}
+use Rattle.lenses.specs.Changes.{probeOf, spreadTo, answered, spread, off}
+use Rattle.lenses.specs.ChangeLaws.{joins-high}
 use Rattle.delivery.specs.Rooms.{loadAfter}
 use Rattle.delivery.specs.Delivering.{spreadBy, changed, Relinked, carriedOut}
 
@@ -102,18 +105,31 @@ spreadBy-link Pres r s b x y = spread-link In r s b x y
 
 -- ---- what is taken
 
-pub off-length : (r : Run) (a b q : ℕ) → length (off r a b .link b q) ≡ length (r .link b q) - bit (eqb b a && eqb q b)
-unfolding putLink
-off-length r a b q = at (tested (eqb b a && eqb q b))
+-- how many messages stay on the links of the receiver, whichever one is taken
+taken-length : (r : Run) (a b : ℕ) {m : Message} {rest : List Message} → Among m rest (r .link a b) → (q : ℕ)
+    → length (taken r a b rest b q) ≡ length (r .link b q) - bit (eqb b a && eqb q b)
+unfolding taken
+taken-length r a b {rest = rest} l q = at (tested (eqb b a && eqb q b))
   where
-    at : Tested (eqb b a && eqb q b)
-        → length (choose (eqb b a && eqb q b) (tailOf (r .link a b)) (r .link b q)) ≡ length (r .link b q) - bit (eqb b a && eqb q b)
+    at : Tested (eqb b a && eqb q b) → length (choose (eqb b a && eqb q b) rest (r .link b q)) ≡ length (r .link b q) - bit (eqb b a && eqb q b)
     at (failed e) = rw e (omega arith)
     at (passed e) =
         let f : b ≡ a = eqb-true b a (and-left (eqb b a) (eqb q b) e) in
         let g : q ≡ b = eqb-true q b (and-right (eqb b a) (eqb q b) e) in
         let k : r .link b q ≡ r .link a b = ap₂ (λ (u v : ℕ). r .link u v) f g in
-        rw (e, k) (tail-length (r .link a b))
+        rw (e, k) (omega (arith, among-length l))
+
+-- the links once the message at place k is off
+off-link : (r : Run) (a b k : ℕ) {m : Message} {rest : List Message} → atPlace k (r .link a b) ≡ cut m rest → (u v : ℕ)
+    → off r a b k .link u v ≡ taken r a b rest u v
+unfolding putLink taken
+off-link r a b k l u v = rw l
+
+pub off-length : (r : Run) (a b k q : ℕ) → (1 ≤ k) × (k ≤ length (r .link a b))
+    → length (off r a b k .link b q) ≡ length (r .link b q) - bit (eqb b a && eqb q b)
+off-length r a b k q h =
+    let i : Here k (r .link a b) = atPlace-here k (r .link a b) (h .0) (h .1) in
+    ap length (off-link r a b k (i .is) b q) ∙ taken-length r a b (i .among) q
 
 -- ---- the whole delivery
 
@@ -122,40 +138,40 @@ twice : (t : Bool) (k p q : List Message) → choose t (choose t (k ++ p) k ++ q
 twice true k p q = append-assoc k p q
 twice false k p q = refl
 
-module _ (r : Run) (s : Sound (r .waits)) (a b : ℕ) (m : Message) (rest : List Message) (l : r .link a b ≡ m ∷ rest) where
-  off-link : (u v : ℕ) → off r a b .link u v ≡ taken r a b rest u v
-  unfolding putLink taken
-  off-link u v = rw l
-
-  changed-link : (x : Process) (u v : ℕ) → changed r a b x .link u v ≡ taken r a b rest u v
+module _ (r : Run) (s : Sound (r .waits)) (a b k : ℕ) (m : Message) (rest : List Message) (l : atPlace k (r .link a b) ≡ cut m rest) where
+  changed-link : (x : Process) (u v : ℕ) → changed r a b k x .link u v ≡ taken r a b rest u v
   unfolding putProcess
-  changed-link x u v = off-link u v
+  changed-link x u v = off-link r a b k l u v
 
   -- what a step leaves of the run without the message
-  carried-relinked : (x : Process) (y : Probes) (z : Reply) → Relinked (changed r a b x) (spreadBy y (answered (changed r a b x) b z) b)
+  carried-relinked : (x : Process) (y : Probes) (z : Reply) → Relinked (changed r a b k x) (spreadBy y (answered (changed r a b k x) b z) b)
   carried-relinked x y z =
-      let g = answered-relinked (changed r a b x) b z in
-      let h = spreadBy-relinked y (answered (changed r a b x) b z) b in
+      let g = answered-relinked (changed r a b k x) b z in
+      let h = spreadBy-relinked y (answered (changed r a b k x) b z) b in
       record { waits = h .waits ∙ g .waits; start = h .start ∙ g .start; count = h .count ∙ g .count; process = λ p. h .process p ∙ g .process p }
 
   carried-link : (x : Process) (y : Probes) (z : Reply) (u v : ℕ)
-      → spreadBy y (answered (changed r a b x) b z) b .link u v
+      → spreadBy y (answered (changed r a b k x) b z) b .link u v
       ≡ choose (eqb u b) (taken r a b rest u v ++ (replyTo z v ++ probesTo (r .waits) b y v)) (taken r a b rest u v)
   unfolding putProcess putLink
   carried-link x y z u v =
-      let w : answered (changed r a b x) b z .waits ≡ r .waits = answered-relinked (changed r a b x) b z .waits in
-      spreadBy-link y (answered (changed r a b x) b z) (rw w s) b u v
-      ∙ rw (w, answered-link (changed r a b x) b z u v, changed-link x u v) (twice (eqb u b) (taken r a b rest u v) (replyTo z v) (probesTo (r .waits) b y v))
+      let w : answered (changed r a b k x) b z .waits ≡ r .waits = answered-relinked (changed r a b k x) b z .waits in
+      spreadBy-link y (answered (changed r a b k x) b z) (rw w s) b u v
+      ∙ rw (w, answered-link (changed r a b k x) b z u v, changed-link x u v)
+      (twice (eqb u b) (taken r a b rest u v) (replyTo z v) (probesTo (r .waits) b y v))
 
-  pub carriedOut-is : carriedOut r a b (turnAt r a b m .process) (turnAt r a b m .probes) (turnAt r a b m .reply) ≡ after r a b m rest
+  pub carriedOut-is : carriedOut r a b k (turnAt r a b m .process) (turnAt r a b m .probes) (turnAt r a b m .reply) ≡ after r a b m rest
   unfolding Machines.after sentTo carriedOut putCount putProcess putLink
   carriedOut-is =
       let x : Process = turnAt r a b m .process in
       let y : Probes = turnAt r a b m .probes in
       let z : Reply = turnAt r a b m .reply in
       let g = carried-relinked x y z in
-      run-same (carriedOut r a b x y z) (after r a b m rest) (g .waits) (g .start) (ap (λ (k : ℕ). k + 1) (g .count)) (g .process) (carried-link x y z)
+      run-same (carriedOut r a b k x y z) (after r a b m rest) (g .waits) (g .start) (ap (λ (c : ℕ). c + 1) (g .count)) (g .process) (carried-link x y z)
 
-  pub loadAfter-is : (q : ℕ) → length (after r a b m rest .link b q) ≡ loadAfter r a b (turnAt r a b m .probes) (turnAt r a b m .reply) q
-  unfolding Machines.after sentTo
-  loadAfter-is q = rw (eq-eqb b b refl, length-append, length-append, ← off-link b q, off-length r a b q) (omega arith)
+-- what is counted without making the delivery
+pub loadAfter-is :
+    (r : Run) (a b : ℕ) (m : Message) (rest : List Message) → Among m rest (r .link a b) → (q : ℕ) →
+    length (after r a b m rest .link b q) ≡ loadAfter r a b (turnAt r a b m .probes) (turnAt r a b m .reply) q
+unfolding Machines.after sentTo
+loadAfter-is r a b m rest l q = rw (eq-eqb b b refl, length-append, length-append, taken-length r a b l q) (omega arith)

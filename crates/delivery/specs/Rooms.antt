@@ -1,6 +1,6 @@
 -- Room on the receiver's links, counted without making the delivery.
---   loadAfter r a b y z q   == how many messages wait on the link from b to q after the delivery of the oldest message from a to b, whose step
---                              broadcasts y and acknowledges z
+--   loadAfter r a b y z q   == how many messages wait on the link from b to q after the delivery of a message from a to b, whose step broadcasts
+--                              y and acknowledges z
 --   roomTo r a b y z q      == that link would not hold a fifth message
 --   roomy r a b y z         == no link from b would
 -- Assumes nothing.

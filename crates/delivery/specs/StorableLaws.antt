@@ -5,8 +5,8 @@
 -- Assumes nothing.
 use Prim.Native.Nat.{ℕ}
 use mathlib.Core.Bool.{true, false, false≢true}
-use mathlib.Core.List.{List, _∷_}
-use mathlib.Core.Path.{_≡_, refl}
+use mathlib.Core.List.{List}
+use mathlib.Core.Path.{_≡_}
 use Rattle.base.specs.ChoiceLaws.{tested}
 use Rattle.base.specs.Checks.{Tested, passed, failed}
 use Rattle.tables.specs.Table.{Fields}
@@ -14,6 +14,8 @@ use Rattle.tables.specs.Waits.{neighbours}
 use Rattle.machine.specs.Machine as Machines
 use Rattle.machine.specs.Calls.{Selection, waiting, lowest}
 use Rattle.machine.specs.ChooserLaws.{fixedOrder-finds}
+use Rattle.machine.specs.Among.{Among}
+use Rattle.machine.specs.AmongLaws.{among-waiting}
 use Rattle.machine.specs.FormedLaws.{wellFormed-P}
 use Rattle.machine.specs.Made.{Made}
 use Rattle.machine.specs.MadeLaws.{made-keeps, deliverOn-made, pick-made, runOn-made}
@@ -36,11 +38,11 @@ module _ (t : Fields) where
       at (failed n) = absurd (false≢true (rw (contained-joined t r h a b n) at e))
 
   storable-after :
-      (r : Run) → Storable t r → (a b : ℕ) (m : Message) (rest : List Message) → r .link a b ≡ m ∷ rest → accepts r a b m rest ≡ true →
+      (r : Run) → Storable t r → (a b : ℕ) (m : Message) (rest : List Message) → Among m rest (r .link a b) → accepts r a b m rest ≡ true →
       Storable t (after r a b m rest)
   unfolding Machines.after
   storable-after r f a b m rest l e =
-      let j : neighbours (r .waits) a b ≡ true = waiting-joined r (f .held) a b (rw l refl) in
+      let j : neighbours (r .waits) a b ≡ true = waiting-joined r (f .held) a b (among-waiting l) in
       let h = wellFormed-P knot r .0 (f .formed) in
       record {
         held = contained-after t r (f .held) h (f .sound) a b j m rest l e;
@@ -51,8 +53,8 @@ module _ (t : Fields) where
   storable-made : (r : Run) → Storable t r → {k : ℕ} {q : Run} → Made knot r k q → Storable t q
   storable-made r f d = made-keeps (Storable t) (λ q g a b _ _ m rest l e. storable-after q g a b m rest l e) f d
 
-  pub storable-pick : (r : Run) → Storable t r → (a b : ℕ) → Storable t (pick r a b .run)
-  storable-pick r f a b = storable-made r f (pick-made knot r (f .sound) a b)
+  pub storable-pick : (r : Run) → Storable t r → (a b k : ℕ) → Storable t (pick r a b k .run)
+  storable-pick r f a b k = storable-made r f (pick-made knot r (f .sound) a b k)
 
   -- one delivery in the fixed order
   pub storable-on : (r : Run) → Storable t r → (c : Selection) → lowest r ≡ c → Storable t (deliverOn r c .run)

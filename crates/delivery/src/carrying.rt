@@ -44,15 +44,16 @@ pub fn carry_out(
     m: usize,
     a: usize,
     b: usize,
+    place: usize,
     process: Process,
     probes: Probes,
     reply: Reply,
 )
     requires { ⌜ Ready (now area) (now square) n m ⌝ }
-    requires { ⌜ Carried (runIn (now area)) a b process probes reply ⌝ }
-    ensures { λ _. ⌜ now (area .exit) ≡ keeping (now (area .entry)) (carriedOut (runIn (now (area .entry))) a b process probes reply) ⌝ }
+    requires { ⌜ Carried (runIn (now area)) a b place process probes reply ⌝ }
+    ensures { λ _. ⌜ now (area .exit) ≡ keeping (now (area .entry)) (carriedOut (runIn (now (area .entry))) a b place process probes reply) ⌝ }
 {
-    links::take(area, square, n, m, a, b);
+    links::take(area, square, n, m, a, b, place);
     records::put_process(area, square, n, m, b, process);
     sending::acknowledge(area, square, n, m, b, reply);
     send(area, square, n, m, b, probes);

@@ -2,10 +2,10 @@
 use crate::carrying;
 use crate::rooms;
 use crate::stepping;
-use areas::squares;
-use areas::words;
 use checks::Delivery;
 use lenses::heading;
+use lenses::links;
+use lenses::links::AtPlace;
 use lenses::records;
 use steps::Message;
 use steps::Probes;
@@ -16,11 +16,11 @@ ghost use mathlib.Core.Path.{_≡_};
 ghost use mathlib.Core.Bool.{true};
 ghost use Prim.Native.Nat.{_≤_, _-_};
 ghost use Rattle.tables.specs.Waits.{neighbours};
+ghost use Rattle.steps.specs.Step.{countSmall};
 ghost use Rattle.areas.specs.Area.{runIn, keeping};
 ghost use Rattle.lenses.specs.Ready.{Ready};
-ghost use Rattle.delivery.specs.Delivering.{probesOf, grownBy, preparedOf};
+ghost use Rattle.delivery.specs.Delivering.{probesOf, grownBy, PreparedFor, preparedOf, deliverAt};
 ghost use Rattle.tables.specs.declared.Chain.{Chain};
-ghost use Rattle.checks.specs.Calls.{deliver};
 
 // A delivery before anything is changed: the message, what the receiver's step leaves and sends, and how many probes it broadcasts; or the
 // number of the refusal.
@@ -47,27 +47,22 @@ fn probes_sent(before: Process, after: Process, probes: Probes) -> u32
     }
 }
 
-// The delivery of the oldest message on the link from a to b, which are neighbours, before anything is changed: 24 if nothing waits there,
-// then 22, and else what the receiver's step leaves and sends.
-pub fn prepare(
+// The delivery of a message from a to b, which are neighbours, before anything is changed: 22, or what the receiver's step leaves and sends.
+fn prepare_message(
     area: &[i32],
     square: &[u16; tables::SQUARE_SIZE],
     n: usize,
     m: usize,
     a: usize,
     b: usize,
+    message: Message,
 ) -> Prepared
     requires { ⌜ Ready (now area) (now square) n m ⌝ }
     requires { ⌜ neighbours (runIn (now area) .waits) a b ≡ true ⌝ }
     requires { ⌜ (a ≤ n) × (b ≤ n) ⌝ }
-    ensures { λ r. ⌜ r ≡ preparedOf (runIn (now (area .entry))) a b (runIn (now (area .entry)) .link a b) ⌝ }
+    requires { ⌜ countSmall message ≡ true ⌝ }
+    ensures { λ r. ⌜ PreparedFor (now (area .entry)) a b message r ⌝ }
 {
-    let i = squares::place(square, n, m, a, b);
-    let word = area[i];
-    if word == 0 {
-        return Prepared::Refused(24);
-    }
-    let message = words::message_of(word);
     let Stepped::Taken {
         process,
         probes,
@@ -93,7 +88,30 @@ pub fn prepare(
     }
 }
 
-// Delivers the oldest message on the link from a to b, which are neighbours: 24 if nothing waits there, then 22.
+// The delivery of the message at a place of the link from a to b, which are neighbours, before anything is changed: 24 if nothing waits
+// there, then 31 if no message is at that place, then 22, and else what the receiver's step leaves and sends.
+pub fn prepare(
+    area: &[i32],
+    square: &[u16; tables::SQUARE_SIZE],
+    n: usize,
+    m: usize,
+    a: usize,
+    b: usize,
+    place: usize,
+) -> Prepared
+    requires { ⌜ Ready (now area) (now square) n m ⌝ }
+    requires { ⌜ neighbours (runIn (now area) .waits) a b ≡ true ⌝ }
+    requires { ⌜ (a ≤ n) × (b ≤ n) ⌝ }
+    ensures { λ r. ⌜ r ≡ preparedOf (runIn (now (area .entry))) a b place (runIn (now (area .entry)) .link a b) ⌝ }
+{
+    match links::at_place(area, square, n, m, a, b, place) {
+        AtPlace::Nothing => Prepared::Refused(24),
+        AtPlace::Beyond => Prepared::Refused(31),
+        AtPlace::Message(message) => prepare_message(area, square, n, m, a, b, message),
+    }
+}
+
+// Delivers the message at a place of the link from a to b, which are neighbours: 24 if nothing waits there, then 31, 22.
 pub fn deliver(
     area: &mut [i32],
     square: &[u16; tables::SQUARE_SIZE],
@@ -101,14 +119,15 @@ pub fn deliver(
     m: usize,
     a: usize,
     b: usize,
+    place: usize,
 ) -> Delivery
     requires { ⌜ Ready (now area) (now square) n m ⌝ }
     requires { ⌜ neighbours (runIn (now area) .waits) a b ≡ true ⌝ }
     requires { ⌜ (a ≤ n) × (b ≤ n) ⌝ }
-    ensures { λ r. ⌜ r ≡ deliver (runIn (now (area .entry))) a b (runIn (now (area .entry)) .link a b) .answer ⌝ }
-    ensures { λ _. ⌜ now (area .exit) ≡ keeping (now (area .entry)) (deliver (runIn (now (area .entry))) a b (runIn (now (area .entry)) .link a b) .run) ⌝ }
+    ensures { λ r. ⌜ r ≡ deliverAt (runIn (now (area .entry))) a b place .answer ⌝ }
+    ensures { λ _. ⌜ now (area .exit) ≡ keeping (now (area .entry)) (deliverAt (runIn (now (area .entry))) a b place .run) ⌝ }
 {
-    match prepare(area, square, n, m, a, b) {
+    match prepare(area, square, n, m, a, b, place) {
         Prepared::Refused(number) => Delivery::Refused(number),
         Prepared::Go {
             message,
@@ -117,7 +136,7 @@ pub fn deliver(
             reply,
             sent: _,
         } => {
-            carrying::carry_out(area, square, n, m, a, b, process, probes, reply);
+            carrying::carry_out(area, square, n, m, a, b, place, process, probes, reply);
             Delivery::Delivered(message)
         }
     }

@@ -44,7 +44,7 @@ fn is_for(reply: Reply, q: usize) -> bool
     }
 }
 
-// What stays of the l messages from b to q once the oldest message from a to b is off.
+// What stays of the l messages from b to q once a message from a to b is off.
 fn left_of(l: usize, a: usize, b: usize, q: usize) -> usize
     ensures { λ r. ⌜ r ≡ l - bit (eqb b a && eqb q b) ⌝ }
 {

@@ -9,12 +9,13 @@
 use Prim.Native.Nat.{ℕ, _≤_}
 use mathlib.Core.Bool.{Bool, true, false, not, _&&_, false≢true}
 use mathlib.Core.List.{List, [], _∷_, _++_}
-use mathlib.Core.Path.{_≡_, refl, sym, _∙_, subst}
+use mathlib.Core.Path.{_≡_, refl, sym, ap, _∙_, subst}
 use mathlib.Core.Logic.{⊎-elim}
 use native.Mathlib.Omega.{arith}
 use borrow.Author.Tests.{eqb-true, le-leb, eq-eqb}
 use lib.Dec.{eqb}
 use lib.IntN.{ℤ}
+use lib.ListN.{length}
 use Rattle.base.specs.Choice.{choose, bit}
 use Rattle.base.specs.ChoiceLaws.{and-both, and-left, or-left, or-right, same?, tested}
 use Rattle.base.specs.Checks.{Same, same, apart, Tested, passed, failed}
@@ -24,6 +25,7 @@ use Rattle.tables.specs.Table.{IsProcess, isProcess}
 use Rattle.machine.specs.Machine as Machines
 use Rattle.machine.specs.Moved.{Moved}
 use Rattle.machine.specs.MovedLaws.{after-moved}
+use Rattle.machine.specs.Among.{Among}
 use Rattle.machine.specs.Formed.{Formed}
 use Rattle.machine.specs.FormedLaws.{wellFormed-P, accepts-P, allRight-tail}
 use Rattle.machine.specs.Made.{Answered, none-refused, no-link, not-over}
@@ -71,7 +73,7 @@ holds-start w s sd p =
 -- ---- a delivery
 
 module _ (r : Run) (h : Holds r) (a b : ℕ) (pa : IsProcess (r .waits .n) a) (pb : IsProcess (r .waits .n) b) (m : Message) (rest : List Message)
-    (l : r .link a b ≡ m ∷ rest) where
+    (l : Among m rest (r .link a b)) where
   moved : Moved (r .waits) r a b m (leaving (r .waits) b (turnAt r a b m)) (after r a b m rest)
   moved = after-moved knot r a b m rest l
 
@@ -143,7 +145,7 @@ module _ (r : Run) (h : Holds r) where
   apart-empty : (a b : ℕ) → IsProcess (r .waits .n) a → IsProcess (r .waits .n) b → neighbours (r .waits) a b ≡ false → (ms : List Message)
       → r .link a b ≡ ms → ms ≡ []
   apart-empty a b pa pb n [] l = refl
-  apart-empty a b pa pb n (m ∷ ms) l = absurd (false≢true (sym n ∙ link-neighbours (h .diffusing) (quota-near (r .waits)) pa pb l))
+  apart-empty a b pa pb n (m ∷ ms) l = absurd (false≢true (sym n ∙ link-neighbours (h .diffusing) (quota-near (r .waits)) pa pb (omega (arith, ap length l))))
 
   parts : Formed knot r
   parts =
@@ -172,7 +174,7 @@ reply-small before after p c k = at (same? p p)
     at (same _ e) = and-left (small c) (countsSmall after) (rw e at (allRight-tail countSmall before (replyTo (To p c) p ++ after) k))
 
 module _ (r : Run) (h : Holds r) (a b : ℕ) (pa : IsProcess (r .waits .n) a) (pb : IsProcess (r .waits .n) b) (m : Message) (rest : List Message)
-    (l : r .link a b ≡ m ∷ rest) where
+    (l : Among m rest (r .link a b)) where
   next : Holds (after r a b m rest)
   next = holds-after r h a b pa pb m rest l
 

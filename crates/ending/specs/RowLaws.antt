@@ -22,7 +22,7 @@ use Rattle.machine.specs.declared.Ran.{Ran}
 use Rattle.machine.specs.declared.Ran.the-variants.{Spent}
 use Rattle.machine.specs.Machine.{allRight}
 use Rattle.machine.specs.Machine as Machines
-use Rattle.machine.specs.Calls.{delivered, deliver, lowestReceiver, lowestSender, lowest, deliverOn, runFrom}
+use Rattle.machine.specs.Calls.{behind, atPlace, delivered, deliver, lowestReceiver, lowestSender, lowest, deliverOn, runFrom}
 use Rattle.machine.specs.Calls as MachineCalls
 use Rattle.steps.specs.Step.{small, inRange, countSmall, rule1, setSucceeding, setPreceding, newSubordinate, gained, rule3, rule4, acknowledged, turn}
 use Rattle.steps.specs.Step.{startTurn, numSuffices, replyFits, fitting}
@@ -43,7 +43,7 @@ use Rattle.ending.specs.RowTests.{agree, isKnot, isAt, defined, overAfte
 rows-hold : all holds rows ≡ true
 unfolding all rows holds waitsFrom givenWaits given end writable writeNumber endsFit isProcess unlike agree isKnot isAt defined overAfter reports runs
     dOf inKnot outsiders lowestOutsider outsider reaches within sumTo countTo allTo anyTo lowestTo outDegree inDegree neighbours
-    MachineCalls.runOn runFrom deliverOn lowest lowestSender lowestReceiver deliver delivered report reported escapeOf
+    MachineCalls.runOn runFrom deliverOn lowest lowestSender lowestReceiver behind atPlace deliver delivered report reported escapeOf
     Machines.over Machines.wellFormed fatherRight Machines.linkRight allRight Machines.startRun started Machines.after Machines.accepts Machines.taken
     sentTo probesTo replyTo turnOf turn startTurn rule1 setSucceeding setPreceding newSubordinate gained rule3 rule4
     acknowledged fitting numSuffices replyFits inRange small countSmall

@@ -59,7 +59,7 @@ use Rattle.pickledune.specs.Values.{deliveryKind, deliveryCount, ranOver, repor
 use Rattle.pickledune.specs.Values.{readingProcess, steppedNumber, steppedProbes, steppedReply}
 use Rattle.pickledune.specs.Interface.{chainOf, messageOf, processOf, probesNumber, replyTo, replyCount}
 use Rattle.examples.specs.States.{minus, lowFirst, table, one, both, fork, met1, met2, met3, met4, met5, met6, met7, input, words, root, two}
-use Rattle.examples.specs.States.{receiving, unlinked, area, answers}
+use Rattle.examples.specs.States.{receiving, three, unlinked, area, answers}
 use Rattle.examples.specs.Computing.{computing}
 
 -- ==== Refused because of the input
@@ -283,45 +283,66 @@ program-sizes = (refl, refl, refl, refl, refl, refl, refl, refl, refl, refl, ref
 
 -- ==== Refused because of the state
 
--- ---- "A pick checks 21, 25, 23, 24, 22": a run whose start has cs 129 and num 0 (it is over) and in which nothing waits, repaired from line to
--- line; then the same with an acknowledgement that waits for 2, whose num is 0
+-- ---- "A pick checks 21, 25, 23, 24, 22", and 31 after 24 (02, N5): a run whose start has cs 129 and num 0 (it is over) and in which nothing
+-- waits, picked at place 0 and repaired from line to line; then the same with an acknowledgement that waits for 2, whose num is 0, picked at place 2
 
 pick-in-order :
-    (pick (two 1 0 (root (pos 129) 0) idle [] []) 2 2 .answer ≡ Delivery.Refused 21) ×  -- run area not well formed
-    (pick (two 1 0 (root (pos 128) 0) idle [] []) 2 2 .answer ≡ Delivery.Refused 25) ×  -- the pick names no link
-    (pick (two 1 0 (root (pos 128) 0) idle [] []) 2 1 .answer ≡ Delivery.Refused 23) ×  -- the run is over
-    (pick (two 1 0 (root (pos 128) 1) idle [] []) 2 1 .answer ≡ Delivery.Refused 24) ×  -- nothing waits on that link
-    (pick (two 1 0 (root (pos 129) 0) idle (Ack (pos 0) ∷ []) []) 1 2 .answer ≡ Delivery.Refused 21) ×
-    (pick (two 1 0 (root (pos 128) 0) idle (Ack (pos 0) ∷ []) []) 1 2 .answer ≡ Delivery.Refused 23) ×
-    (pick (two 1 0 (root (pos 128) 1) idle (Ack (pos 0) ∷ []) []) 1 2 .answer ≡ Delivery.Refused 22) ×  -- the step would take num out of its range
-    (pick (two 1 0 (root (pos 128) 1) idle (Suc ∷ []) []) 1 2 .answer ≡ Delivered Suc)
+    (pick (two 1 0 (root (pos 129) 0) idle [] []) 2 2 0 .answer ≡ Delivery.Refused 21) ×  -- run area not well formed
+    (pick (two 1 0 (root (pos 128) 0) idle [] []) 2 2 0 .answer ≡ Delivery.Refused 25) ×  -- the pick names no link
+    (pick (two 1 0 (root (pos 128) 0) idle [] []) 2 1 0 .answer ≡ Delivery.Refused 23) ×  -- the run is over
+    (pick (two 1 0 (root (pos 128) 1) idle [] []) 2 1 0 .answer ≡ Delivery.Refused 24) ×  -- nothing waits on that link
+    (pick (two 1 0 (root (pos 129) 0) idle (Ack (pos 0) ∷ []) []) 1 2 2 .answer ≡ Delivery.Refused 21) ×
+    (pick (two 1 0 (root (pos 128) 0) idle (Ack (pos 0) ∷ []) []) 1 2 2 .answer ≡ Delivery.Refused 23) ×
+    (pick (two 1 0 (root (pos 128) 1) idle (Ack (pos 0) ∷ []) []) 1 2 2 .answer ≡ Delivery.Refused 31) ×  -- a place beyond the messages waiting
+    (pick (two 1 0 (root (pos 128) 1) idle (Ack (pos 0) ∷ []) []) 1 2 1 .answer ≡ Delivery.Refused 22) ×  -- the step would take num out of its range
+    (pick (two 1 0 (root (pos 128) 1) idle (Suc ∷ []) []) 1 2 1 .answer ≡ Delivered Suc)
 unfolding computing
-pick-in-order = (refl, refl, refl, refl, refl, refl, refl, refl)
+pick-in-order = (refl, refl, refl, refl, refl, refl, refl, refl, refl)
+
+-- 02, N5: "a place, 1 for the oldest message, and that message is taken out of the middle"; 31 for "a place that is 0 or beyond the messages waiting"
+pick-places :
+    (pick three 1 2 0 .answer ≡ Delivery.Refused 31) ×
+    (pick three 1 2 1 .answer ≡ Delivered Suc) ×
+    (pick three 1 2 2 .answer ≡ Delivered Pre) ×
+    (pick three 1 2 3 .answer ≡ Delivered (Ack (pos 5))) ×
+    (pick three 1 2 4 .answer ≡ Delivery.Refused 31) ×
+    (pick three 1 2 5 .answer ≡ Delivery.Refused 31) ×
+    (pick three 1 2 1 .run .link 1 2 ≡ Pre ∷ Ack (pos 5) ∷ []) ×
+    (pick three 1 2 2 .run .link 1 2 ≡ Suc ∷ Ack (pos 5) ∷ []) ×
+    (pick three 1 2 3 .run .link 1 2 ≡ Suc ∷ Pre ∷ []) ×
+    (pick three 1 2 2 .run .link 2 1 ≡ Ack (pos 0) ∷ []) ×
+    (pick three 1 2 0 .run ≡ three) ×
+    (pick three 1 2 4 .run ≡ three)
+unfolding computing
+pick-places = (refl, refl, refl, refl, refl, refl, refl, refl, refl, refl, refl, refl)
 
 -- the same in words; a refusal "changes no lent byte or word"
 pick-in-words :
-    (pickAnswer [] 2 2 ≡ Delivery.Refused 21) ×
-    (pickAnswer (area (two 1 0 (root (pos 129) 0) idle [] [])) 2 2 ≡ Delivery.Refused 21) ×
-    (pickAnswer (area (two 1 0 (root (pos 128) 0) idle [] [])) 2 2 ≡ Delivery.Refused 25) ×
-    (pickAnswer (area (two 1 0 (root (pos 128) 0) idle [] [])) 2 1 ≡ Delivery.Refused 23) ×
-    (pickAnswer (area (two 1 0 (root (pos 128) 1) idle [] [])) 2 1 ≡ Delivery.Refused 24) ×
-    (pickAnswer (area (two 1 0 (root (pos 129) 0) idle (Ack (pos 0) ∷ []) [])) 1 2 ≡ Delivery.Refused 21) ×
-    (pickAnswer (area (two 1 0 (root (pos 128) 0) idle (Ack (pos 0) ∷ []) [])) 1 2 ≡ Delivery.Refused 23) ×
-    (pickAnswer (area (two 1 0 (root (pos 128) 1) idle (Ack (pos 0) ∷ []) [])) 1 2 ≡ Delivery.Refused 22) ×
-    (pickAnswer (area (two 1 0 (root (pos 128) 1) idle (Suc ∷ []) [])) 1 2 ≡ Delivered Suc) ×
-    (pickArea (area (two 1 0 (root (pos 129) 0) idle [] [])) 2 2 ≡ area (two 1 0 (root (pos 129) 0) idle [] [])) ×
-    (pickArea (area (receiving idle (Ack (pos 0)))) 1 2 ≡ area (receiving idle (Ack (pos 0)))) ×
-    (pickArea (area (receiving idle Suc)) 1 2 ≡ area (two 1 1 (root (pos 0) 1) (processOf 1 0 1 (pos 0) 0 1) [] (Ack (pos 1) ∷ [])))
+    (pickAnswer [] 2 2 0 ≡ Delivery.Refused 21) ×
+    (pickAnswer (area (two 1 0 (root (pos 129) 0) idle [] [])) 2 2 0 ≡ Delivery.Refused 21) ×
+    (pickAnswer (area (two 1 0 (root (pos 128) 0) idle [] [])) 2 2 0 ≡ Delivery.Refused 25) ×
+    (pickAnswer (area (two 1 0 (root (pos 128) 0) idle [] [])) 2 1 0 ≡ Delivery.Refused 23) ×
+    (pickAnswer (area (two 1 0 (root (pos 128) 1) idle [] [])) 2 1 0 ≡ Delivery.Refused 24) ×
+    (pickAnswer (area (two 1 0 (root (pos 129) 0) idle (Ack (pos 0) ∷ []) [])) 1 2 2 ≡ Delivery.Refused 21) ×
+    (pickAnswer (area (two 1 0 (root (pos 128) 0) idle (Ack (pos 0) ∷ []) [])) 1 2 2 ≡ Delivery.Refused 23) ×
+    (pickAnswer (area (two 1 0 (root (pos 128) 1) idle (Ack (pos 0) ∷ []) [])) 1 2 2 ≡ Delivery.Refused 31) ×
+    (pickAnswer (area (two 1 0 (root (pos 128) 1) idle (Ack (pos 0) ∷ []) [])) 1 2 1 ≡ Delivery.Refused 22) ×
+    (pickAnswer (area (two 1 0 (root (pos 128) 1) idle (Suc ∷ []) [])) 1 2 1 ≡ Delivered Suc) ×
+    (pickArea (area (two 1 0 (root (pos 129) 0) idle [] [])) 2 2 1 ≡ area (two 1 0 (root (pos 129) 0) idle [] [])) ×
+    (pickArea (area (receiving idle (Ack (pos 0)))) 1 2 1 ≡ area (receiving idle (Ack (pos 0)))) ×
+    (pickArea (area (receiving idle Suc)) 1 2 1 ≡ area (two 1 1 (root (pos 0) 1) (processOf 1 0 1 (pos 0) 0 1) [] (Ack (pos 1) ∷ []))) ×
+    (pickArea (area three) 1 2 4 ≡ area three) ×
+    (pickArea (area three) 1 2 2 ≡ area (two 1 1 (root (pos 0) 3) (processOf 1 1 0 (pos 0) 2 1) (Suc ∷ Ack (pos 5) ∷ []) (Ack (pos 0) ∷ [])))
 unfolding computing
-pick-in-words = (refl, refl, refl, refl, refl, refl, refl, refl, refl, refl, refl, refl)
+pick-in-words = (refl, refl, refl, refl, refl, refl, refl, refl, refl, refl, refl, refl, refl, refl, refl)
 
 -- 25 "the pick names no link": "Two processes are neighbours if an arc joins them either way; a process with a loop is its own neighbour"
 links :
-    (pick (receiving idle Suc) 1 1 .answer ≡ Delivery.Refused 25) ×
-    (pick (receiving idle Suc) 0 1 .answer ≡ Delivery.Refused 25) ×
-    (pick (receiving idle Suc) 1 3 .answer ≡ Delivery.Refused 25) ×
-    (pick (receiving idle Suc) 2 1 .answer ≡ Delivery.Refused 24) ×
-    (pick (startRun (waitsOf (fieldOf (table 1 1 ((1, 1) ∷ []) ((1, 1, 0, 0) ∷ [])))) 1) 1 1 .answer ≡ Delivered Suc)
+    (pick (receiving idle Suc) 1 1 1 .answer ≡ Delivery.Refused 25) ×
+    (pick (receiving idle Suc) 0 1 1 .answer ≡ Delivery.Refused 25) ×
+    (pick (receiving idle Suc) 1 3 1 .answer ≡ Delivery.Refused 25) ×
+    (pick (receiving idle Suc) 2 1 1 .answer ≡ Delivery.Refused 24) ×
+    (pick (startRun (waitsOf (fieldOf (table 1 1 ((1, 1) ∷ []) ((1, 1, 0, 0) ∷ [])))) 1) 1 1 1 .answer ≡ Delivered Suc)
 unfolding computing
 links = (refl, refl, refl, refl, refl)
 
@@ -329,33 +350,33 @@ links = (refl, refl, refl, refl, refl)
 -- first value out
 picks-refused-by-22 :
     -- num 0 loses 1
-    (pick (receiving (processOf 0 0 0 (pos 0) 1 1) (Ack (pos 0))) 1 2 .answer ≡ Delivered (Ack (pos 0))) ×
-    (pick (receiving (processOf 0 0 0 (pos 0) 0 1) (Ack (pos 0))) 1 2 .answer ≡ Delivery.Refused 22) ×
+    (pick (receiving (processOf 0 0 0 (pos 0) 1 1) (Ack (pos 0))) 1 2 1 .answer ≡ Delivered (Ack (pos 0))) ×
+    (pick (receiving (processOf 0 0 0 (pos 0) 0 1) (Ack (pos 0))) 1 2 1 .answer ≡ Delivery.Refused 22) ×
     -- num 256 and 257
-    (pick (receiving (processOf 0 0 0 (pos 0) 255 1) Pre) 1 2 .answer ≡ Delivered Pre) ×
-    (pick (receiving (processOf 0 0 0 (pos 0) 256 1) Pre) 1 2 .answer ≡ Delivery.Refused 22) ×
+    (pick (receiving (processOf 0 0 0 (pos 0) 255 1) Pre) 1 2 1 .answer ≡ Delivered Pre) ×
+    (pick (receiving (processOf 0 0 0 (pos 0) 256 1) Pre) 1 2 1 .answer ≡ Delivery.Refused 22) ×
     -- cs 128 and 129, −128 and −129
-    (pick (receiving (processOf 0 0 0 (pos 127) 2 1) (Ack (pos 1))) 1 2 .answer ≡ Delivered (Ack (pos 1))) ×
-    (pick (receiving (processOf 0 0 0 (pos 128) 2 1) (Ack (pos 1))) 1 2 .answer ≡ Delivery.Refused 22) ×
-    (pick (receiving (processOf 0 0 0 (minus 127) 2 1) (Ack (minus 1))) 1 2 .answer ≡ Delivered (Ack (minus 1))) ×
-    (pick (receiving (processOf 0 0 0 (minus 128) 2 1) (Ack (minus 1))) 1 2 .answer ≡ Delivery.Refused 22) ×
+    (pick (receiving (processOf 0 0 0 (pos 127) 2 1) (Ack (pos 1))) 1 2 1 .answer ≡ Delivered (Ack (pos 1))) ×
+    (pick (receiving (processOf 0 0 0 (pos 128) 2 1) (Ack (pos 1))) 1 2 1 .answer ≡ Delivery.Refused 22) ×
+    (pick (receiving (processOf 0 0 0 (minus 127) 2 1) (Ack (minus 1))) 1 2 1 .answer ≡ Delivered (Ack (minus 1))) ×
+    (pick (receiving (processOf 0 0 0 (minus 128) 2 1) (Ack (minus 1))) 1 2 1 .answer ≡ Delivery.Refused 22) ×
     -- the same where num becomes 0, so that it is the count sent
-    (pick (receiving (processOf 0 0 0 (pos 127) 1 1) (Ack (pos 1))) 1 2 .answer ≡ Delivered (Ack (pos 1))) ×
-    (pick (receiving (processOf 0 0 0 (pos 128) 1 1) (Ack (pos 1))) 1 2 .answer ≡ Delivery.Refused 22) ×
-    (pick (receiving (processOf 0 0 0 (minus 127) 1 1) (Ack (minus 1))) 1 2 .answer ≡ Delivered (Ack (minus 1))) ×
-    (pick (receiving (processOf 0 0 0 (minus 128) 1 1) (Ack (minus 1))) 1 2 .answer ≡ Delivery.Refused 22) ×
+    (pick (receiving (processOf 0 0 0 (pos 127) 1 1) (Ack (pos 1))) 1 2 1 .answer ≡ Delivered (Ack (pos 1))) ×
+    (pick (receiving (processOf 0 0 0 (pos 128) 1 1) (Ack (pos 1))) 1 2 1 .answer ≡ Delivery.Refused 22) ×
+    (pick (receiving (processOf 0 0 0 (minus 127) 1 1) (Ack (minus 1))) 1 2 1 .answer ≡ Delivered (Ack (minus 1))) ×
+    (pick (receiving (processOf 0 0 0 (minus 128) 1 1) (Ack (minus 1))) 1 2 1 .answer ≡ Delivery.Refused 22) ×
     -- the start's cs
-    (pick (two 1 0 (root (pos 127) 2) idle [] (Ack (pos 1) ∷ [])) 2 1 .answer ≡ Delivered (Ack (pos 1))) ×
-    (pick (two 1 0 (root (pos 128) 2) idle [] (Ack (pos 1) ∷ [])) 2 1 .answer ≡ Delivery.Refused 22) ×
+    (pick (two 1 0 (root (pos 127) 2) idle [] (Ack (pos 1) ∷ [])) 2 1 1 .answer ≡ Delivered (Ack (pos 1))) ×
+    (pick (two 1 0 (root (pos 128) 2) idle [] (Ack (pos 1) ∷ [])) 2 1 1 .answer ≡ Delivery.Refused 22) ×
     -- a fourth and a fifth message on the link from 2 to 1
-    (pick (two 1 0 (root (pos 0) 1) (processOf 1 0 1 (pos 0) 1 1) (Suc ∷ []) (replicate 3 Suc)) 1 2 .answer ≡ Delivered Suc) ×
-    (pick (two 1 0 (root (pos 0) 1) (processOf 1 0 1 (pos 0) 1 1) (Suc ∷ []) (replicate 4 Suc)) 1 2 .answer ≡ Delivery.Refused 22) ×
+    (pick (two 1 0 (root (pos 0) 1) (processOf 1 0 1 (pos 0) 1 1) (Suc ∷ []) (replicate 3 Suc)) 1 2 1 .answer ≡ Delivered Suc) ×
+    (pick (two 1 0 (root (pos 0) 1) (processOf 1 0 1 (pos 0) 1 1) (Suc ∷ []) (replicate 4 Suc)) 1 2 1 .answer ≡ Delivery.Refused 22) ×
     -- father 1 and father 0
-    (pick (receiving (processOf 1 0 1 (pos 0) 1 1) (Ack (pos 0))) 1 2 .answer ≡ Delivered (Ack (pos 0))) ×
-    (pick (receiving (processOf 1 0 1 (pos 0) 1 0) (Ack (pos 0))) 1 2 .answer ≡ Delivery.Refused 22) ×
+    (pick (receiving (processOf 1 0 1 (pos 0) 1 1) (Ack (pos 0))) 1 2 1 .answer ≡ Delivered (Ack (pos 0))) ×
+    (pick (receiving (processOf 1 0 1 (pos 0) 1 0) (Ack (pos 0))) 1 2 1 .answer ≡ Delivery.Refused 22) ×
     -- the 2,048th and the 2,049th delivery
-    (pick (two 1 2047 (root (pos 0) 1) idle (Suc ∷ []) []) 1 2 .answer ≡ Delivered Suc) ×
-    (pick (two 1 2048 (root (pos 0) 1) idle (Suc ∷ []) []) 1 2 .answer ≡ Delivery.Refused 22)
+    (pick (two 1 2047 (root (pos 0) 1) idle (Suc ∷ []) []) 1 2 1 .answer ≡ Delivered Suc) ×
+    (pick (two 1 2048 (root (pos 0) 1) idle (Suc ∷ []) []) 1 2 1 .answer ≡ Delivery.Refused 22)
 unfolding computing
 picks-refused-by-22 = (refl, refl, refl, refl, refl, refl, refl, refl, refl, refl, refl, refl, refl, refl, refl, refl, refl, refl, refl, refl)
 
@@ -694,20 +715,21 @@ counts-1-and-minus-1 = refl
 
 -- "22 never occurs in a run made by start and deliveries": the number that a delivery meets is none of those that a list can answer
 never-22-is-met-by-no-list : (w : Waits) (s : ℕ) (p : Passed Run) → Promise w s p
-    → List·Memᴰ (deliveryNumber (pick (receiving idle (Ack (pos 0))) 1 2 .answer)) (p .numbers) → ⊥
+    → List·Memᴰ (deliveryNumber (pick (receiving idle (Ack (pos 0))) 1 2 1 .answer)) (p .numbers) → ⊥
 unfolding computing
 never-22-is-met-by-no-list w s p h m = none (h .answers 22 m)
   where
-    none : List·Memᴰ {A = ℕ} 22 (0 ∷ 23 ∷ 24 ∷ 25 ∷ 26 ∷ []) → ⊥
+    none : List·Memᴰ {A = ℕ} 22 (0 ∷ 23 ∷ 24 ∷ 25 ∷ 26 ∷ 31 ∷ []) → ⊥
     none (List·Memᴰ·head e) = eqb-false 22 0 refl e
     none (List·Memᴰ·tail (List·Memᴰ·head e)) = eqb-false 22 23 refl e
     none (List·Memᴰ·tail (List·Memᴰ·tail (List·Memᴰ·head e))) = eqb-false 22 24 refl e
     none (List·Memᴰ·tail (List·Memᴰ·tail (List·Memᴰ·tail (List·Memᴰ·head e)))) = eqb-false 22 25 refl e
     none (List·Memᴰ·tail (List·Memᴰ·tail (List·Memᴰ·tail (List·Memᴰ·tail (List·Memᴰ·head e))))) = eqb-false 22 26 refl e
-    none (List·Memᴰ·tail (List·Memᴰ·tail (List·Memᴰ·tail (List·Memᴰ·tail (List·Memᴰ·tail x))))) = List·Memᴰ·not-nil x
+    none (List·Memᴰ·tail (List·Memᴰ·tail (List·Memᴰ·tail (List·Memᴰ·tail (List·Memᴰ·tail (List·Memᴰ·head e)))))) = eqb-false 22 31 refl e
+    none (List·Memᴰ·tail (List·Memᴰ·tail (List·Memᴰ·tail (List·Memᴰ·tail (List·Memᴰ·tail (List·Memᴰ·tail x)))))) = List·Memᴰ·not-nil x
 
 -- "Each ordered pair of neighbours has one link": a message between others makes a run that is not well formed
-no-message-without-a-link : (pick unlinked 2 1 .answer ≡ Delivery.Refused 21) × (runOn 1 unlinked .answer ≡ Ran.Refused 21 0)
+no-message-without-a-link : (pick unlinked 2 1 1 .answer ≡ Delivery.Refused 21) × (runOn 1 unlinked .answer ≡ Ran.Refused 21 0)
 unfolding computing
 no-message-without-a-link = (refl, refl)
 

@@ -10,6 +10,7 @@
 --   two s d x y forth back   == a run on the waits of one, with start s and d accepted deliveries: x and y are the records of 1 and of 2,
 --                          forth the messages from 1 to 2, back those from 2 to 1
 --   receiving y m       == such a run, not over, in which m waits on the link from 1 to 2 and y is the record of 2
+--   three               == such a run, not over, in which three messages wait on that link
 --   unlinked            == a run with a message between two processes that are no neighbours
 --   area r              == the 52 words that hold such a run
 --   answers r ps        == the answers of picks, each on the run that the last one left
@@ -24,7 +25,7 @@ use Rattle.base.specs.Choice.{choose}
 use Rattle.tables.specs.Table.{fieldOf}
 use Rattle.tables.specs.Waits.{waitsOf}
 use Rattle.steps.specs.declared.Message.{Message}
-use Rattle.steps.specs.declared.Message.the-variants.{Ack}
+use Rattle.steps.specs.declared.Message.the-variants.{Suc, Pre, Ack}
 use Rattle.steps.specs.declared.Process.{Process}
 use Rattle.steps.specs.Step.{idle}
 use Rattle.checks.specs.declared.Delivery.{Delivery}
@@ -121,6 +122,10 @@ two s d x y forth back =
 unfoldable pub receiving : Process → Message → Run
 receiving y m = two 1 0 (root (pos 0) 1) y (m ∷ []) []
 
+-- three messages wait from 1 to 2, which has both flags and is busy, so that it only acknowledges the probes
+unfoldable pub three : Run
+three = two 1 0 (root (pos 0) 3) (processOf 1 1 0 (pos 0) 2 1) (Suc ∷ Pre ∷ Ack (pos 5) ∷ []) []
+
 -- nobody waits for anybody, so there is no link, and yet a message from 2 to 1
 unfoldable pub unlinked : Run
 unlinked =
@@ -138,4 +143,4 @@ area r = stored (fieldOf one) r []
 
 unfoldable pub answers : Run → List (ℕ × ℕ) → List Delivery
 answers r [] = []
-answers r (p ∷ ps) = let q : Picked = pick r (p .0) (p .1) in q .answer ∷ answers (q .run) ps
+answers r (p ∷ ps) = let q : Picked = pick r (p .0) (p .1) 1 in q .answer ∷ answers (q .run) ps

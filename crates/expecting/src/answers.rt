@@ -41,7 +41,7 @@ pub fn reported(report: Report, c: Course) -> Course {
     expect(c, is_told(report, c), faults::OVER)
 }
 
-// The number that a pick is refused with, if it is: 25 for no link, 23 if all deliveries are made, else 24.
+// The number that a pick is refused with, if it is: 25 for no link, 23 if all deliveries are made, else 24 or, past that, 31.
 fn refusal(found: &[bool; 16899], call: Call, c: Course) -> u32 {
     if !searching::is_link(found, call.from, call.to) {
         return 25;
@@ -61,20 +61,101 @@ fn is_message(found: &[bool; 16899], call: Call, message: Message) -> bool {
     }
 }
 
-// A pick that could be refused with 24 may deliver a message.
-fn is_picked(found: &[bool; 16899], call: Call, answer: Delivery, refusal: u32) -> bool {
-    match answer {
-        Delivery::Delivered(message) => refusal == 24 && is_message(found, call, message),
-        Delivery::Refused(number) => number == refusal,
+// A pick that could be refused with 24 is, unless a message is known to wait on its link, or with 31, unless its place is 1 (02, N5).
+fn is_refused(call: Call, number: u32, refusal: u32, c: Course) -> bool {
+    if refusal != 24 {
+        return number == refusal;
+    }
+    match number {
+        24 => !call.own || c.lower == 0,
+        31 => call.place != 1,
+        _ => false,
     }
 }
 
-// A message came to a receiver.
-fn delivered(to: usize, message: Message, c: Course) -> Course {
+// It may deliver a message, from a place that a link has.
+fn is_picked(found: &[bool; 16899], call: Call, answer: Delivery, refusal: u32, c: Course) -> bool {
+    match answer {
+        Delivery::Delivered(message) => {
+            refusal == 24 && 0 < call.place && call.place <= 4 && is_message(found, call, message)
+        }
+        Delivery::Refused(number) => is_refused(call, number, refusal, c),
+    }
+}
+
+fn kind(message: Message) -> u32 {
+    match message {
+        Message::Suc => 1,
+        Message::Pre => 2,
+        Message::Ack(_) => 3,
+    }
+}
+
+// The kind of message at the place of a pick before the first delivery, 0 if there is none: "s sends suc to each successor, then pre to each
+// predecessor". A link from another process is empty.
+fn first_kind(found: &[bool; 16899], call: Call, start: usize) -> u32 {
+    let suc = call.from == start && searching::is_wait(found, start, call.to);
+    let pre = call.from == start && searching::is_wait(found, call.to, start);
+    if call.place == 1 && suc {
+        return 1;
+    }
+    if call.place == 1 && pre {
+        return 2;
+    }
+    if call.place == 2 && suc && pre {
+        return 2;
+    }
+    0
+}
+
+// Whether a pick took a message of a kind, or none if it is 0.
+fn is_of(answer: Delivery, expected: u32) -> bool {
+    match answer {
+        Delivery::Delivered(message) => kind(message) == expected,
+        Delivery::Refused(_) => expected == 0,
+    }
+}
+
+// Whether a pick before the first delivery took what the start sent. Until then the receiver of the course is the start.
+fn is_sent(found: &[bool; 16899], call: Call, answer: Delivery, c: Course) -> bool {
+    c.made > 0 || is_of(answer, first_kind(found, call, c.receiver))
+}
+
+// The place below that of the order's own pick, 0 below place 1 and for another pick.
+fn lower(call: Call) -> usize {
+    if call.own && call.place > 0 {
+        return call.place - 1;
+    }
+    0
+}
+
+// A pick was refused: with 31, a lower place of the link holds a message.
+fn missed(call: Call, number: u32, c: Course) -> Course {
+    let mut d = c;
+    d.misses = numbers::more(d.misses);
+    d.lower = 0;
+    if number == 31 {
+        d.lower = lower(call);
+    }
+    d
+}
+
+// One more delivery that overtook, if the place says so.
+fn overtaken(place: usize, c: Course) -> u32 {
+    if place > 1 {
+        return numbers::sum(c.overtaking, 1);
+    }
+    c.overtaking
+}
+
+// A message came to a receiver; those at lower places still wait.
+fn delivered(call: Call, message: Message, c: Course) -> Course {
     let mut d = c;
     d.made = numbers::sum(d.made, 1);
+    d.overtaking = overtaken(call.place, c);
     d.misses = 0;
-    d.receiver = to;
+    d.lower = lower(call);
+    d.receiver = call.to;
     match message {
         Message::Suc => d.sucs = numbers::sum(d.sucs, 1),
         Message::Pre => d.pres = numbers::sum(d.pres, 1),
@@ -83,19 +164,18 @@ fn delivered(to: usize, message: Message, c: Course) -> Course {
     d
 }
 
-fn tried(to: usize, answer: Delivery, c: Course) -> Course {
-    let Delivery::Delivered(message) = answer else {
-        let mut d = c;
-        d.misses = numbers::more(d.misses);
-        return d;
-    };
-    delivered(to, message, c)
+fn tried(call: Call, answer: Delivery, c: Course) -> Course {
+    match answer {
+        Delivery::Delivered(message) => delivered(call, message, c),
+        Delivery::Refused(number) => missed(call, number, c),
+    }
 }
 
-// After a pick of any two numbers.
+// After a pick of any two numbers and any place.
 pub fn picked(found: &[bool; 16899], call: Call, answer: Delivery, c: Course) -> Course {
-    let right = is_picked(found, call, answer, refusal(found, call, c));
-    expect(tried(call.to, answer, c), right, faults::PICK)
+    let right = is_picked(found, call, answer, refusal(found, call, c), c)
+        && is_sent(found, call, answer, c);
+    expect(tried(call, answer, c), right, faults::PICK)
 }
 
 // The deliveries that are left.
@@ -127,6 +207,7 @@ fn made(c: Course, k: u32) -> u32 {
 pub fn ran(k: u32, answer: Ran, c: Course) -> Course {
     let mut d = c;
     d.made = made(c, k);
+    d.lower = 0;
     expect(d, is_run(answer, k, left(c)), faults::RUNNING_ON)
 }
 

@@ -10,7 +10,8 @@ pub const WAITS: u32 = 3;
 pub const START: u32 = 4;
 // A start that is to be refused is not, or with another number.
 pub const REFUSED_START: u32 = 5;
-// A pick of a link: neither a message that can be there nor 24 before the end, not 23 after it; a pick that names no link: not 25.
+// A pick of a link: before the end neither a message that can be there nor a number that can be met, not 23 after it; a pick that names no
+// link: not 25.
 pub const PICK: u32 = 6;
 // Running on: refused, over or spent with another number made, or over at another number than D.
 pub const RUNNING_ON: u32 = 7;
@@ -30,3 +31,5 @@ pub const PROBES: u32 = 13;
 pub const CHANGED: u32 = 14;
 // A surplus word changed.
 pub const SURPLUS: u32 = 15;
+// A pick took another message than the one at its place, or took or refused where it should not, or the others did not keep their order.
+pub const PLACE: u32 = 16;

@@ -22,7 +22,7 @@ pub fn is_marked(area: &[i32], from: usize) -> bool {
 }
 
 // A word as a number without sign, another for each word.
-fn unsigned(word: i32) -> u32 {
+pub fn unsigned(word: i32) -> u32 {
     if word >= 0 {
         word as u32
     } else {

@@ -1,44 +1,49 @@
--- What the code of a delivery reads off a tested area: the start, the records, and the oldest message on a link.
+-- What the code of a delivery reads off a tested area: the start, the records, and the messages on a link.
 --   start-is, count-is        == what `number` says of the words of the start and of the count
 --   start-right, process-right   == the start is a process, and the record of a process is in range
 --   num-is                    == what `number` says of the word of num in a record
 --   link-none, link-here      == the messages on a link: none between two who are not neighbours, else those of its words
---   first-none, first-some, first-fits   == the first word of a link: 0 if nothing waits there, else the oldest message; it has 16 bits
+--   none-here, beyond-here    == what waits at a place of a link, by their number, where no message is there
+--   WordAt w i k ms           == the word of place k of the link at i stands inside, has 16 bits and is the message's; word-at, if there is one
 -- Assumes nothing.
 use Prim.Native.Nat.{ℕ, suc, _+_, _-_, _^_, _≤_, _<_}
 use mathlib.Core.Bool.{true, false}
-use mathlib.Core.List.{List, [], _∷_}
+use mathlib.Core.List.{List, []}
 use mathlib.Core.Path.{_≡_, sym, ap, _∙_}
-use native.Mathlib.Nat.{add-zero}
+use mathlib.Core.Logic.{_⊎_, inl, inr, ⊎-elim}
 use native.Mathlib.Omega.{arith}
 use borrow.Author.Tests.{leb-true, le-ltb}
-use lib.ListN.{getD}
+use lib.ListN.{length, getD}
 use lib.IntN.{ℤ, pos, negsuc, natAbs}
 use lib.Signed.{mag}
 use mir.Syntax.{w32}
 use mir.Val.{toZ, ofZ}
-use Rattle.tables.specs.Table.{mostProcesses}
-use Rattle.machine.specs.Machine as Machines
-use Rattle.base.specs.ChoiceLaws.{and-left}
+use Rattle.tables.specs.Table.{mostProcesses, mostArcs}
 use Rattle.tables.specs.Waits.{neighbours}
 use Rattle.steps.specs.declared.Message.{Message}
 use Rattle.steps.specs.declared.Process.{Process}
 use Rattle.steps.specs.declared.Message.the-variants.{Suc, Pre, Ack}
 use Rattle.steps.specs.Step.{mostCount, small, inRange, countSmall}
-use Rattle.checks.specs.Run.{countsSmall, knot}
+use Rattle.checks.specs.Run.{knot}
 use Rattle.machine.specs.FormedLaws.{wellFormed-P}
+use Rattle.machine.specs.Among.{Here}
+use Rattle.machine.specs.AmongLaws.{among-right, atPlace-here}
 use Rattle.checks.specs.RunLaws.{formed-range}
-use Rattle.areas.specs.Places.{startPlace, countPlace, numPlace, recordStart}
+use Rattle.areas.specs.Places.{startPlace, countPlace, numPlace, recordStart, areaLength}
 use Rattle.areas.specs.Used.{linkSlots}
-use Rattle.areas.specs.Area.{linkOf, codeOf, slotWord, fieldsIn, messageOf, messagesAt, runIn}
+use Rattle.areas.specs.Area.{linkOf, codeOf, fieldsIn, messageOf, messagesAt, runIn}
+use Rattle.areas.specs.CodeLaws.{messageOf-codeOf}
 use Rattle.areas.specs.Squares.{joinedBy, placeBy}
 use Rattle.areas.specs.RunInLaws.{runIn-contained}
-use Rattle.areas.specs.LinkLaws.{messagesAt-stop, messagesAt-more}
 use Rattle.areas.specs.SquareLaws.{joinedBy-is}
 use Rattle.lenses.specs.Ready.{Ready}
-use Rattle.lenses.specs.ReadyLaws.{right-storable, ready-n}
+use Rattle.lenses.specs.declared.links.AtPlace.{AtPlace}
+use Rattle.lenses.specs.declared.links.AtPlace.the-variants.{Beyond}
+use Rattle.lenses.specs.Standing.{standing}
+use Rattle.lenses.specs.ReadyLaws.{right-storable, runIn-few, ready-n}
 use Rattle.lenses.specs.ChangeLaws.{link-right}
-use Rattle.lenses.proofs.Stores.{read-process, link-is, slot-word, link-place}
+use Rattle.lenses.specs.StandingLaws.{standing-none, standing-beyond, standing-cut, slot-cut}
+use Rattle.lenses.proofs.Stores.{read-process, link-is, slot-word, link-place, link-small, link-within}
 use Rattle.steps.proofs.Counts.{signed-back}
 
 -- the word of a message whose count is in range has 16 bits
@@ -51,10 +56,12 @@ code-fits (Ack (negsuc n)) e =
     let l : suc n ≤ mostCount = leb-true (suc n) mostCount e in
     rw (le-ltb 256 (suc n) (omega arith)) (omega arith)
 
-slot-fits : (ms : List Message) → countsSmall ms ≡ true → natAbs (slotWord ms 0) ≤ 65535
-unfolding slotWord Machines.allRight
-slot-fits [] e = omega arith
-slot-fits (m ∷ ms) e = code-fits m (and-left (countSmall m) (countsSmall ms) e)
+-- the word of place k of the link at i, on which ms wait
+pub record WordAt (w : List ℤ) (i k : ℕ) (ms : List Message) : Type 0 where
+  pub small : i + k ≤ areaLength mostProcesses mostArcs
+  pub within : i + k - 1 < length w
+  pub fits : natAbs (getD w (i + k - 1) (pos 0)) ≤ 65535
+  pub says : AtPlace.Message (messageOf (getD w (i + k - 1) (pos 0))) ≡ standing k ms
 
 -- what `number` says of a word that was read back
 pub start-is : {r : ℕ} (w : List ℤ) → mag (getD w startPlace (pos 0)) < 2 ^ 31 → r ≡ natAbs (toZ w32 (ofZ w32 (getD w startPlace (pos 0))))
@@ -90,14 +97,42 @@ module _ {w : List ℤ} {sq : List ℕ} {n m : ℕ} (y : Ready w sq n m) where
     pub link-here : runIn w .link a b ≡ messagesAt w i linkSlots
     link-here = link-is y j l u ∙ ap (λ (k : ℕ). messagesAt w k linkSlots) (sym (link-place y j l u e))
 
-    pub first-none : natAbs (getD w i (pos 0)) ≡ 0 → runIn w .link a b ≡ []
-    first-none z = link-here ∙ messagesAt-stop w i (linkSlots - 1) z
+    -- how many messages wait there, as the length of its words says
+    module _ {c : ℕ} (f : c ≡ length (messagesAt w i linkSlots)) where
+      count-here : c ≡ length (runIn w .link a b)
+      count-here = f ∙ ap length (sym link-here)
 
-    pub first-some : (natAbs (getD w i (pos 0)) ≡ 0 → ⊥) → runIn w .link a b ≡ messageOf (getD w i (pos 0)) ∷ messagesAt w (suc i) (linkSlots - 1)
-    first-some z = link-here ∙ messagesAt-more w i (linkSlots - 1) z
+      pub none-here : (k : ℕ) → c ≡ 0 → AtPlace.Nothing ≡ standing k (runIn w .link a b)
+      none-here k z = sym (standing-none k (runIn w .link a b) (omega (arith, count-here)))
 
-    pub first-fits : natAbs (getD w i (pos 0)) ≤ 65535
-    first-fits =
-        let p : i ≡ linkOf (fieldsIn w) a b + 0 = link-place y j l u e ∙ sym (add-zero (linkOf (fieldsIn w) a b)) in
-        let q : getD w i (pos 0) ≡ slotWord (runIn w .link a b) 0 = rw p (slot-word y j l u 0 (omega arith)) in
-        rw q (slot-fits (runIn w .link a b) (link-right (fieldsIn w) (runIn w) (right-storable w (y .right)) a b .1))
+      pub beyond-here : (k : ℕ) → (c ≡ 0 → ⊥) → (k ≡ 0) ⊎ (c < k) → Beyond ≡ standing k (runIn w .link a b)
+      beyond-here k some h =
+          sym (standing-beyond k (runIn w .link a b) (omega (arith, count-here, some)) (⊎-elim (λ z. inl z) (λ z. inr (omega (arith, count-here))) h))
+
+      -- the word of the message at place k
+      module _ {k : ℕ} (lo : k ≡ 0 → ⊥) (hi : k ≤ c) where
+        few-here : k ≤ linkSlots
+        few-here = omega (arith, count-here, runIn-few w a b)
+
+        here : Here k (runIn w .link a b)
+        here = atPlace-here k (runIn w .link a b) (omega (arith, lo)) (omega (arith, count-here))
+
+        word-is : getD w (i + k - 1) (pos 0) ≡ codeOf (here .message)
+        word-is =
+            let p : i + k - 1 ≡ linkOf (fieldsIn w) a b + (k - 1) = omega (arith, lo, link-place y j l u e) in
+            rw p (slot-word y j l u (k - 1) (omega (arith, lo, few-here)) ∙ slot-cut k (runIn w .link a b) (here .is))
+
+        message-small : countSmall (here .message) ≡ true
+        message-small = among-right countSmall (here .among) (link-right (fieldsIn w) (runIn w) (right-storable w (y .right)) a b .1) .0
+
+        pub word-at : WordAt w i k (runIn w .link a b)
+        word-at =
+            record {
+              small = omega (arith, few-here, link-small y j l u e);
+              within = omega (arith, lo, few-here, link-within y j l u e);
+              fits = rw word-is (code-fits (here .message) message-small);
+              says =
+                  ap (λ (z : ℤ). AtPlace.Message (messageOf z)) word-is
+                  ∙ ap AtPlace.Message (messageOf-codeOf (here .message) message-small)
+                  ∙ sym (standing-cut k (runIn w .link a b) (here .is));
+            }

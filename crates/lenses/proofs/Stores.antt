@@ -7,7 +7,7 @@
 --   by-table                  == neighbours in the run are so in the table
 --   store-process, store-take, store-push, store-count   == what is left by a store is the area with a changed run in it
 -- Assumes nothing.
-use Prim.Native.Nat.{ℕ, suc, _+_, _-_, _≤_, _<_}
+use Prim.Native.Nat.{ℕ, zero, suc, _+_, _-_, _≤_, _<_}
 use mathlib.Core.Bool.{true}
 use mathlib.Core.List.{List, [], _∷_, _++_}
 use mathlib.Core.Path.{_≡_, refl, sym, ap, _∙_, subst}
@@ -33,14 +33,31 @@ use Rattle.areas.specs.RunInLaws.{runIn-process, runIn-link, runIn-contained}
 use Rattle.areas.specs.AreaLaws.{stored-same, areaRight-table}
 use Rattle.areas.specs.SquareLaws.{placeBy-is}
 use Rattle.lenses.specs.Ready.{Ready}
-use Rattle.lenses.specs.Changes.{tailOf}
+use Rattle.machine.specs.Calls.{Cut, nowhere, cut, past, behind, atPlace}
+use Rattle.lenses.specs.Changes.{stays, without}
 use Rattle.lenses.specs.ReadyLaws.{right-long, runIn-few, ready-sizes, ready-joined}
 
--- the words of what stays on a link
-slot-tail : (ms : List Message) (j : ℕ) → slotWord (tailOf ms) j ≡ slotWord ms (suc j)
-unfolding slotWord
-slot-tail [] j = refl
-slot-tail (m ∷ ms) j = refl
+-- ---- the words of what stays on a link
+
+stays-past : (x : Message) (ms : List Message) (f : Cut Message) → stays (x ∷ ms) (past x f) ≡ x ∷ stays ms f
+stays-past x ms nowhere = refl
+stays-past x ms (cut m rest) = refl
+
+-- those before the message that is taken
+slot-before : (k : ℕ) (ms : List Message) (j : ℕ) → j < k → slotWord (stays ms (behind k ms)) j ≡ slotWord ms j
+unfolding behind slotWord
+slot-before k [] j h = refl
+slot-before zero (m ∷ ms) j h = absurd (omega arith)
+slot-before (suc k) (m ∷ ms) zero h = rw (stays-past m ms (behind k ms))
+slot-before (suc k) (m ∷ ms) (suc j) h = rw (stays-past m ms (behind k ms)) (slot-before k ms j (omega arith))
+
+-- those behind it move up
+slot-behind : (k : ℕ) (ms : List Message) (j : ℕ) → k ≤ j → slotWord (stays ms (behind k ms)) j ≡ slotWord ms (suc j)
+unfolding behind slotWord
+slot-behind k [] j h = refl
+slot-behind zero (m ∷ ms) j h = refl
+slot-behind (suc k) (m ∷ ms) zero h = absurd (omega arith)
+slot-behind (suc k) (m ∷ ms) (suc j) h = rw (stays-past m ms (behind k ms)) (slot-behind k ms j (omega arith))
 
 module _ {w : List ℤ} {sq : List ℕ} {n m : ℕ} (y : Ready w sq n m) where
   pub long : areaLength n m ≤ length w
@@ -105,14 +122,18 @@ module _ {w : List ℤ} {sq : List ℕ} {n m : ℕ} (y : Ready w sq n m) where
       pub link-room : length (runIn w .link a b) ≤ linkSlots - 1 → length (messagesAt w i linkSlots) < linkSlots
       link-room h = rw (link-place, ← link-is) (omega arith)
 
-      pub store-take : movedDown w i (i + linkSlots) ≡ keeping w (putLink (runIn w) a b (tailOf (runIn w .link a b)))
-      store-take =
-          let k = linkOf (fieldsIn w) a b in
-          rw link-place
-          (ap (λ (v : List ℤ). movedDown v k (k + linkSlots)) (sym (stored-same w (y .right)))
-          ∙ stored-taken (fieldsIn w) (areaRight-table w (y .right) .right) (runIn w) w a b (tailOf (runIn w .link a b)) by-table (right-long w (y .right))
-          (runIn-few w a b)
-          (slot-tail (runIn w .link a b)))
+      pub store-take : (k : ℕ) → (1 ≤ k) × (k ≤ linkSlots)
+          → movedDown w (i + k - 1) (i + linkSlots) ≡ keeping w (putLink (runIn w) a b (without k (runIn w .link a b)))
+      unfolding atPlace
+      store-take zero h = absurd (omega (arith, h))
+      store-take (suc k) h =
+          let c = linkOf (fieldsIn w) a b in
+          let ms = runIn w .link a b in
+          let at : i + suc k - 1 ≡ c + k = omega (arith, link-place) in
+          rw (at, link-place)
+          (ap (λ (v : List ℤ). movedDown v (c + k) (c + linkSlots)) (sym (stored-same w (y .right)))
+          ∙ stored-taken (fieldsIn w) (areaRight-table w (y .right) .right) (runIn w) w a b k (stays ms (behind k ms)) by-table (right-long w (y .right))
+          (runIn-few w a b) (omega (arith, h)) (slot-before k ms) (slot-behind k ms))
 
       pub store-push : (x : Message) → length (runIn w .link a b) ≤ linkSlots - 1
           → set w (i + length (messagesAt w i linkSlots)) (codeOf x) ≡ keeping w (putLink (runIn w) a b (runIn w .link a b ++ (x ∷ [])))

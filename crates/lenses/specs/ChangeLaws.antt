@@ -5,12 +5,12 @@
 --   father-few           == a father is at most the largest N
 --   storable-size, probe-small   == the run's N is its table's; a probe has no count out of range
 --   link-right           == every link of such a run holds at most 4 messages, with counts in range
---   tail-length          == how many messages stay on a link when its oldest is taken
+--   without-none, without-length   == nothing is taken off an empty link; how many messages stay on a link when one is taken
 --   spreadTo-none        == nothing is sent to those of 1 to 0
 --   spreadTo-sent, spreadTo-passed   == one process more, to whom the probe goes or does not go
 --   spreadTo-link        == the links to those further on are as they were
 -- Assumes nothing.
-use Prim.Native.Nat.{ℕ, zero, suc, _-_, _≤_, _<_}
+use Prim.Native.Nat.{ℕ, zero, suc, _+_, _-_, _≤_, _<_}
 use mathlib.Core.Bool.{Bool, true, false, _&&_}
 use mathlib.Core.List.{List, [], _∷_, _++_, append-nil}
 use mathlib.Core.Path.{_≡_, refl, sym, ap, _∙_, subst, fun-ext}
@@ -37,12 +37,15 @@ use Rattle.steps.specs.declared.Process.{Process}
 use Rattle.steps.specs.declared.Reply.{Reply}
 use Rattle.steps.specs.declared.Reply.the-variants.{To}
 use Rattle.steps.specs.Step.{inRange, small, countSmall, replyFits}
+use Rattle.machine.specs.Calls.{Cut, behind, atPlace}
 use Rattle.machine.specs.FormedLaws.{wellFormed-P, allRight-append}
+use Rattle.machine.specs.Among.{Placed, there, not-there, Here}
+use Rattle.machine.specs.AmongLaws.{among-length, among-right, atPlace-P, atPlace-here}
 use Rattle.checks.specs.Run.{Run, mostDeliveries, knot, fatherRight, countsSmall, one}
 use Rattle.areas.specs.Used.{linkSlots}
 use Rattle.areas.specs.Replaced.{putProcess, putLink, putCount}
 use Rattle.areas.specs.ContainedLaws.{contained-joined, contained-process, contained-link, contained-count}
-use Rattle.lenses.specs.Changes.{probeOf, spreadTo, tailOf, answered, spread}
+use Rattle.lenses.specs.Changes.{probeOf, spreadTo, stays, without, answered, spread}
 use Rattle.lenses.specs.Storable.{Storable}
 
 -- ---- whom a chain leads to
@@ -76,18 +79,25 @@ counts-push : (ms : List Message) (m : Message) → countsSmall ms ≡ true → 
 unfolding Machines.allRight
 counts-push ms m p q = allRight-append countSmall ms (m ∷ []) p (and-both (countSmall m) true q refl)
 
-pub tail-length : (ms : List Message) → length (tailOf ms) ≡ length ms - 1
-tail-length [] = refl
-tail-length (m ∷ ms) = omega arith
+pub without-none : (k : ℕ) → without k [] ≡ []
+unfolding behind atPlace
+without-none zero = refl
+without-none (suc k) = refl
 
-tail-short : (ms : List Message) → length ms ≤ 4 → length (tailOf ms) ≤ 4
-tail-short [] h = h
-tail-short (m ∷ ms) h = omega arith
+-- a message taken from its place, wherever that is
+module _ (k : ℕ) (ms : List Message) where
+  pub without-length : 1 ≤ k → k ≤ length ms → length (without k ms) + 1 ≡ length ms
+  without-length l u =
+      let h : Here k ms = atPlace-here k ms l u in
+      rw (h .is) (omega (arith, among-length (h .among)))
 
-tail-counts : (ms : List Message) → countsSmall ms ≡ true → countsSmall (tailOf ms) ≡ true
-unfolding Machines.allRight
-tail-counts [] h = h
-tail-counts (m ∷ ms) h = and-right (countSmall m) (countsSmall ms) h
+  -- what stays is in range, as it was
+  without-right : length ms ≤ 4 → countsSmall ms ≡ true → (length (without k ms) ≤ 4) × (countsSmall (without k ms) ≡ true)
+  without-right u e = at (atPlace-P k ms)
+    where
+      at : {f : Cut Message} → Placed k ms f → (length (stays ms f) ≤ 4) × (countsSmall (stays ms f) ≡ true)
+      at (there _ _ i) = (omega (arith, among-length i), among-right countSmall i e .1)
+      at (not-there _) = (u, e)
 
 pub probe-small : (c : Chain) → countSmall (probeOf c) ≡ true
 unfolding countSmall
@@ -192,9 +202,10 @@ module _ (t : Fields) (r : Run) (f : Storable t r) where
   storable-push a b m j k s =
       storable-link a b (r .link a b ++ (m ∷ [])) j (rw length-append (omega arith)) (counts-push (r .link a b) m (link-right a b .1) k)
 
-  pub storable-take : (a b : ℕ) → neighbours (r .waits) a b ≡ true → Storable t (putLink r a b (tailOf (r .link a b)))
-  storable-take a b j =
-      storable-link a b (tailOf (r .link a b)) j (tail-short (r .link a b) (link-right a b .0)) (tail-counts (r .link a b) (link-right a b .1))
+  pub storable-take : (a b k : ℕ) → neighbours (r .waits) a b ≡ true → Storable t (putLink r a b (without k (r .link a b)))
+  storable-take a b k j =
+      let h = without-right k (r .link a b) (link-right a b .0) (link-right a b .1) in
+      storable-link a b (without k (r .link a b)) j (h .0) (h .1)
 
   pub storable-answered : (b : ℕ) (y : Reply) → replyFits y ≡ true
       → ((p : ℕ) (c : ℤ) → y ≡ To p c → (neighbours (r .waits) b p ≡ true) × (length (r .link b p) ≤ linkSlots - 1)) → Storable t (answered r b y)

@@ -3,8 +3,8 @@
 --   spreadTo c r b k     == b has sent that probe to those of 1 to k whom it goes to
 --   spread c r b         == b has sent it to all
 --   answered r b y       == b has sent the acknowledgement y of its step, if there is one
---   tailOf ms            == what stays on a link when its oldest message is taken
---   off r a b            == the oldest message is off the link from a to b
+--   without k ms         == what stays on a link when the message at place k is taken; all of it, if there is none
+--   off r a b k          == the message at place k is off the link from a to b
 --   pushedOn r a b m     == m is on the link from a to b, behind those that wait there
 --   HasSlot r a b        == the link from a to b has a word left for one message more
 --   Spreadable c r n b, Answerable r n b y   == so has each link on which b broadcasts along a chain, and that on which it acknowledges
@@ -25,6 +25,7 @@ use Rattle.steps.specs.declared.Message.{Message}
 use Rattle.steps.specs.declared.Message.the-variants.{Suc, Pre, Ack}
 use Rattle.steps.specs.declared.Reply.{Reply}
 use Rattle.steps.specs.declared.Reply.the-variants.{To}
+use Rattle.machine.specs.Calls.{Cut, nowhere, cut, atPlace}
 use Rattle.checks.specs.Run.{Run, one}
 use Rattle.areas.specs.Used.{linkSlots}
 use Rattle.areas.specs.Replaced.{putLink}
@@ -43,10 +44,6 @@ spreadTo c r b k =
       link = λ x y. choose (eqb x b && leb y k) (r .link x y ++ one (joins c (r .waits) b y) (probeOf c)) (r .link x y);
     }
 
-abbrev pub tailOf : List Message → List Message
-tailOf [] = []
-tailOf (m ∷ ms) = ms
-
 unfoldable pub answered : Run → ℕ → Reply → Run
 answered r b Reply.Nothing = r
 answered r b (To p c) = putLink r b p (r .link b p ++ (Ack c ∷ []))
@@ -56,8 +53,16 @@ spread c r b = spreadTo c r b (r .waits .n)
 
 -- ---- one link
 
-abbrev pub off : Run → ℕ → ℕ → Run
-off r a b = putLink r a b (tailOf (r .link a b))
+-- what is left of a list by what was found in it
+abbrev pub stays : List Message → Cut Message → List Message
+stays ms nowhere = ms
+stays ms (cut m rest) = rest
+
+abbrev pub without : ℕ → List Message → List Message
+without k ms = stays ms (atPlace k ms)
+
+abbrev pub off : Run → ℕ → ℕ → ℕ → Run
+off r a b k = putLink r a b (without k (r .link a b))
 
 abbrev pub pushedOn : Run → ℕ → ℕ → Message → Run
 pushedOn r a b m = putLink r a b (r .link a b ++ (m ∷ []))

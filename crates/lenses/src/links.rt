@@ -1,4 +1,4 @@
-// One link in a tested area: how many messages wait there, the oldest off it, one more behind them.
+// One link in a tested area: how many messages wait there, the one at a place, that one off it, one more behind them.
 use areas::places;
 use areas::squares;
 use areas::words;
@@ -13,7 +13,18 @@ ghost use Rattle.steps.specs.Step.{countSmall};
 ghost use Rattle.areas.specs.Used.{linkSlots};
 ghost use Rattle.areas.specs.Area.{runIn, keeping};
 ghost use Rattle.lenses.specs.Ready.{Ready};
+ghost use Rattle.lenses.specs.Standing.{standing};
 ghost use Rattle.lenses.specs.Changes.{pushedOn, HasSlot, off};
+
+// The place of the oldest message on a link.
+pub const OLDEST: usize = 1;
+
+// What waits at a place of a link: nothing on the whole link, no message at that place, or a message.
+pub enum AtPlace {
+    Nothing,
+    Beyond,
+    Message(Message),
+}
 
 // How many messages wait on the link from b to q; 0 if there is no link.
 pub fn waiting_on(
@@ -35,7 +46,37 @@ pub fn waiting_on(
     words::link_length(area, squares::place(square, n, m, b, q), places::LINK_SLOTS)
 }
 
-// Takes the oldest message off the link from a to b.
+// What waits at a place of the link from a to b, 1 for the oldest message.
+pub fn at_place(
+    area: &[i32],
+    square: &[u16; tables::SQUARE_SIZE],
+    n: usize,
+    m: usize,
+    a: usize,
+    b: usize,
+    place: usize,
+) -> AtPlace
+    requires { ⌜ Ready (now area) (now square) n m ⌝ }
+    requires { ⌜ (a ≤ mostProcesses) × (b ≤ mostProcesses) ⌝ }
+    requires { ⌜ neighbours (runIn (now area) .waits) a b ≡ true ⌝ }
+    ensures { λ r. ⌜ r ≡ standing place (runIn (now (area .entry)) .link a b) ⌝ }
+{
+    let i = squares::place(square, n, m, a, b);
+    let waiting = words::link_length(area, i, places::LINK_SLOTS);
+    if waiting == 0 {
+        return AtPlace::Nothing;
+    }
+    if place == 0 {
+        return AtPlace::Beyond;
+    }
+    if place > waiting {
+        return AtPlace::Beyond;
+    }
+    let word = area[i + place - 1];
+    AtPlace::Message(words::message_of(word))
+}
+
+// Takes the message at a place off the link from a to b; those behind it move up.
 pub fn take(
     area: &mut [i32],
     square: &[u16; tables::SQUARE_SIZE],
@@ -43,14 +84,16 @@ pub fn take(
     m: usize,
     a: usize,
     b: usize,
+    place: usize,
 )
     requires { ⌜ Ready (now area) (now square) n m ⌝ }
     requires { ⌜ (a ≤ mostProcesses) × (b ≤ mostProcesses) ⌝ }
     requires { ⌜ neighbours (runIn (now area) .waits) a b ≡ true ⌝ }
-    ensures { λ _. ⌜ now (area .exit) ≡ keeping (now (area .entry)) (off (runIn (now (area .entry))) a b) ⌝ }
+    requires { ⌜ (1 ≤ place) × (place ≤ linkSlots) ⌝ }
+    ensures { λ _. ⌜ now (area .exit) ≡ keeping (now (area .entry)) (off (runIn (now (area .entry))) a b place) ⌝ }
 {
     let i = squares::place(square, n, m, a, b);
-    words::take_off(area, i, i + places::LINK_SLOTS);
+    words::take_off(area, i + place - 1, i + places::LINK_SLOTS);
 }
 
 // Puts a message on the link from a to b, behind those that wait there.

@@ -1,7 +1,9 @@
--- What picks and running on do and answer (01, "Steps" and "Refused because of the state"), for any check.
+-- What picks and running on do and answer (01, "Steps" and "Refused because of the state"; 02, N5), for any check.
 --   Answer M           == the message of a delivery, or the number of its refusal
 --   Picked, RanOn      == an answer and the run that the call leaves
---   pick ρ r a b       == "A pick checks 21, 25, 23, 24, 22."
+--   Cut M            == a message of a link, and those that stay; or none
+--   behind k ms, atPlace k ms   == the message behind k others, and that at place k, "1 for the oldest message" (02, N5)
+--   pick ρ r a b k     == a pick of place k checks 21, 25, 23, 24, 31, 22
 --   Selection          == a link with a message, or nobody
 --   Chooser P M        == an order of running on: from its own state and the run, the link whose oldest message goes, and its next state
 --   deliverOn, goOn, runFrom, runOn   == "Running on checks 21 first, then over, then spent, then 24, 22.", over any chooser
@@ -34,23 +36,46 @@ module _ {P M : Type 0} where
   abbrev pub refused : ℕ → Machine P M → Picked P M
   refused n r = record { answer = refusal n; run = r }
 
+-- a message of a link, and those that stay there, in their order; or no message
+pub data Cut (M : Type 0) : Type 0 where
+  nowhere : Cut M
+  cut : M → List M → Cut M
+
+module _ {M : Type 0} where
+  -- one message more stands before it, and stays
+  abbrev pub past : M → Cut M → Cut M
+  past x nowhere = nowhere
+  past x (cut m rest) = cut m (x ∷ rest)
+
+  -- the message behind k others
+  unfoldable pub behind : ℕ → List M → Cut M
+  behind k [] = nowhere
+  behind zero (m ∷ ms) = cut m ms
+  behind (suc k) (m ∷ ms) = past m (behind k ms)
+
+  -- 02, N5: "a place, 1 for the oldest message, and that message is taken out of the middle"; nothing is at place 0
+  unfoldable pub atPlace : ℕ → List M → Cut M
+  atPlace zero ms = nowhere
+  atPlace (suc k) ms = behind k ms
+
 module _ {P M : Type 0} (ρ : Rules P M) where
-  -- 22, or the delivery
-  unfoldable pub delivered : Machine P M → ℕ → ℕ → M → List M → Picked P M
-  delivered r a b m rest = choose (accepts ρ r a b m rest) (record { answer = given m; run = after ρ r a b m rest }) (refused 22 r)
+  -- 31, "a place that is 0 or beyond the messages waiting" (02, N5), then 22, or the delivery
+  unfoldable pub delivered : Machine P M → ℕ → ℕ → Cut M → Picked P M
+  delivered r a b nowhere = refused 31 r
+  delivered r a b (cut m rest) = choose (accepts ρ r a b m rest) (record { answer = given m; run = after ρ r a b m rest }) (refused 22 r)
 
-  -- 24, "nothing waits on that link", then 22
-  unfoldable pub deliver : Machine P M → ℕ → ℕ → List M → Picked P M
-  deliver r a b [] = refused 24 r
-  deliver r a b (m ∷ rest) = delivered r a b m rest
+  -- 24, "nothing waits on that link", then 31, 22
+  unfoldable pub deliver : Machine P M → ℕ → ℕ → ℕ → List M → Picked P M
+  deliver r a b k [] = refused 24 r
+  deliver r a b k (m ∷ ms) = delivered r a b (atPlace k (m ∷ ms))
 
-  -- "A pick checks 21, 25, 23, 24, 22."
-  unfoldable pub pick : Machine P M → ℕ → ℕ → Picked P M
-  pick r a b =
+  -- "A pick checks 21, 25, 23, 24, 22."; 02, N5: 31 "after 24"
+  unfoldable pub pick : Machine P M → ℕ → ℕ → ℕ → Picked P M
+  pick r a b k =
       choose (not (wellFormed ρ r)) (refused 21 r)
       (choose (not (neighbours (r .waits) a b)) (refused 25 r)
       (choose (over ρ r) (refused 23 r)
-      (deliver r a b (r .link a b))))
+      (deliver r a b k (r .link a b))))
 
 -- ---- running on
 
@@ -73,10 +98,10 @@ module _ {P M : Type 0} where
   goOn made p rest = elim (p .answer) [ refusal n ↦ record { answer = Ran.Refused n made; run = p .run } | given m ↦ rest (p .run) ]
 
 module _ {P M : Type 0} (ρ : Rules P M) where
-  -- the delivery on the chosen link: 24 where there is none
+  -- the delivery of the oldest message on the chosen link: 24 where there is none
   unfoldable pub deliverOn : Machine P M → Selection → Picked P M
   deliverOn r nobody = refused 24 r
-  deliverOn r (pair a b) = deliver ρ r a b (r .link a b)
+  deliverOn r (pair a b) = deliver ρ r a b 1 (r .link a b)
 
   -- over, then spent, then 24, 22, with so many deliveries made before
   unfoldable pub runFrom : Chooser P M → ℕ → ℕ → ℕ → Machine P M → RanOn P M

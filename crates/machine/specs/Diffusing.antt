@@ -9,11 +9,9 @@
 --   Diffusing ρ quota w s r   == each num counts the probes that are not acknowledged yet, and no pair has more than its quota
 --   Leads ρ w s r j       == fathers lead from j to the start, over busy processes alone
 --   Treed ρ w s r         == every busy process leads to the start
---   SomeWaits w r         == a message waits on some link
 -- Assumes nothing.
 use Prim.Native.Nat.{ℕ, _+_, _≤_}
 use mathlib.Core.Bool.{true}
-use mathlib.Core.List.{List, _∷_}
 use mathlib.Core.Path.{_≡_}
 use mathlib.Core.Logic.{_⊎_}
 use lib.Dec.{eqb}
@@ -67,12 +65,3 @@ pub data Leads {P M : Type 0} (ρ : Rules P M) (w : Waits) (s : ℕ) (r : Machin
 
 pub record Treed {P M : Type 0} (ρ : Rules P M) (w : Waits) (s : ℕ) (r : Machine P M) : Type 0 where
   pub leads : (j : ℕ) → IsProcess (w .n) j → (j ≡ s → ⊥) → 1 ≤ ρ .num (r .process j) → Leads ρ w s r j
-
-pub record SomeWaits {P M : Type 0} (w : Waits) (r : Machine P M) : Type 0 where
-  pub sender : ℕ
-  pub receiver : ℕ
-  pub sender-in : IsProcess (w .n) sender
-  pub receiver-in : IsProcess (w .n) receiver
-  pub message : M
-  pub rest : List M
-  pub waits : r .link sender receiver ≡ message ∷ rest

@@ -3,14 +3,13 @@
 --   linkRight-P         == a link is right: at most so many messages, each of them right
 --   allRight-append, allRight-tail   == the messages of two lists one after the other
 --   accepts-P           == accepts is exactly its parts
---   some-not-none       == a list with a message is not empty
 --   taken-empty         == an empty link is empty after a message was taken off another
 --   formed-after        == an accepted delivery keeps a run well formed, if the receiver's new record and what it sends are right
 -- Assumes nothing.
 use Prim.Native.Nat.{ℕ, suc, _+_, _≤_}
 use mathlib.Core.Bool.{Bool, true, false, _&&_, _||_, false≢true}
 use mathlib.Core.List.{List, [], _∷_, _++_}
-use mathlib.Core.Path.{_≡_, refl, sym, _∙_}
+use mathlib.Core.Path.{_≡_, refl, sym}
 use mathlib.Core.Logic.{_↔_}
 use native.Mathlib.Omega.{arith}
 use borrow.Author.Tests.{leb-true, le-leb, eqb-true}
@@ -25,6 +24,8 @@ use Rattle.tables.specs.Table.{IsProcess, isProcess}
 use Rattle.tables.specs.TableLaws.{isProcess-P}
 use Rattle.tables.specs.Waits.{neighbours}
 use Rattle.machine.specs.Formed.{Formed, Acceptable}
+use Rattle.machine.specs.Among.{Among}
+use Rattle.machine.specs.AmongLaws.{among-length, among-some, among-right}
 use Rattle.machine.specs.Machine.{Machine, Rules, allRight, linkRight, wellFormed, taken, leftBy, after, accepts}
 
 -- ---- the messages of a list
@@ -46,7 +47,7 @@ module _ {M : Type 0} (p : M → Bool) where
 and-four : (a b c d : Bool) → (a && b && c && d) ≡ true → (a ≡ true) × (b ≡ true) × (c ≡ true) × (d ≡ true)
 and-four a b c d e = let p = and-three a b c (and-left (a && b && c) d e) in (p .0, p .1, p .2, and-right (a && b && c) d e)
 
-pub some-not-none : {M : Type 0} {m : M} {ms : List M} → m ∷ ms ≡ [] → ⊥
+some-not-none : {M : Type 0} {m : M} {ms : List M} → m ∷ ms ≡ [] → ⊥
 some-not-none e = let z : _≡_ {A = ℕ} 0 1 = cc in omega arith
 
 -- between neighbours, or nothing waits
@@ -123,7 +124,7 @@ module _ {P M : Type 0} (ρ : Rules P M) (r : Machine P M) where
 -- ---- an accepted delivery
 
 -- what is empty stays so: the picked link is not
-pub taken-empty : {P M : Type 0} (r : Machine P M) (a b : ℕ) (m : M) (rest : List M) → r .link a b ≡ m ∷ rest → (x y : ℕ) → r .link x y ≡ []
+pub taken-empty : {P M : Type 0} (r : Machine P M) (a b : ℕ) (m : M) (rest : List M) → Among m rest (r .link a b) → (x y : ℕ) → r .link x y ≡ []
     → taken r a b rest x y ≡ []
 unfolding taken
 taken-empty r a b m rest l x y n = at (tested (eqb x a && eqb y b))
@@ -132,7 +133,7 @@ taken-empty r a b m rest l x y n = at (tested (eqb x a && eqb y b))
     at (passed e) =
         let p : x ≡ a = eqb-true x a (and-left (eqb x a) (eqb y b) e) in
         let q : y ≡ b = eqb-true y b (and-right (eqb x a) (eqb y b) e) in
-        absurd (some-not-none (sym l ∙ (rw (p, q) at n)))
+        absurd (among-some l (rw (p, q) at n))
     at (failed e) = rw e n
 
 module _ {P M : Type 0} (ρ : Rules P M) (r : Machine P M) (a b : ℕ) (m : M) (rest : List M) where
@@ -162,16 +163,13 @@ module _ {P M : Type 0} (ρ : Rules P M) (r : Machine P M) (a b : ℕ) (m : M) (
   accepts-P = (accepts-parts, accepted-accepts)
 
 module _ {P M : Type 0} (ρ : Rules P M) (r : Machine P M) (f : Formed ρ r) (a b : ℕ) (pa : IsProcess (r .waits .n) a)
-    (pb : IsProcess (r .waits .n) b) (m : M) (rest : List M) (l : r .link a b ≡ m ∷ rest) where
+    (pb : IsProcess (r .waits .n) b) (m : M) (rest : List M) (l : Among m rest (r .link a b)) where
   -- what stays of the picked link is right, as it was
   rest-short : length rest ≤ ρ .capacity
-  rest-short =
-      let k : length (r .link a b) ≤ ρ .capacity = f .short a b pa pb in
-      let e : suc (length rest) ≤ ρ .capacity = rw l at k in
-      omega arith
+  rest-short = omega (arith, f .short a b pa pb, among-length l)
 
   rest-right : allRight (ρ .messageRight) rest ≡ true
-  rest-right = allRight-tail (ρ .messageRight) (m ∷ []) rest (rw l at (f .messages a b pa pb))
+  rest-right = among-right (ρ .messageRight) l (f .messages a b pa pb) .1
 
   taken-short : (x y : ℕ) → IsProcess (r .waits .n) x → IsProcess (r .waits .n) y → length (taken r a b rest x y) ≤ ρ .capacity
   unfolding taken

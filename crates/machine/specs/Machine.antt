@@ -104,7 +104,8 @@ module _ {P M : Type 0} (ρ : Rules P M) where
   abbrev pub leftBy : Machine P M → ℕ → ℕ → M → Left P M
   leftBy r a b m = ρ .step (r .waits) (r .start) a b m (r .process b)
 
-  -- "A delivery first takes the oldest message off the picked link and adds 1 to the accepted deliveries, then does the receiver's step."
+  -- "A delivery first takes the .. message off the picked link and adds 1 to the accepted deliveries, then does the receiver's step."; which
+  -- message, and what stays on its link, is the pick's to say (02, N5)
   unfoldable pub after : Machine P M → ℕ → ℕ → M → List M → Machine P M
   after r a b m rest =
       record {

@@ -1,6 +1,6 @@
 -- What picks, running on and lists of calls come to: accepted deliveries, one after another.
 --   Made ρ r k q        == q came from r by k accepted deliveries
---   Stopped ρ r n       == n is what a delivery on some link of r answers: 0, 24, or 22 if r holds a message that is not accepted
+--   Stopped ρ r n       == n is what a delivery on some link of r answers: 0, 24, 31, or 22 if r holds a message that is not accepted
 --   Answered n          == n is a number that a call on a run made by start and deliveries may answer
 --   Finds next          == a chooser names processes alone
 --   Chooses next        == .. and a link with a message, if there is one
@@ -9,32 +9,35 @@
 -- Assumes nothing.
 use Prim.Native.Nat.{ℕ, suc, _+_}
 use mathlib.Core.Bool.{false, true}
-use mathlib.Core.List.{List, [], _∷_, List·Memᴰ}
+use mathlib.Core.List.{List, [], List·Memᴰ}
 use mathlib.Core.Path.{_≡_}
 use Rattle.tables.specs.Table.{IsProcess}
 use Rattle.tables.specs.Sound.{Sound}
 use Rattle.machine.specs.Machine.{Machine, Rules, wellFormed, after, accepts}
 use Rattle.machine.specs.Calls.{Picked, Chooser, nobody, pair, waiting, RanOn, ranNumber, ranMade}
 use Rattle.machine.specs.Lists.{Passed, Reads, acceptedPick, answerNumber}
+use Rattle.machine.specs.Among.{Among}
 
 pub data Made {P M : Type 0} (ρ : Rules P M) (r : Machine P M) : ℕ → Machine P M → Type 0 where
   none : Made ρ r 0 r
   more : {k : ℕ} {q : Machine P M} → Made ρ r k q → (a b : ℕ) → IsProcess (q .waits .n) a → IsProcess (q .waits .n) b →
-      (m : M) (rest : List M) → q .link a b ≡ m ∷ rest → accepts ρ q a b m rest ≡ true → Made ρ r (suc k) (after ρ q a b m rest)
+      (m : M) (rest : List M) → Among m rest (q .link a b) → accepts ρ q a b m rest ≡ true → Made ρ r (suc k) (after ρ q a b m rest)
 
 pub data Stopped {P M : Type 0} (ρ : Rules P M) (r : Machine P M) : ℕ → Type 0 where
   went : Stopped ρ r 0
   nothing : Stopped ρ r 24
+  no-place : Stopped ρ r 31
   full : (a b : ℕ) → IsProcess (r .waits .n) a → IsProcess (r .waits .n) b →
-      (m : M) (rest : List M) → r .link a b ≡ m ∷ rest → accepts ρ r a b m rest ≡ false → Stopped ρ r 22
+      (m : M) (rest : List M) → Among m rest (r .link a b) → accepts ρ r a b m rest ≡ false → Stopped ρ r 22
 
--- "Refused because of the state", but for 21 and 22, which no run made by start and deliveries meets
+-- "Refused because of the state", but for 21 and 22, which no run made by start and deliveries meets; and 31 (02, N5)
 pub data Answered : ℕ → Type 0 where
   none-refused : Answered 0
   was-over : Answered 23
   none-waits : Answered 24
   no-link : Answered 25
   not-over : Answered 26
+  beyond : Answered 31
 
 -- a chooser names processes alone
 abbrev pub Finds : {P M : Type 0} → Chooser P M → Type 0
@@ -62,9 +65,9 @@ pub record Sure {P M : Type 0} (ρ : Rules P M) (asked : Reads P M) (I : Machine
   pub sound : (r : Machine P M) → I r → Sound (r .waits)
   pub formed : (r : Machine P M) → I r → wellFormed ρ r ≡ true
   pub accepted : (r : Machine P M) → I r → (a b : ℕ) → IsProcess (r .waits .n) a → IsProcess (r .waits .n) b → (m : M) (rest : List M)
-      → r .link a b ≡ m ∷ rest → accepts ρ r a b m rest ≡ true
+      → Among m rest (r .link a b) → accepts ρ r a b m rest ≡ true
   pub kept : (r : Machine P M) → I r → (a b : ℕ) → IsProcess (r .waits .n) a → IsProcess (r .waits .n) b → (m : M) (rest : List M)
-      → r .link a b ≡ m ∷ rest → accepts ρ r a b m rest ≡ true → I (after ρ r a b m rest)
+      → Among m rest (r .link a b) → accepts ρ r a b m rest ≡ true → I (after ρ r a b m rest)
   pub reports : (r : Machine P M) → I r → Answered (asked .report r)
   pub readings : (r : Machine P M) → I r → (p : ℕ) → Answered (asked .reading r p)
 

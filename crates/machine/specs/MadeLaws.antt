@@ -3,6 +3,7 @@
 --   made-waits, made-start, made-count   == what deliveries keep, and how they count
 --   made-then           == deliveries after deliveries
 --   made-keeps          == what every accepted delivery keeps holds after any number of them
+--   deliver-cut         == a delivery by what is found at its place
 --   deliver-made, pick-made, runFrom-made, runOn-made   == what a call does, as deliveries, and the number that it answers
 --   passed-made         == every list of calls is so many accepted deliveries, and keeps such an invariant; its numbers are Answered
 -- Assumes nothing.
@@ -22,21 +23,25 @@ use Rattle.tables.specs.WaitsLaws.{neighbours-ends}
 use Rattle.machine.specs.declared.Ran.{Ran}
 use Rattle.machine.specs.declared.Ran.the-variants.{Spent}
 use Rattle.machine.specs.Machine.{Machine, Rules, over, wellFormed, after, accepts}
-use Rattle.machine.specs.Calls.{Answer, given, refusal, Picked, refused, delivered, deliver, pick, Selection, nobody, pair, Chooser, RanOn}
-use Rattle.machine.specs.Calls.{goOn, deliverOn, runFrom, runOn, ranNumber, ranMade}
+use Rattle.machine.specs.Calls.{Answer, given, refusal, Picked, refused, Cut, cut, atPlace, delivered, deliver, pick}
+use Rattle.machine.specs.Calls.{Selection, nobody, pair, Chooser, RanOn, goOn, deliverOn, runFrom, runOn, ranNumber, ranMade}
 use Rattle.machine.specs.Lists.{Call, picking, runningOn, reporting, reading, Reads, acceptedPick, answerNumber, inTurn, passedBy}
-use Rattle.machine.specs.Made.{Made, none, more, Stopped, went, nothing, full, Answered, none-refused, was-over, none-waits, no-link, not-over}
+use Rattle.machine.specs.Made.{Made, none, more, Stopped, went, nothing, no-place, full}
+use Rattle.machine.specs.Made.{Answered, none-refused, was-over, none-waits, no-link, not-over, beyond}
 use Rattle.machine.specs.Made.{Finds, PickMade, RunMade, Sure, PassMade}
+use Rattle.machine.specs.Among.{Among, Placed, there, not-there}
+use Rattle.machine.specs.AmongLaws.{atPlace-P, cut-placed}
 
 -- ---- numbers
 
 -- the numbers that a call may answer, in a list
-pub answered-listed : {n : ℕ} → Answered n → List·Memᴰ n (0 ∷ 23 ∷ 24 ∷ 25 ∷ 26 ∷ [])
+pub answered-listed : {n : ℕ} → Answered n → List·Memᴰ n (0 ∷ 23 ∷ 24 ∷ 25 ∷ 26 ∷ 31 ∷ [])
 answered-listed none-refused = List·Memᴰ·head refl
 answered-listed was-over = List·Memᴰ·tail (List·Memᴰ·head refl)
 answered-listed none-waits = List·Memᴰ·tail (List·Memᴰ·tail (List·Memᴰ·head refl))
 answered-listed no-link = List·Memᴰ·tail (List·Memᴰ·tail (List·Memᴰ·tail (List·Memᴰ·head refl)))
 answered-listed not-over = List·Memᴰ·tail (List·Memᴰ·tail (List·Memᴰ·tail (List·Memᴰ·tail (List·Memᴰ·head refl))))
+answered-listed beyond = List·Memᴰ·tail (List·Memᴰ·tail (List·Memᴰ·tail (List·Memᴰ·tail (List·Memᴰ·tail (List·Memᴰ·head refl)))))
 
 -- ---- deliveries
 
@@ -58,7 +63,7 @@ module _ {P M : Type 0} {ρ : Rules P M} {r : Machine P M} where
 
   pub made-keeps :
       (I : Machine P M → Type 0) →
-      ((q : Machine P M) → I q → (a b : ℕ) → IsProcess (q .waits .n) a → IsProcess (q .waits .n) b → (m : M) (rest : List M) → q .link a b ≡ m ∷ rest
+      ((q : Machine P M) → I q → (a b : ℕ) → IsProcess (q .waits .n) a → IsProcess (q .waits .n) b → (m : M) (rest : List M) → Among m rest (q .link a b)
       → accepts ρ q a b m rest ≡ true → I (after ρ q a b m rest)) →
       I r → {k : ℕ} {q : Machine P M} → Made ρ r k q → I q
   made-keeps I step i none = i
@@ -73,36 +78,49 @@ made-then {P} {M} {ρ} {r} {q} {p} {k} {l} x (more {k = j} {q = o} d a b pa pb m
 -- ---- a delivery
 
 module _ {P M : Type 0} (ρ : Rules P M) (r : Machine P M) where
-  pub deliver-made :
-      (a b : ℕ) → IsProcess (r .waits .n) a → IsProcess (r .waits .n) b → (ms : List M) → r .link a b ≡ ms → PickMade ρ r (deliver ρ r a b ms)
-  unfolding deliver delivered
-  deliver-made a b pa pb [] l = record { made = none; stopped = nothing }
-  deliver-made a b pa pb (m ∷ rest) l = at (tested (accepts ρ r a b m rest))
+  -- a delivery by what is found at its place
+  pub deliver-cut : (a b k : ℕ) (ms : List M) {m : M} {rest : List M} → atPlace k ms ≡ cut m rest → deliver ρ r a b k ms ≡ delivered ρ r a b (cut m rest)
+  unfolding deliver
+  deliver-cut a b k [] e = absurd (omega (arith, cut-placed k [] e .1))
+  deliver-cut a b k (x ∷ xs) e = rw e
+
+  -- the delivery of what is found at a place
+  delivered-made :
+      (a b k : ℕ) → IsProcess (r .waits .n) a → IsProcess (r .waits .n) b → {f : Cut M} → Placed k (r .link a b) f → PickMade ρ r (delivered ρ r a b f)
+  unfolding delivered
+  delivered-made a b k pa pb (not-there _) = record { made = none; stopped = no-place }
+  delivered-made a b k pa pb (there {m} {rest} _ _ l) = at (tested (accepts ρ r a b m rest))
     where
       at : Tested (accepts ρ r a b m rest)
           → PickMade ρ r (choose (accepts ρ r a b m rest) (record { answer = given m; run = after ρ r a b m rest }) (refused 22 r))
       at (passed e) = rw e (record { made = more none a b pa pb m rest l e; stopped = went })
       at (failed e) = rw e (record { made = none; stopped = full a b pa pb m rest l e })
 
+  pub deliver-made :
+      (a b k : ℕ) → IsProcess (r .waits .n) a → IsProcess (r .waits .n) b → (ms : List M) → r .link a b ≡ ms → PickMade ρ r (deliver ρ r a b k ms)
+  unfolding deliver
+  deliver-made a b k pa pb [] l = record { made = none; stopped = nothing }
+  deliver-made a b k pa pb (m ∷ ms) l = delivered-made a b k pa pb (rw l (atPlace-P k (m ∷ ms)))
+
   pub deliverOn-made : (c : Selection) → ((a b : ℕ) → c ≡ pair a b → IsProcess (r .waits .n) a × IsProcess (r .waits .n) b) → PickMade ρ r (deliverOn ρ r c)
   unfolding deliverOn
   deliverOn-made nobody h = record { made = none; stopped = nothing }
-  deliverOn-made (pair a b) h = deliver-made a b (h a b refl .0) (h a b refl .1) (r .link a b) refl
+  deliverOn-made (pair a b) h = deliver-made a b 1 (h a b refl .0) (h a b refl .1) (r .link a b) refl
 
   -- a pick of any run: nothing, or one delivery
-  pub pick-made : Sound (r .waits) → (a b : ℕ) → Made ρ r (acceptedPick (pick ρ r a b .answer)) (pick ρ r a b .run)
+  pub pick-made : Sound (r .waits) → (a b k : ℕ) → Made ρ r (acceptedPick (pick ρ r a b k .answer)) (pick ρ r a b k .run)
   unfolding pick
-  pick-made sd a b = at (tested (wellFormed ρ r)) (tested (neighbours (r .waits) a b)) (tested (over ρ r))
+  pick-made sd a b k = at (tested (wellFormed ρ r)) (tested (neighbours (r .waits) a b)) (tested (over ρ r))
     where
       at :
           Tested (wellFormed ρ r) → Tested (neighbours (r .waits) a b) → Tested (over ρ r) →
-          Made ρ r (acceptedPick (pick ρ r a b .answer)) (pick ρ r a b .run)
+          Made ρ r (acceptedPick (pick ρ r a b k .answer)) (pick ρ r a b k .run)
       at (failed f) e o = rw f none
       at (passed f) (failed e) o = rw (f, e) none
       at (passed f) (passed e) (passed o) = rw (f, e, o) none
       at (passed f) (passed e) (failed o) =
           let j = neighbours-ends (r .waits) sd a b e in
-          rw (f, e, o) (deliver-made a b (j .0, j .1) (j .2, j .3) (r .link a b) refl .made)
+          rw (f, e, o) (deliver-made a b k (j .0, j .1) (j .2, j .3) (r .link a b) refl .made)
 
 -- ---- running on
 
@@ -169,6 +187,7 @@ module _ {P M : Type 0} (ρ : Rules P M) (next : Chooser P M) (asked : Reads P M
   stopped-answered : (r : Machine P M) → I r → {n : ℕ} → Stopped ρ r n → Answered n
   stopped-answered r i went = none-refused
   stopped-answered r i nothing = none-waits
+  stopped-answered r i no-place = beyond
   stopped-answered r i (full a b pa pb m rest l e) = absurd (false≢true (sym e ∙ sure .accepted r i a b pa pb m rest l))
 
   single : (x : ℕ) → Answered x → (n : ℕ) → List·Memᴰ n (x ∷ []) → Answered n
@@ -178,23 +197,23 @@ module _ {P M : Type 0} (ρ : Rules P M) (next : Chooser P M) (asked : Reads P M
     made : Made ρ r (acceptedPick (p .answer)) (p .run)
     answered : Answered (answerNumber (p .answer))
 
-  pick-answered : (r : Machine P M) → I r → (a b : ℕ) → PickAnswered r (pick ρ r a b)
+  pick-answered : (r : Machine P M) → I r → (a b k : ℕ) → PickAnswered r (pick ρ r a b k)
   unfolding pick
-  pick-answered r i a b = rw (sure .formed r i) (at (tested (neighbours (r .waits) a b)) (tested (over ρ r)))
+  pick-answered r i a b k = rw (sure .formed r i) (at (tested (neighbours (r .waits) a b)) (tested (over ρ r)))
     where
       at : Tested (neighbours (r .waits) a b) → Tested (over ρ r)
-          → PickAnswered r (choose (not (neighbours (r .waits) a b)) (refused 25 r) (choose (over ρ r) (refused 23 r) (deliver ρ r a b (r .link a b))))
+          → PickAnswered r (choose (not (neighbours (r .waits) a b)) (refused 25 r) (choose (over ρ r) (refused 23 r) (deliver ρ r a b k (r .link a b))))
       at (failed e) o = rw e (record { made = none; answered = no-link })
       at (passed e) (passed o) = rw (e, o) (record { made = none; answered = was-over })
       at (passed e) (failed o) =
           let j = neighbours-ends (r .waits) (sure .sound r i) a b e in
-          let d = deliver-made ρ r a b (j .0, j .1) (j .2, j .3) (r .link a b) refl in
+          let d = deliver-made ρ r a b k (j .0, j .1) (j .2, j .3) (r .link a b) refl in
           rw (e, o) (record { made = d .made; answered = stopped-answered r i (d .stopped) })
 
   call-made : (c : Call) (r : Machine P M) → I r → PassMade ρ r (passedBy ρ next asked c r)
   unfolding runOn
-  call-made (picking a b) r i =
-      let p = pick-answered r i a b in record { made = p .made; answered = single (answerNumber (pick ρ r a b .answer)) (p .answered) }
+  call-made (picking a b k) r i =
+      let p = pick-answered r i a b k in record { made = p .made; answered = single (answerNumber (pick ρ r a b k .answer)) (p .answered) }
   call-made (runningOn k) r i =
       let p : RunMade ρ r 0 (runFrom ρ next k 0 0 r) = runFrom-made ρ next finds k 0 0 r in
       let same : ranMade (runFrom ρ next k 0 0 r .answer) ≡ p .k = omega (arith, p .all) in

@@ -6,7 +6,7 @@
 -- Assumes nothing.
 use Prim.Native.Nat.{ℕ, _+_, _≤_}
 use mathlib.Core.Bool.{_&&_}
-use mathlib.Core.List.{List, _∷_, _++_}
+use mathlib.Core.List.{List, _++_}
 use mathlib.Core.Path.{_≡_, refl, ap, subst, _∙_}
 use native.Mathlib.Omega.{arith}
 use borrow.Author.Tests.{eq-eqb}
@@ -21,16 +21,18 @@ use Rattle.machine.specs.Machine.{Machine, Left, Rules, taken, leftBy, a
 use Rattle.machine.specs.Weights.{weight, spot2, total, sumOf}
 use Rattle.machine.specs.WeightLaws.{weight-append, spot2-at, spot2-off-x, spot2-off-y, sumTo-change, sum-spot}
 use Rattle.machine.specs.Moved.{Moved}
+use Rattle.machine.specs.Among.{Among}
+use Rattle.machine.specs.AmongLaws.{among-weight}
 
 -- ---- the run after a delivery
 
-module _ {P M : Type 0} (r : Machine P M) (a b : ℕ) (m : M) (rest : List M) (l : r .link a b ≡ m ∷ rest) (μ : M → ℕ) (x y : ℕ) where
+module _ {P M : Type 0} (r : Machine P M) (a b : ℕ) (m : M) (rest : List M) (l : Among m rest (r .link a b)) (μ : M → ℕ) (x y : ℕ) where
   taken-weight : weight μ (taken r a b rest x y) + spot2 a b (μ m) x y ≡ weight μ (r .link x y)
   unfolding taken weight
   taken-weight = at (same? x a) (same? y b)
     where
       whole : weight μ rest + μ m ≡ weight μ (r .link a b)
-      whole = rw l (omega arith)
+      whole = omega (arith, among-weight l μ)
 
       at : Same x a → Same y b → weight μ (choose (eqb x a && eqb y b) rest (r .link x y)) + spot2 a b (μ m) x y ≡ weight μ (r .link x y)
       at (same e f) (same e′ f′) = rw (f, f′, e, e′, spot2-at a b (μ m)) whole
@@ -52,7 +54,7 @@ module _ {P M : Type 0} (r : Machine P M) (a b : ℕ) (m : M) (rest : List M) (l
 
 module _ {P M : Type 0} (ρ : Rules P M) where
   pub after-moved :
-      (r : Machine P M) (a b : ℕ) (m : M) (rest : List M) → r .link a b ≡ m ∷ rest →
+      (r : Machine P M) (a b : ℕ) (m : M) (rest : List M) → Among m rest (r .link a b) →
       Moved (r .waits) r a b m (leftBy ρ r a b m) (after ρ r a b m rest)
   unfolding after weight
   after-moved r a b m rest l =
@@ -73,7 +75,7 @@ module _ {P M : Type 0} (ρ : Rules P M) where
       mine (apart e f) = absurd (e refl)
 
       has : (μ : M → ℕ) → μ m ≤ weight μ (r .link a b)
-      has μ = rw l (omega arith)
+      has μ = omega (arith, among-weight l μ)
 
   pub start-at : (w : Waits) (s : ℕ) (Q : P → Type 0) → Q (ρ .first w s) → Q (ρ .idle) → (i : ℕ) → Q (startRun ρ w s .process i)
   unfolding startRun

@@ -27,7 +27,8 @@ use Rattle.machine.specs.Machine.{Machine, Rules}
 use Rattle.machine.specs.Calls.{waiting}
 use Rattle.machine.specs.Weights.{weight, probeBit, ackBit, total, sumOf, heir, heirOf, pending, work}
 use Rattle.machine.specs.WeightLaws.{weight-length, pending-probes, pending-acks}
-use Rattle.machine.specs.Diffusing.{Quota, Near, Diffusing, SomeWaits}
+use Rattle.machine.specs.Lists.{SomeWaits}
+use Rattle.machine.specs.Diffusing.{Quota, Near, Diffusing}
 use Rattle.machine.specs.DiffusingLaws.{between-neighbours}
 
 length-empty : {M : Type 0} (ms : List M) → length ms ≡ 0 → ms ≡ []
@@ -38,14 +39,9 @@ waiting-empty : {M : Type 0} (ms : List M) → waiting ms ≡ false → ms ≡ [
 waiting-empty [] e = refl
 waiting-empty (m ∷ ms) e = absurd (false≢true (sym e))
 
-record Cut {M : Type 0} (ms : List M) : Type 0 where
-  message : M
-  rest : List M
-  is : ms ≡ message ∷ rest
-
-waiting-cut : {M : Type 0} (ms : List M) → waiting ms ≡ true → Cut ms
-waiting-cut [] e = absurd (false≢true e)
-waiting-cut (m ∷ ms) e = record { message = m; rest = ms; is = refl }
+waiting-some : {M : Type 0} (ms : List M) → waiting ms ≡ true → 1 ≤ length ms
+waiting-some [] e = absurd (false≢true e)
+waiting-some (m ∷ ms) e = omega arith
 
 -- ---- the messages on a link
 
@@ -63,9 +59,9 @@ module _ {P M : Type 0} {ρ : Rules P M} {quota : Quota P} {w : Waits} {s : ℕ}
   link-most {a} {b} pa pb =
       omega (arith, weight-length ρ (r .link a b), pending-probes ρ s r a b, df .pair a b pa pb, pending-acks ρ s r b a, df .pair b a pb pa)
 
-  pub link-neighbours : Near quota w → {a b : ℕ} → IsProcess (w .n) a → IsProcess (w .n) b → {m : M} {rest : List M} → r .link a b ≡ m ∷ rest
+  pub link-neighbours : Near quota w → {a b : ℕ} → IsProcess (w .n) a → IsProcess (w .n) b → 1 ≤ length (r .link a b)
       → neighbours w a b ≡ true
-  link-neighbours near {a} {b} pa pb e = between-neighbours near df pa pb (omega (arith, weight-length ρ (r .link a b), ap length e))
+  link-neighbours near {a} {b} pa pb e = between-neighbours near df pa pb (omega (arith, weight-length ρ (r .link a b)))
 
   -- ---- at rest
 
@@ -145,18 +141,6 @@ module _ {P M : Type 0} {ρ : Rules P M} {quota : Quota P} {w : Waits} {s : ℕ}
       row : ℕ → Bool
       row a = anyTo (w .n) (λ b. waiting (r .link a b))
 
-      found : (f : Found (w .n) row) (g : Found (w .n) (λ b. waiting (r .link (f .at) b))) → Cut (r .link (f .at) (g .at)) → SomeWaits w r
-      found f g c =
-          record {
-            sender = f .at;
-            receiver = g .at;
-            sender-in = (f .low, f .high);
-            receiver-in = (g .low, g .high);
-            message = c .message;
-            rest = c .rest;
-            waits = c .is;
-          }
-
       none : anyTo (w .n) row ≡ false → (a b : ℕ) → IsProcess (w .n) a → IsProcess (w .n) b → Tested (waiting (r .link a b)) → r .link a b ≡ []
       none e a b pa pb (passed f) =
           absurd (false≢true (sym e ∙ anyTo-of (w .n) row a (pa .0) (pa .1) (anyTo-of (w .n) (λ b. waiting (r .link a b)) b (pb .0) (pb .1) f)))
@@ -166,7 +150,13 @@ module _ {P M : Type 0} {ρ : Rules P M} {quota : Quota P} {w : Waits} {s : ℕ}
       at (passed e) =
           let f : Found (w .n) row = anyTo-found (w .n) row e in
           let g : Found (w .n) (λ b. waiting (r .link (f .at) b)) = anyTo-found (w .n) (λ b. waiting (r .link (f .at) b)) (f .passes) in
-          found f g (waiting-cut (r .link (f .at) (g .at)) (g .passes))
+          record {
+            sender = f .at;
+            receiver = g .at;
+            sender-in = (f .low, f .high);
+            receiver-in = (g .low, g .high);
+            some = waiting-some (r .link (f .at) (g .at)) (g .passes);
+          }
       at (failed e) = absurd (omega (arith, quiet ps (λ a b pa pb. none e a b pa pb (tested (waiting (r .link a b))))))
 
 pub work-busy : {P M : Type 0} (ρ : Rules P M) (n : ℕ) (r : Machine P M) {i : ℕ} → IsProcess n i → r .count + ρ .num (r .process i) ≤ work ρ n r

@@ -24,38 +24,53 @@ const MIXED: usize = 7;
 // Picks of all links in turn, in rounds.
 const ROUNDS: usize = 8;
 
+// So many orders of the links, in which picks take the oldest message. With so many added once, twice or three times, a number names the
+// same order of the links, but its picks overtake wherever two messages wait (02, N5): on each link they try one place after the other
+// downwards until they take a message, and go on below it now and then.
+const ORDERS: usize = 9;
+// Added once: from place 4 down, so the youngest first.
+const YOUNGEST: usize = 1;
+// Added twice: from place 2 down, so from the middle where more than two wait.
+const SECOND: usize = 2;
+// Added three times: from place 2, 3 or 4 down, as drawn.
+const ANY: usize = 3;
+
 // The steps of the ways around the links: primes over 1,024, so that as many turns as there are links meet each once.
 const STEPS: [usize; 8] = [1031, 1033, 1039, 1049, 1051, 1061, 1063, 1069];
 
 // The calls past the end: fixed ones, then drawn ones.
-const FIXED: usize = 10;
+const FIXED: usize = 14;
 
 const DRAWN: usize = 6;
 
 // Areas of fewer words are small: 600, and sixteen surplus ones.
-const SMALL: usize = 616;
+pub const SMALL: usize = 616;
 
-// What stays the same through a run: N and the order; the first link of the row and the step; after about how many deliveries the order
-// goes back to the first; for how many tries in vain it keeps to its own choice.
+// What stays the same through a run: N, the order of the links and from which places its picks go down; the first link of the row and the step; after
+// about how many deliveries the order goes back to the first; for how many tries in vain it keeps to its own choice.
 pub struct Way {
     pub n: usize,
     pub order: usize,
+    pub places: usize,
     pub first: usize,
     pub step: usize,
     pub back: usize,
     pub patience: usize,
 }
 
-// How a run stands: A of 01; D, as the search found it; the sucs and pres that picks delivered; the last random number; the link tried
-// last, as its place in the list, the receiver of the last delivery by a pick and the tries since; which call past the end is next, 0
-// before the end; the first difference.
+// How a run stands: A of 01; D, as the search found it; the sucs and pres that picks delivered, and how many deliveries overtook; the last
+// random number; the link tried last, as its place in the list, and the place below the one tried there, 0 if no message is known to wait on
+// that link; the receiver of the last delivery by a pick and the tries since; which call past the end is next, 0 before the end; the first
+// difference.
 pub struct Course {
     pub made: u32,
     pub due: u32,
     pub sucs: u32,
     pub pres: u32,
+    pub overtaking: u32,
     pub seed: usize,
     pub link: usize,
+    pub lower: usize,
     pub receiver: usize,
     pub misses: usize,
     pub past: usize,
@@ -69,18 +84,32 @@ pub const RUN_ON: usize = 1;
 
 const READ: usize = 2;
 
-// A call: its kind, the numbers of a pick, the first of which is read, and by how many to run on; the link tried last.
+// A call: its kind, the numbers and the place of a pick, the first number being what a reading reads, and by how many to run on; the link
+// tried last, and whether the order itself picks from it.
 pub struct Call {
     pub kind: usize,
     pub from: usize,
     pub to: usize,
+    pub place: usize,
     pub k: u32,
     pub link: usize,
+    pub own: bool,
+}
+
+// The order that overtakes on the same links, in one of the three ways by a random number; in rounds instead of in pieces.
+pub fn overtaking(order: usize, x: usize) -> usize {
+    let added = ORDERS * (1 + x % 3);
+    let links = order % ORDERS;
+    if links == PIECES {
+        return ROUNDS + added;
+    }
+    links + added
 }
 
 // Whether picks make every delivery of an order.
 pub fn is_by_picks(order: usize) -> bool {
-    match order {
+    let links = order % ORDERS;
+    match links {
         AT_ONCE | PIECES | MIXED => false,
         _ => true,
     }
@@ -99,11 +128,12 @@ fn patience(order: usize, links: usize) -> usize {
 pub fn way_of(list: &[u16], n: usize, order: usize, x: usize) -> Way {
     Way {
         n,
-        order,
+        order: order % ORDERS,
+        places: order / ORDERS,
         first: x / 8,
         step: STEPS[x % 8],
         back: 1 + list.len() / 32 * 2,
-        patience: patience(order, list.len()),
+        patience: patience(order % ORDERS, list.len()),
     }
 }
 
@@ -203,13 +233,25 @@ fn portion(order: usize, x: usize) -> u32 {
     }
 }
 
-fn pick(from: usize, to: usize, link: usize) -> Call {
+// The place that is tried first on a link.
+fn highest(places: usize, x: usize) -> usize {
+    match places {
+        YOUNGEST => 4,
+        SECOND => 2,
+        ANY => 2 + x % 3,
+        _ => 1,
+    }
+}
+
+fn pick(from: usize, to: usize, place: usize, link: usize) -> Call {
     Call {
         kind: PICK,
         from,
         to,
+        place,
         k: 0,
         link,
+        own: false,
     }
 }
 
@@ -218,8 +260,10 @@ fn run_on(k: u32, link: usize) -> Call {
         kind: RUN_ON,
         from: 0,
         to: 0,
+        place: 0,
         k,
         link,
+        own: false,
     }
 }
 
@@ -228,36 +272,61 @@ fn read(p: usize, link: usize) -> Call {
         kind: READ,
         from: p,
         to: 0,
+        place: 0,
         k: 0,
         link,
+        own: false,
     }
+}
+
+// The order's own pick from link l.
+fn own_pick(list: &[u16], l: usize, place: usize) -> Call {
+    let mut call = pick(graphs::entry(list, l), receiver(list, l), place, l);
+    call.own = true;
+    call
 }
 
 // The order's own call.
 fn own_call(list: &[u16], way: Way, c: Course) -> Call {
     let x = c.seed / 64;
+    if c.lower > 0 && (c.misses > 0 || x % 2 == 0) {
+        return own_pick(list, c.link, c.lower);
+    }
     if is_running(way.order, x) {
         return run_on(portion(way.order, x), c.link);
     }
-    let link = next_link(list, way, c);
-    pick(graphs::entry(list, link), receiver(list, link), link)
+    own_pick(list, next_link(list, way, c), highest(way.places, x))
+}
+
+// A place by a random number: from 0 to 5, or far beyond; cut to 8 or 32 bits two of these would be 1.
+fn any_place(x: usize) -> usize {
+    let place = x % 9;
+    match place {
+        6 => 257,
+        7 => 4294967297,
+        8 => usize::MAX,
+        _ => place,
+    }
 }
 
 // Another call, on any numbers from 0 to N + 1: a pick, a reading, or running on by nothing.
 fn other_call(n: usize, c: Course) -> Call {
     let x = numbers::next(c.seed);
+    let y = numbers::next(x);
     let bound = numbers::more(numbers::more(n));
     Call {
         kind: x % 3,
         from: numbers::below(x / 3, bound),
-        to: numbers::below(numbers::next(x), bound),
+        to: numbers::below(y, bound),
+        place: any_place(numbers::next(y)),
         k: 0,
         link: c.link,
+        own: false,
     }
 }
 
-// The calls past the end that come up in every run: running on, picks along the list's first wait, against it and of no link, readings of
-// no process.
+// The calls past the end that come up in every run: running on, picks along the list's first wait, against it and of no link, also at
+// places that no message has, readings of no process.
 fn fixed_call(list: &[u16], n: usize, c: Course) -> Call {
     let p = graphs::entry(list, 0);
     let q = graphs::entry(list, 1);
@@ -265,18 +334,23 @@ fn fixed_call(list: &[u16], n: usize, c: Course) -> Call {
     match number {
         1 => run_on(0, c.link),
         2 => run_on(5, c.link),
-        3 => pick(p, q, c.link),
-        4 => pick(q, p, c.link),
-        5 => pick(0, p, c.link),
-        6 => pick(p, numbers::more(n), c.link),
-        7 => pick(p, 129, c.link),
+        3 => pick(p, q, 1, c.link),
+        4 => pick(q, p, 1, c.link),
+        5 => pick(0, p, 1, c.link),
+        6 => pick(p, numbers::more(n), 1, c.link),
+        7 => pick(p, 129, 1, c.link),
         8 => read(0, c.link),
         9 => read(numbers::more(n), c.link),
+        10 => pick(p, q, 0, c.link),
+        11 => pick(q, p, 5, c.link),
+        12 => pick(0, p, 0, c.link),
+        13 => pick(p, 129, usize::MAX, c.link),
         _ => read(129, c.link),
     }
 }
 
-// The next call: the order's own, but for one in sixteen before the end. After it ten fixed ones, then every second one the order's own.
+// The next call: the order's own, but for one in sixteen before the end, though not on the way down a link. After the end the fixed ones,
+// then every second one the order's own.
 pub fn next_call(list: &[u16], way: Way, c: Course) -> Call {
     if 0 < c.past && c.past <= FIXED {
         return fixed_call(list, way.n, c);
@@ -284,7 +358,7 @@ pub fn next_call(list: &[u16], way: Way, c: Course) -> Call {
     if c.past > 0 && c.seed % 2 == 1 {
         return other_call(way.n, c);
     }
-    if c.seed % 16 == 5 {
+    if c.seed % 16 == 5 && c.lower == 0 {
         return other_call(way.n, c);
     }
     own_call(list, way, c)
@@ -301,6 +375,9 @@ pub fn drawn(c: Course) -> Course {
 pub fn chosen(call: Call, c: Course) -> Course {
     let mut d = c;
     d.link = call.link;
+    if call.link != c.link {
+        d.lower = 0;
+    }
     if c.past > 0 {
         d.past = numbers::more(c.past);
     }
@@ -314,7 +391,8 @@ pub fn past_end(c: Course) -> Course {
     d
 }
 
-// Whether so many tries in vain were made that no link can hold a message: each order comes to meet every link in turn.
+// Whether so many tries in vain were made that no link can hold a message: each order comes to meet every link in turn, and on a link that
+// holds a message at most three tries are in vain.
 fn is_still(list: &[u16], c: Course) -> bool {
     c.misses > 64 && c.misses / 4 > list.len()
 }
@@ -338,4 +416,17 @@ pub fn is_watched(words: usize, c: Course) -> bool {
         return x % 8 == 0;
     }
     x % 64 == 0
+}
+
+// Whether the messages on the link of a pick are looked at before and after it, in an area of so many words: now and then in small areas,
+// before the end. Not those on a process's link to itself: it may send itself more while they are taken.
+pub fn is_looked_into(words: usize, call: Call, c: Course) -> bool {
+    if call.kind != PICK || call.from == call.to || c.past > 0 || words >= SMALL {
+        return false;
+    }
+    let x = numbers::next(c.seed / 2);
+    if call.place == 1 {
+        return x % 16 == 0;
+    }
+    x % 4 == 0
 }

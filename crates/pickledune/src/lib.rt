@@ -82,21 +82,22 @@ pub extern "C" fn pickledune_start(table: &[u8], start: usize, area: &mut [i32])
     check_values::started_number(starting::start(table, start, area))
 }
 
-// Delivers the oldest message on one link: its kind and count. 21, 25, 23, 24, 22.
+// Delivers the message at a place of one link, 1 for the oldest: its kind and count. 21, 25, 23, 24, 31, 22.
 #[no_mangle]
 pub extern "C" fn pickledune_pick(
     area: &mut [i32],
     from: usize,
     to: usize,
+    place: usize,
     kind: &mut u32,
     count: &mut i32,
 ) -> u32
-    ensures number { λ r. ⌜ r ≡ deliveryNumber (pickAnswer (now (area .entry)) from to) ⌝ }
-    ensures kind { λ _. ⌜ now (kind .exit) ≡ deliveryKind (pickAnswer (now (area .entry)) from to) ⌝ }
-    ensures count { λ _. ⌜ now (count .exit) ≡ deliveryCount (pickAnswer (now (area .entry)) from to) ⌝ }
-    ensures area { λ _. ⌜ now (area .exit) ≡ pickArea (now (area .entry)) from to ⌝ }
+    ensures number { λ r. ⌜ r ≡ deliveryNumber (pickAnswer (now (area .entry)) from to place) ⌝ }
+    ensures kind { λ _. ⌜ now (kind .exit) ≡ deliveryKind (pickAnswer (now (area .entry)) from to place) ⌝ }
+    ensures count { λ _. ⌜ now (count .exit) ≡ deliveryCount (pickAnswer (now (area .entry)) from to place) ⌝ }
+    ensures area { λ _. ⌜ now (area .exit) ≡ pickArea (now (area .entry)) from to place ⌝ }
 {
-    let v = check_values::delivery_values(picking::pick(area, from, to));
+    let v = check_values::delivery_values(picking::pick(area, from, to, place));
     *kind = v.kind;
     let carried = v.count;
     *count = carried;

@@ -14,10 +14,10 @@ use Rattle.checks.specs.Run.{knot}
 use Rattle.area_calls.specs.AreaCalls.{areaPassed}
 use Rattle.inputs.specs.Input.{picksIn, pickFrom, pickTo, begunNumber, begunArea}
 
--- k picks from pick j on, counted from 0
+-- k picks from pick j on, counted from 0; 02, N5: "Program picks keep their form and mean place 1"
 unfoldable pub picksOn : List ℕ → ℕ → ℕ → List Call
 picksOn bs j zero = []
-picksOn bs j (suc k) = picking (pickFrom bs j) (pickTo bs j) ∷ picksOn bs (suc j) k
+picksOn bs j (suc k) = picking (pickFrom bs j) (pickTo bs j) 1 ∷ picksOn bs (suc j) k
 
 -- "then picks (from, to, 16 bits each)"
 abbrev pub pickCalls : List ℕ → List Call

@@ -15,6 +15,7 @@ use choosing::ChosenDelivery;
 use choosing::parts;
 use inputs::Begun;
 use lenses::heading;
+use lenses::links;
 use lenses::records;
 use runs::picking;
 use steps::Message;
@@ -64,7 +65,7 @@ fn number_of(answer: Delivery) -> u32
     }
 }
 
-// One pick: "A refused pick prints its number and the program goes on."
+// One pick, of the oldest message: "A refused pick prints its number and the program goes on."
 fn print_pick(
     area: &mut [i32],
     square: &[u16; tables::SQUARE_SIZE],
@@ -74,10 +75,18 @@ fn print_pick(
     to: u32,
 )
     requires { ⌜ Ready (now area) (now square) n m ⌝ }
-    ensures { λ _. ⌜ now (area .exit) ≡ pickArea (now (area .entry)) from to ⌝ }
+    ensures { λ _. ⌜ now (area .exit) ≡ pickArea (now (area .entry)) from to 1 ⌝ }
     ensures { λ _. ⌜ Ready (now (area .exit)) (now (square .entry)) n m ⌝ }
 {
-    let answer = picking::pick_in(area, square, n, m, from as usize, to as usize);
+    let answer = picking::pick_in(
+        area,
+        square,
+        n,
+        m,
+        from as usize,
+        to as usize,
+        links::OLDEST,
+    );
     let Delivery::Delivered(message) = answer else {
         print_refused_pick(from, to, number_of(answer));
         return;

@@ -11,8 +11,8 @@ use Rattle.lenses.specs.ReadyLaws.{right-storable, ready-kept}
 use Rattle.delivery.specs.StorableLaws.{storable-pick}
 use Rattle.area_calls.specs.AreaCalls.{pickArea}
 
-pub pick-ready : {w : List ℤ} {sq : List ℕ} {n m : ℕ} → Ready w sq n m → (a b : ℕ) → Ready (pickArea w a b) sq n m
+pub pick-ready : {w : List ℤ} {sq : List ℕ} {n m : ℕ} → Ready w sq n m → (a b k : ℕ) → Ready (pickArea w a b k) sq n m
 unfolding pickArea
-pick-ready {w} {sq} {n} {m} y a b =
+pick-ready {w} {sq} {n} {m} y a b k =
     let e = y .right in
-    rw e (ready-kept w e (pick (runIn w) a b .run) (storable-pick (fieldsIn w) (runIn w) (right-storable w e) a b) sq n m y)
+    rw e (ready-kept w e (pick (runIn w) a b k .run) (storable-pick (fieldsIn w) (runIn w) (right-storable w e) a b k) sq n m y)

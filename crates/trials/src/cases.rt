@@ -8,13 +8,15 @@ use expecting::starts;
 use ordering::Course;
 use table_writer::Writing;
 
-// What a family adds up to: its cases, how many of them the search finds to be knots, the runs and their deliveries; the last random
-// number. The case at hand: N, the start and how many runs it is to have; order, A, D and difference of the last run.
+// What a family adds up to: its cases, how many of them the search finds to be knots, the runs, their deliveries and how many of these
+// overtook; the last random number. The case at hand: N, the start and how many runs it is to have; order, A, D and difference of the
+// last run.
 pub struct Tally {
     pub cases: u64,
     pub knots: u64,
     pub runs: u64,
     pub deliveries: u64,
+    pub overtaking: u64,
     pub seed: usize,
     pub n: usize,
     pub start: usize,
@@ -31,6 +33,7 @@ pub fn begun(seed: usize) -> Tally {
         knots: 0,
         runs: 0,
         deliveries: 0,
+        overtaking: 0,
         seed,
         n: 0,
         start: 0,
@@ -62,6 +65,7 @@ fn added(t: Tally, order: usize, c: Course) -> Tally {
     let mut u = t;
     u.runs = numbers::total(t.runs, 1);
     u.deliveries = numbers::total(t.deliveries, c.made as u64);
+    u.overtaking = numbers::total(t.overtaking, c.overtaking as u64);
     u.seed = numbers::next(t.seed);
     u.order = order;
     u.made = c.made;
@@ -70,12 +74,17 @@ fn added(t: Tally, order: usize, c: Course) -> Tally {
     u
 }
 
-// The order of run k + 1 of a case: first the fixed order at once, then the others in turn, beginning at another one in each case.
-fn order_of(k: usize, cases: u64) -> usize {
+// The order of run k + 1 of a case: first the fixed order at once, then the others in turn, beginning at another one in each case. The last
+// run overtakes (02, N5).
+fn order_of(k: usize, t: Tally) -> usize {
     if k == 0 {
         return ordering::AT_ONCE;
     }
-    1 + (k % 8 + (cases % 8) as usize) % 8
+    let order = 1 + (k % 8 + (t.cases % 8) as usize) % 8;
+    if numbers::more(k) == t.count {
+        return ordering::overtaking(order, t.seed);
+    }
+    order
 }
 
 // Run k + 1 of a case.
@@ -88,7 +97,7 @@ fn one_run(
     k: usize,
     t: Tally,
 ) -> Tally {
-    let order = order_of(k, t.cases);
+    let order = order_of(k, t);
     added(
         t,
         order,

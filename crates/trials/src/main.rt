@@ -3,6 +3,8 @@
 //
 // A case is a wait graph and a start. Its table is written by the library and read by the search, from the bytes. It is run in the fixed
 // order and in many other orders by picks (the crate `comparing`), with refused picks, readings and runnings on by nothing among them.
+// The last run of each case overtakes: its picks take younger messages first wherever two wait on a link (02, N5), and the line of a family
+// says how many deliveries did. In small areas the messages on a link are looked at, in a copy, before and after some picks.
 // Before each run the starts that are to be refused are. After every delivery a report is refused exactly while fewer than D were made. At
 // the end the report and every record are compared with the search; then come fixed and drawn calls past the end, which are refused or
 // make nothing, and the end is compared again. No call that delivers nothing changes a word or what a report says (looked at after each
@@ -32,6 +34,7 @@ fn print_tally(f: Family, t: Tally) {
     print_number(b", knots ", t.knots);
     print_number(b", runs ", t.runs);
     print_number(b", deliveries ", t.deliveries);
+    print_number(b", overtaking ", t.overtaking);
     print(b"\n");
 }
 

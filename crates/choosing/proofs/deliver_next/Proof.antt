@@ -18,6 +18,14 @@ prepare-requires c κs =
     let s = h .before .before .before in
     link-asks (s .pre .0) (s .pre .1) (h .choose .ensures) (k .before .from .given .1)
 
+returns-2 : tie.Need-returns-2
+returns-2 c =
+    let d = c .before .before .before in
+    let k = d .before .before in
+    let h = k .before .before .before in
+    let s = h .before .before .before in
+    left-refused (s .pre .0) (s .pre .1) (h .choose .ensures) (k .before .from .given .1) (d .prepare .ensures) (c .before .number .given .1)
+
 note-requires : tie.Need-note-requires
 note-requires c κs =
     let g = c .before .before in
@@ -35,14 +43,6 @@ carry-out-requires c κs =
     let h = k .before .before .before in
     let s = h .before .before .before in
     carry-asks (s .pre .0) (s .pre .1) (h .choose .ensures) (k .before .from .given .1) (d .prepare .ensures) (g .message .given .1)
-
-returns-2 : tie.Need-returns-2
-returns-2 c =
-    let d = c .before .before .before in
-    let k = d .before .before in
-    let h = k .before .before .before in
-    let s = h .before .before .before in
-    left-refused (s .pre .0) (s .pre .1) (h .choose .ensures) (k .before .from .given .1) (d .prepare .ensures) (c .before .number .given .1)
 
 returns-3 : tie.Need-returns-3
 returns-3 c =

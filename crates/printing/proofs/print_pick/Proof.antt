@@ -12,15 +12,15 @@ use Rattle.runs.proofs.Kept.{pick-ready}
 use Rattle.printing.proofs.print_pick.Statement.{statement}
 use Rattle.printing.proofs.print_pick.Tie as tie
 
-picked-ready : {w : List ℤ} {sq : List ℕ} {n m : ℕ} → Ready w sq n m → (a b : ℕ) {v : List ℤ} → v ≡ pickArea w a b → Ready v sq n m
-picked-ready y a b e = rw e (pick-ready y a b)
+picked-ready : {w : List ℤ} {sq : List ℕ} {n m : ℕ} → Ready w sq n m → (a b k : ℕ) {v : List ℤ} → v ≡ pickArea w a b k → Ready v sq n m
+picked-ready y a b k e = rw e (pick-ready y a b k)
 
 picked : (d : tie.After-pick-in) → let s = d .before .before in
-    (d .pick-in .last .0 ≡ pickArea (now (s .args .area)) (s .args .from) (s .args .to)) ×
+    (d .pick-in .last .0 ≡ pickArea (now (s .args .area)) (s .args .from) (s .args .to) 1) ×
     Ready (d .pick-in .last .0) (now (s .args .square)) (s .args .n) (s .args .m)
 picked d =
     let s = d .before .before in
-    (d .pick-in .ensures .1, picked-ready (s .pre) (s .args .from) (s .args .to) (d .pick-in .ensures .1))
+    (d .pick-in .ensures .1, picked-ready (s .pre) (s .args .from) (s .args .to) 1 (d .pick-in .ensures .1))
 
 returns : tie.Need-returns
 returns c = picked (c .before .before .before .before .before)

@@ -26,7 +26,7 @@ module _ (bs : List ℕ) (picks : ℕ) (w : List ℤ) where
 
   module _ (j : ℕ) (v : List ℤ) (r : Rest bs picks w j v) where
     -- pick j is made
-    rest-next : j < picks → (p : Pick) → p ≡ pickIn bs j → (u : List ℤ) → u ≡ pickArea v (p .from) (p .to) → Rest bs picks w (j + 1) u
+    rest-next : j < picks → (p : Pick) → p ≡ pickIn bs j → (u : List ℤ) → u ≡ pickArea v (p .from) (p .to) 1 → Rest bs picks w (j + 1) u
     unfolding picksOn inTurn pickIn
     rest-next h p e u f =
         let more : picks - j ≡ suc (picks - (j + 1)) = omega arith in

@@ -29,7 +29,7 @@ pub struct Input {
     words: usize,
     /// The area that a start leaves.
     started: Vec<i32>,
-    /// The picks that make the whole check in the fixed order.
+    /// The picks, each at place 1, that make the whole check in the fixed order.
     picks: Vec<(usize, usize)>,
 }
 
@@ -117,11 +117,11 @@ fn pick(input: &Input) -> Timed<'_> {
     let middle = input.picks.len() / 2;
     let mut before = input.started.clone();
     for &(from, to) in &input.picks[..middle] {
-        plain::pick(&mut before, from, to).expect("the picks are right");
+        plain::pick(&mut before, from, to, 1).expect("the picks are right");
     }
     timed(PICK, input, before, 16, move |library, _, area| {
         for &(from, to) in &input.picks[middle..middle + 16] {
-            expect(library.pick(area, from, to).number);
+            expect(library.pick(area, from, to, 1).number);
         }
     })
 }
@@ -136,7 +136,7 @@ fn whole(input: &Input) -> Timed<'_> {
 fn picks(input: &Input) -> Timed<'_> {
     timed(PICKS, input, input.started.clone(), 1, |library, _, area| {
         for &(from, to) in &input.picks {
-            expect(library.pick(area, from, to).number);
+            expect(library.pick(area, from, to, 1).number);
         }
     })
 }

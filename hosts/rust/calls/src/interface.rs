@@ -116,10 +116,18 @@ impl Calls for Proved {
         Answer::new(number, [])
     }
 
-    fn pick(&self, area: &mut [i32], from: usize, to: usize) -> Answer {
+    fn pick(&self, area: &mut [i32], from: usize, to: usize, place: usize) -> Answer {
         let (mut kind, mut count) = (Slot::unset(), Slot::unset());
         let number = unsafe {
-            pickledune_pick(area.as_mut_ptr(), area.len(), from, to, kind.place(), count.place())
+            pickledune_pick(
+                area.as_mut_ptr(),
+                area.len(),
+                from,
+                to,
+                place,
+                kind.place(),
+                count.place(),
+            )
         };
         Answer::new(number, [kind.get(), count.get()])
     }

@@ -61,7 +61,7 @@ pub trait Calls {
     fn next(&self, table: &mut [u8], chain: u32, arc: usize) -> Answer;
     fn start(&self, table: &mut [u8], start: usize, area: &mut [i32]) -> Answer;
     /// kind, count
-    fn pick(&self, area: &mut [i32], from: usize, to: usize) -> Answer;
+    fn pick(&self, area: &mut [i32], from: usize, to: usize, place: usize) -> Answer;
     /// over, made
     fn run_on(&self, area: &mut [i32], k: u32) -> Answer;
     /// deliveries, knot, outside, escape, returned

@@ -56,8 +56,8 @@ impl Calls for Plain {
         answer(plain::start(table, start, area), |()| [])
     }
 
-    fn pick(&self, area: &mut [i32], from: usize, to: usize) -> Answer {
-        answer(plain::pick(area, from, to), |message| match message {
+    fn pick(&self, area: &mut [i32], from: usize, to: usize, place: usize) -> Answer {
+        answer(plain::pick(area, from, to, place), |message| match message {
             Message::Suc => [1, 0],
             Message::Pre => [2, 0],
             Message::Ack(count) => [3, count.into()],

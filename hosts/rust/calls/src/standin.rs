@@ -80,10 +80,11 @@ unsafe extern "C" fn pickledune_pick(
     area_len: usize,
     from: usize,
     to: usize,
+    place: usize,
     kind: *mut u32,
     count: *mut i32,
 ) -> u32 {
-    give!(Plain.pick(from_raw_parts_mut(area, area_len), from, to), kind, count)
+    give!(Plain.pick(from_raw_parts_mut(area, area_len), from, to, place), kind, count)
 }
 
 #[no_mangle]

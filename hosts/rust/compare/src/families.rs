@@ -3,14 +3,14 @@
 
 use crate::driver::{Call, Driver, Lent, Outcome};
 use crate::graphs::{Graph, Scale, WaysOut, MOST_ARCS, MOST_PROCESSES};
-use crate::layout::{draw_area, draw_count, draw_num, links, Link};
+use crate::layout::{draw_area, draw_count, draw_num, links, Link, MOST_WAITING};
 use crate::rng::Rng;
 use calls::{Calls, LentRecord, Received};
 
 type Family<L> = fn(&mut Driver<L>, &mut Rng, u64) -> Outcome<()>;
 
 /// Every family with its name and the least number of calls in a whole comparison.
-pub fn families<L: Calls>() -> [(&'static str, u64, Family<L>); 12] {
+pub fn families<L: Calls>() -> [(&'static str, u64, Family<L>); 13] {
     [
         ("valid tables", 150_000, valid_tables),
         ("damaged tables", 200_000, damaged_tables),
@@ -24,6 +24,7 @@ pub fn families<L: Calls>() -> [(&'static str, u64, Family<L>); 12] {
         ("any words", 40_000, any_words),
         ("one process's step", 200_000, steps),
         ("ways out, the lowest reached last", 50_000, ways_out),
+        ("every place on a link", 150_000, places),
     ]
 }
 
@@ -44,6 +45,11 @@ fn any_number(rng: &mut Rng, high: usize) -> usize {
         3 => (1 << 32) + rng.below(high + 2),
         _ => rng.below(high + 2),
     }
+}
+
+/// A place on a link: mostly 0 to 5, at times far out.
+fn any_place(rng: &mut Rng) -> usize {
+    any_number(rng, MOST_WAITING)
 }
 
 fn any_k(rng: &mut Rng) -> u32 {
@@ -266,7 +272,13 @@ fn begin<L: Calls>(
     Ok((lent, links(graph)))
 }
 
-/// How an order prefers messages.
+/// How an order prefers messages, and from which places of their links it takes them.
+#[derive(Clone, Copy)]
+struct Order {
+    taste: Taste,
+    places: Places,
+}
+
 #[derive(Clone, Copy)]
 enum Taste {
     Any,
@@ -275,47 +287,77 @@ enum Taste {
     Last,
 }
 
-/// A link with a message, as the taste has it.
-fn choose_link(rng: &mut Rng, taste: Taste, links: &[Link], area: &[i32]) -> Option<Link> {
-    let mut best: Option<(i32, Link)> = None;
-    let offset = rng.below(links.len().max(1));
-    for place in 0..links.len() {
-        let link = links[(place + offset) % links.len()];
-        let message = area[link.place];
-        let worth = match taste {
-            _ if message == 0 => continue,
-            Taste::Any => rng.word(),
-            Taste::Probes => i32::from(message <= 2),
-            Taste::Acknowledgements => i32::from(message > 2),
-            Taste::Last => (link.from * 256 + link.to) as i32,
+#[derive(Clone, Copy)]
+enum Places {
+    /// Links keep order.
+    Oldest,
+    Newest,
+    All,
+}
+
+/// A waiting message, as the order has it: its link and its place there.
+fn choose_message(
+    rng: &mut Rng,
+    order: Order,
+    links: &[Link],
+    area: &[i32],
+) -> Option<(Link, usize)> {
+    let mut best: Option<((i32, i32), Link, usize)> = None;
+    for &link in links {
+        let load = link.load(area);
+        let places = match order.places {
+            Places::Oldest => 1..=load.min(1),
+            Places::Newest => load.max(1)..=load,
+            Places::All => 1..=load,
         };
-        if best.is_none_or(|(other, _)| worth > other) {
-            best = Some((worth, link));
+        for place in places {
+            let message = area[link.place + place - 1];
+            let worth = match order.taste {
+                Taste::Any => 0,
+                Taste::Probes => i32::from(message <= 2),
+                Taste::Acknowledgements => i32::from(message > 2),
+                Taste::Last => (link.from * 256 + link.to) as i32,
+            };
+            // Among equals a drawn one.
+            let worth = (worth, rng.word());
+            if best.is_none_or(|(other, ..)| worth > other) {
+                best = Some((worth, link, place));
+            }
         }
     }
-    best.map(|(_, link)| link)
+    best.map(|(_, link, place)| (link, place))
+}
+
+fn pick(link: Link, place: usize) -> Call {
+    Call::Pick { from: link.from, to: link.to, place }
+}
+
+/// A pick between any two processes, at any place.
+fn stray_pick(rng: &mut Rng, n: usize) -> Call {
+    Call::Pick { from: any_number(rng, n), to: any_number(rng, n), place: any_place(rng) }
 }
 
 /// A drawn call on an area: mostly a pick of a waiting message.
-fn draw_call(rng: &mut Rng, taste: Taste, n: usize, links: &[Link], area: &[i32]) -> Call {
+fn draw_call(rng: &mut Rng, order: Order, n: usize, links: &[Link], area: &[i32]) -> Call {
     match rng.below(24) {
         0 => Call::Report,
         1 => Call::ReadRecord { process: any_number(rng, n) },
-        2 => Call::Pick { from: any_number(rng, n), to: any_number(rng, n) },
+        2 => stray_pick(rng, n),
         3 => Call::RunOn { k: rng.below(4) as u32 },
-        4 if !links.is_empty() => {
-            let link = rng.choose(links);
-            Call::Pick { from: link.from, to: link.to }
-        }
-        _ => match choose_link(rng, taste, links, area) {
-            Some(link) => Call::Pick { from: link.from, to: link.to },
+        4 if !links.is_empty() => pick(rng.choose(links), any_place(rng)),
+        _ => match choose_message(rng, order, links, area) {
+            Some((link, place)) => pick(link, place),
             None => Call::RunOn { k: any_k(rng) },
         },
     }
 }
 
-fn any_taste(rng: &mut Rng) -> Taste {
-    rng.choose(&[Taste::Any, Taste::Any, Taste::Probes, Taste::Acknowledgements, Taste::Last])
+const ANY_ORDER: Order = Order { taste: Taste::Any, places: Places::All };
+
+fn any_order(rng: &mut Rng) -> Order {
+    let tastes = [Taste::Any, Taste::Any, Taste::Probes, Taste::Acknowledgements, Taste::Last];
+    let places = [Places::All, Places::All, Places::Newest, Places::Oldest];
+    Order { taste: rng.choose(&tastes), places: rng.choose(&places) }
 }
 
 fn valid_areas<L: Calls>(driver: &mut Driver<L>, rng: &mut Rng, least: u64) -> Outcome<()> {
@@ -336,8 +378,9 @@ fn ways_out<L: Calls>(driver: &mut Driver<L>, rng: &mut Rng, least: u64) -> Outc
     Ok(())
 }
 
-/// A check from start to end, first by these picks and then in a drawn order; its end is held
-/// against a graph search too.
+/// A check from start to end, first by these picks and then in a drawn order, in which messages
+/// overtake each other unless it takes the oldest only (02, N5); its end is held against a graph
+/// search too.
 fn check_whole<L: Calls>(
     driver: &mut Driver<L>,
     rng: &mut Rng,
@@ -347,15 +390,15 @@ fn check_whole<L: Calls>(
 ) -> Outcome<()> {
     let (mut lent, links) = begin(driver, rng, graph, start)?;
     for &(from, to) in picks {
-        driver.make(Call::Pick { from, to }, &mut lent)?;
+        driver.make(Call::Pick { from, to, place: 1 }, &mut lent)?;
     }
-    let taste = any_taste(rng);
+    let order = any_order(rng);
     let patience = rng.choose(&[5, 50, 3000]);
     for _ in 0..patience {
-        if !links.iter().any(|link| link.waits(&lent.area)) {
+        if links.iter().all(|link| link.load(&lent.area) == 0) {
             break;
         }
-        let call = draw_call(rng, taste, graph.n, &links, &lent.area);
+        let call = draw_call(rng, order, graph.n, &links, &lent.area);
         driver.make(call, &mut lent)?;
     }
     driver.make(Call::RunOn { k: u32::MAX }, &mut lent)?;
@@ -363,8 +406,7 @@ fn check_whole<L: Calls>(
         driver.make(Call::RunOn { k }, &mut lent)?;
     }
     if !links.is_empty() {
-        let link = rng.choose(&links);
-        driver.make(Call::Pick { from: link.from, to: link.to }, &mut lent)?;
+        driver.make(pick(rng.choose(&links), any_place(rng)), &mut lent)?;
     }
     hold_against_search(driver, graph, start, &mut lent)
 }
@@ -453,14 +495,15 @@ fn every_call<L: Calls>(
     lent: &mut Lent,
 ) -> Outcome<()> {
     let before = lent.area.clone();
-    let links_inside = links.iter().all(|link| link.place < before.len());
+    let links_inside = links.iter().all(|link| link.place + MOST_WAITING <= before.len());
     let waiting = match links_inside {
-        true => choose_link(rng, Taste::Any, links, &before),
+        true => choose_message(rng, ANY_ORDER, links, &before),
         false => None,
     };
     let pick = match waiting {
-        Some(link) => Call::Pick { from: link.from, to: link.to },
-        None => Call::Pick { from: any_number(rng, n), to: any_number(rng, n) },
+        Some((link, _)) if rng.one_in(8) => pick(link, any_place(rng)),
+        Some((link, place)) => pick(link, place),
+        None => stray_pick(rng, n),
     };
     let record = Call::ReadRecord { process: any_number(rng, n) };
     for call in [Call::Report, record, Call::RunOn { k: any_k(rng) }, pick] {
@@ -478,10 +521,10 @@ fn area_of_a_run<L: Calls>(
 ) -> Outcome<(Lent, Vec<Link>)> {
     let start = rng.within(1, graph.n);
     let (mut lent, links) = begin(driver, rng, graph, start)?;
-    let taste = any_taste(rng);
+    let order = any_order(rng);
     for _ in 0..rng.choose(&[0, 1, 3, 8, 20]) {
-        let Some(link) = choose_link(rng, taste, &links, &lent.area) else { break };
-        driver.make(Call::Pick { from: link.from, to: link.to }, &mut lent)?;
+        let Some((link, place)) = choose_message(rng, order, &links, &lent.area) else { break };
+        driver.make(pick(link, place), &mut lent)?;
     }
     if rng.one_in(6) {
         driver.make(Call::RunOn { k: u32::MAX }, &mut lent)?;
@@ -516,22 +559,76 @@ fn damaged_areas<L: Calls>(driver: &mut Driver<L>, rng: &mut Rng, least: u64) ->
     Ok(())
 }
 
+/// A well-formed area of drawn values, with surplus words at times.
+fn unreached_area(rng: &mut Rng, graph: &Graph) -> (Lent, Vec<Link>) {
+    let table = graph.table(rng);
+    let links = links(graph);
+    let mut area = draw_area(rng, graph, &table, &links);
+    let surplus = rng.choose(&[0, 0, 2, 9]);
+    area.extend(noise_words(rng, surplus));
+    (Lent { area, ..Lent::default() }, links)
+}
+
 fn unreached_areas<L: Calls>(driver: &mut Driver<L>, rng: &mut Rng, least: u64) -> Outcome<()> {
     while driver.calls_in_family() < least {
         let graph = Graph::any(rng);
-        let table = graph.table(rng);
-        let links = links(&graph);
-        let mut area = draw_area(rng, &graph, &table, &links);
-        let surplus = rng.choose(&[0, 0, 2, 9]);
-        area.extend(noise_words(rng, surplus));
-        let mut lent = Lent { area, ..Lent::default() };
+        let (mut lent, links) = unreached_area(rng, &graph);
         every_call(driver, rng, graph.n, &links, &mut lent)?;
-        let taste = any_taste(rng);
+        let order = any_order(rng);
         for _ in 0..rng.choose(&[3, 10, 25]) {
-            let call = draw_call(rng, taste, graph.n, &links, &lent.area);
+            let call = draw_call(rng, order, graph.n, &links, &lent.area);
             driver.make(call, &mut lent)?;
         }
         every_call(driver, rng, graph.n, &links, &mut lent)?;
+    }
+    Ok(())
+}
+
+/// 0, the places of a link's messages and those beyond (02, N5); the last ones are far out, and some
+/// of them are 1 or 2 to whoever takes a part of their bits.
+pub const PLACES: [usize; 14] = [
+    0,
+    1,
+    2,
+    3,
+    4,
+    5,
+    8,
+    (1 << 8) + 1,
+    (1 << 16) + 1,
+    1 << 31,
+    (1 << 32) + 1,
+    (1 << 32) + 2,
+    1 << 63,
+    usize::MAX,
+];
+
+/// Each of these places on links with 0 to 4 messages, on the same words.
+fn places<L: Calls>(driver: &mut Driver<L>, rng: &mut Rng, least: u64) -> Outcome<()> {
+    while driver.calls_in_family() < least {
+        let graph = Graph::any(rng);
+        let (mut lent, links) = match rng.one_in(2) {
+            true => area_of_a_run(driver, rng, &graph)?,
+            false => unreached_area(rng, &graph),
+        };
+        for _ in 0..rng.choose(&[1, 3, 8]) {
+            let waiting = choose_message(rng, ANY_ORDER, &links, &lent.area);
+            let link = match waiting {
+                _ if links.is_empty() => break,
+                Some((link, _)) if !rng.one_in(4) => link,
+                _ => rng.choose(&links),
+            };
+            let before = lent.area.clone();
+            let mut is_over = false;
+            for place in PLACES {
+                is_over = driver.make(pick(link, place), &mut lent)?.number == 23;
+                lent.area.copy_from_slice(&before);
+            }
+            match waiting {
+                Some((link, place)) if !is_over => driver.make(pick(link, place), &mut lent)?,
+                _ => break,
+            };
+        }
     }
     Ok(())
 }

@@ -6,6 +6,9 @@ use crate::rng::Rng;
 
 const HEADING: usize = 14;
 
+/// The most messages on a link.
+pub const MOST_WAITING: usize = 4;
+
 /// The link between two neighbours, and the word where its messages begin.
 #[derive(Clone, Copy, Debug)]
 pub struct Link {
@@ -15,9 +18,10 @@ pub struct Link {
 }
 
 impl Link {
-    /// A pick can take something from here.
-    pub fn waits(&self, area: &[i32]) -> bool {
-        area[self.place] != 0
+    /// How many messages wait here, which a pick can take by their places.
+    pub fn load(&self, area: &[i32]) -> usize {
+        let messages = &area[self.place..self.place + MOST_WAITING];
+        messages.iter().take_while(|&&message| message != 0).count()
     }
 }
 
@@ -84,7 +88,7 @@ pub fn draw_area(rng: &mut Rng, graph: &Graph, table: &[u8], links: &[Link]) -> 
     }
     let fullness = rng.within(1, 5);
     for link in links {
-        let load = if rng.one_in(6) { 4 } else { rng.below(fullness) };
+        let load = if rng.one_in(6) { MOST_WAITING } else { rng.below(fullness) };
         for word in &mut area[link.place..link.place + load] {
             *word = match rng.below(4) {
                 0 => 1,

@@ -49,8 +49,15 @@ pub fn start(table: &[u8], start: usize, area: &mut [i32]) -> u32 {
     }
 }
 
-pub fn pick(area: &mut [i32], from: usize, to: usize, kind: &mut u32, count: &mut i32) -> u32 {
-    unsafe { pickledune_pick(area.as_mut_ptr(), area.len(), from, to, kind, count) }
+pub fn pick(
+    area: &mut [i32],
+    from: usize,
+    to: usize,
+    place: usize,
+    kind: &mut u32,
+    count: &mut i32,
+) -> u32 {
+    unsafe { pickledune_pick(area.as_mut_ptr(), area.len(), from, to, place, kind, count) }
 }
 
 pub fn run_on(area: &mut [i32], k: u32, over: &mut u32, made: &mut u32) -> u32 {

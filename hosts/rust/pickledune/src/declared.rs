@@ -34,6 +34,7 @@ extern "C" {
         words: usize,
         from: usize,
         to: usize,
+        place: usize,
         kind: *mut u32,
         count: *mut i32,
     ) -> u32;

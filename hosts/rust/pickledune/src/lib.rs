@@ -177,11 +177,12 @@ pub fn start(table: &[u8], start: usize, area: &mut [i32]) -> Result<(), Refusal
     accepted(archive::start(table, start, area))
 }
 
-/// Delivers the oldest message on the link from one process to another. 21, 25, 23, 24, 22.
-pub fn pick(area: &mut [i32], from: usize, to: usize) -> Result<Message, Refusal> {
+/// Delivers the message at `place` of the link from one process to another, 1 for the oldest, and gives it; the others keep their order.
+/// 21, 25, 23, 24, 31, 22.
+pub fn pick(area: &mut [i32], from: usize, to: usize, place: usize) -> Result<Message, Refusal> {
     let mut kind = 0;
     let mut count = 0;
-    accepted(archive::pick(area, from, to, &mut kind, &mut count))?;
+    accepted(archive::pick(area, from, to, place, &mut kind, &mut count))?;
     Ok(match kind {
         archive::SUC => Message::Suc,
         archive::PRE => Message::Pre,
@@ -189,8 +190,8 @@ pub fn pick(area: &mut [i32], from: usize, to: usize) -> Result<Message, Refusal
     })
 }
 
-/// Makes up to `k` deliveries, each on the link with a message that has the lowest sender and then the lowest receiver. A run that a
-/// start began is over after at most 2048. 21 before the first delivery; 24, 22 at a delivery.
+/// Makes up to `k` deliveries, each of the oldest message on the link with a message that has the lowest sender and then the lowest
+/// receiver. A run that a start began is over after at most 2048. 21 before the first delivery; 24, 22 at a delivery.
 pub fn run_on(area: &mut [i32], k: u32) -> Ran {
     let mut over = 0;
     let mut made = 0;

@@ -53,8 +53,8 @@ fn the_example() {
     );
 
     let mut area = started(&TABLE, 1);
-    assert_eq!(pickledune::pick(&mut area, 1, 2), Ok(Message::Suc));
-    assert_eq!(pickledune::pick(&mut area, 2, 1), Ok(Message::Ack(1)));
+    assert_eq!(pickledune::pick(&mut area, 1, 2, 1), Ok(Message::Suc));
+    assert_eq!(pickledune::pick(&mut area, 2, 1, 1), Ok(Message::Ack(1)));
     assert_eq!(
         pickledune::read_record(&area, 1),
         Ok(process(1, 1, 0, 1, 0, 0))
@@ -73,12 +73,37 @@ fn the_example() {
     assert_eq!(pickledune::report(&area), Ok(report));
 }
 
+/// 02, N5: 1 and 2 wait for each other, so that a suc probe and then a pre probe wait on the link from 1 to 2.
+#[test]
+fn a_pick_by_place() {
+    let table = written(2, &[1, 2, 2, 1]);
+    for (places, messages) in [
+        ([1, 1], [Message::Suc, Message::Pre]),
+        ([2, 1], [Message::Pre, Message::Suc]),
+    ] {
+        let mut area = started(&table, 1);
+        for place in [0, 3, 4, 5, 257, usize::MAX] {
+            let before = area.clone();
+            assert_eq!(pickledune::pick(&mut area, 1, 2, place), Err(Refusal(31)));
+            assert_eq!(area, before);
+        }
+        for (place, message) in places.into_iter().zip(messages) {
+            assert_eq!(pickledune::pick(&mut area, 1, 2, place), Ok(message));
+        }
+        assert_eq!(pickledune::pick(&mut area, 1, 2, 0), Err(Refusal(24)));
+        // D is 8, and two deliveries are picks.
+        assert_eq!(pickledune::run_on(&mut area, 2048), Ran::Over(6));
+        assert_eq!(pickledune::report(&area).unwrap().verdict, Verdict::Knot);
+        assert_eq!(pickledune::pick(&mut area, 1, 2, 0), Err(Refusal(23)));
+    }
+}
+
 #[test]
 fn running_on_does_what_the_picks_do() {
     let mut picked = started(&TABLE, 1);
-    pickledune::pick(&mut picked, 1, 2).unwrap();
+    pickledune::pick(&mut picked, 1, 2, 1).unwrap();
     let mut area = picked.clone();
-    pickledune::pick(&mut picked, 2, 1).unwrap();
+    pickledune::pick(&mut picked, 2, 1, 1).unwrap();
     assert_eq!(pickledune::run_on(&mut area, 0), Ran::Spent(0));
     assert_eq!(pickledune::run_on(&mut area, 2048), Ran::Over(1));
     assert_eq!(area, picked);
@@ -119,7 +144,7 @@ fn the_lowest_way_out() {
     for order in [[4, 3, 2], [3, 2, 4], [2, 3, 4]] {
         let mut area = started(&table, 5);
         for to in order {
-            assert_eq!(pickledune::pick(&mut area, 5, to), Ok(Message::Suc));
+            assert_eq!(pickledune::pick(&mut area, 5, to, 1), Ok(Message::Suc));
         }
         // D is twice all 5 waits and twice the 2 between 5 and 1; three deliveries are picks.
         assert_eq!(pickledune::run_on(&mut area, 2048), Ran::Over(11));
@@ -190,7 +215,7 @@ fn refusals_change_nothing() {
         pickledune::start(&TABLE, 1, &mut words[1..]),
         Err(Refusal(9))
     );
-    assert_eq!(pickledune::pick(&mut words, 1, 2), Err(Refusal(21)));
+    assert_eq!(pickledune::pick(&mut words, 1, 2, 1), Err(Refusal(21)));
     assert_eq!(
         pickledune::run_on(&mut words, 1),
         Ran::Refused {
@@ -204,13 +229,14 @@ fn refusals_change_nothing() {
 
     let mut area = started(&TABLE, 1);
     let before = area.clone();
-    assert_eq!(pickledune::pick(&mut area, 1, 1), Err(Refusal(25)));
-    assert_eq!(pickledune::pick(&mut area, 2, 1), Err(Refusal(24)));
+    assert_eq!(pickledune::pick(&mut area, 1, 1, 1), Err(Refusal(25)));
+    assert_eq!(pickledune::pick(&mut area, 2, 1, 1), Err(Refusal(24)));
+    assert_eq!(pickledune::pick(&mut area, 1, 2, 2), Err(Refusal(31)));
     assert_eq!(pickledune::report(&area), Err(Refusal(26)));
     assert_eq!(pickledune::read_record(&area, 3), Err(Refusal(25)));
     assert_eq!(area, before);
     pickledune::run_on(&mut area, 2);
-    assert_eq!(pickledune::pick(&mut area, 1, 2), Err(Refusal(23)));
+    assert_eq!(pickledune::pick(&mut area, 1, 2, 1), Err(Refusal(23)));
 
     let mut record = process(2, 0, 0, 0, 0, 0);
     assert_eq!(

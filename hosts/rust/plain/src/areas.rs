@@ -62,6 +62,17 @@ pub(crate) fn load(link: &Link) -> usize {
     link[..MOST_WAITING].iter().position(|&code| code == 0).unwrap_or(MOST_WAITING)
 }
 
+/// The link without the message at a place, 1 to its load; the others keep their order.
+#[inline]
+pub(crate) fn without(link: &Link, place: usize) -> Link {
+    let mut after: Link = [0; 8];
+    for slot in 0..MOST_WAITING - 1 {
+        // Those behind the place move up by one.
+        after[slot] = if slot + 1 < place { link[slot] } else { link[slot + 1] };
+    }
+    after
+}
+
 /// The record in words that were tested.
 #[inline]
 pub(crate) fn record_of(&[flags, cs, num, father, ..]: &RecordWords) -> Record {

@@ -26,7 +26,7 @@ pub const MOST_ARCS: usize = 512;
 /// The most deliveries that a run may count.
 pub const MOST_DELIVERIES: i32 = 2048;
 
-/// Why a call was refused; `number` gives 01's number.
+/// Why a call was refused; `number` gives 01's number, or 02's.
 #[derive(Clone, Copy, Debug, PartialEq, Eq)]
 #[repr(u32)]
 pub enum Refusal {
@@ -68,10 +68,12 @@ pub enum Refusal {
     NoLink = 25,
     /// Report before the run is over.
     NotOver = 26,
+    /// 02, N5: the place is 0 or beyond the messages waiting.
+    NoPlace = 31,
 }
 
 impl Refusal {
-    /// 01's number.
+    /// 01's number, or 02's.
     pub fn number(self) -> u32 {
         self as u32
     }

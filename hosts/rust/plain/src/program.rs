@@ -45,7 +45,8 @@ fn check(input: &[u8], out: &mut Vec<u8>) -> Result<(), Refusal> {
     let mut links = Indexed::new(&run);
     for pick in picks.chunks_exact(4) {
         let (from, to) = (number(&pick[..2]), number(&pick[2..]));
-        match run.pick(&mut links, from, to) {
+        // 02, N5: "Program picks keep their form and mean place 1."
+        match run.pick(&mut links, from, to, 1) {
             Ok(message) => put_delivery(out, b"pick ", Delivered { from, to, message }),
             Err(refusal) => {
                 put_link(out, b"pick ", from, to);

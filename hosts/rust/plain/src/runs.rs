@@ -1,8 +1,8 @@
 //! The calls on a run area: start, pick, running on, the report, reading a record.
 
 use crate::areas::{
-    code_of, first_link, load, message_of, record_of, second_link, words_needed, words_of, Area,
-    Link, RecordWords, CHECK, DELIVERIES, HEADING, KNOT_CHECK, MOST_WAITING, START,
+    code_of, first_link, load, message_of, record_of, second_link, without, words_needed, words_of,
+    Area, Link, RecordWords, CHECK, DELIVERIES, HEADING, KNOT_CHECK, MOST_WAITING, START,
 };
 use crate::steps::{advance, advance_start, Message, Probe, Record, Sent};
 use crate::tables::{accept, Arc, Chain, Sizes, Table, Waits, Words};
@@ -185,12 +185,13 @@ impl<'a> Run<'a> {
         record_of(&self.records[self.start() - 1]).num == 0
     }
 
-    /// A pick after 21: 25, 23, 24, 22.
+    /// A pick after 21: 25, 23, 24, 31, 22.
     pub(crate) fn pick(
         &mut self,
         links: &mut impl Links,
         from: usize,
         to: usize,
+        place: usize,
     ) -> Result<Message, Refusal> {
         let processes = 1..=self.records.len();
         if !processes.contains(&from)
@@ -203,24 +204,31 @@ impl<'a> Run<'a> {
             return Err(Refusal::Over);
         }
         let link = links.find(&self.table, &self.waits, from, to);
-        if self.links[link][0] == 0 {
+        let waiting = load(&self.links[link]);
+        if waiting == 0 {
             return Err(Refusal::Nothing);
         }
-        self.deliver(links, from, to, link)
+        if !(1..=waiting).contains(&place) {
+            return Err(Refusal::NoPlace);
+        }
+        self.deliver(links, from, to, link, place)
     }
 
-    /// Delivers the oldest message of a link that has one, while the run is not over: 22.
+    /// Delivers the message at a place of a link where one waits, while the run is not over: 22.
+    /// "A pick may name a place, 1 for the oldest message, and that message is taken out of the
+    /// middle" (02, N5).
     fn deliver(
         &mut self,
         links: &mut impl Links,
         from: usize,
         to: usize,
         link: usize,
+        place: usize,
     ) -> Result<Message, Refusal> {
         if self.heading[DELIVERIES] == MOST_DELIVERIES {
             return Err(Refusal::Range);
         }
-        let message = message_of(self.links[link][0]);
+        let message = message_of(self.links[link][place - 1]);
         let mut record = record_of(&self.records[to - 1]);
         let sent = if to == self.start() {
             let reply = advance_start(&mut record, message, from as u32)?;
@@ -232,7 +240,7 @@ impl<'a> Run<'a> {
         let reply_link =
             sent.reply.map(|reply| links.find(&self.table, &self.waits, to, reply.to as usize));
         let before = self.links[link];
-        self.links[link] = [before[1], before[2], before[3], 0, 0, 0, 0, 0];
+        self.links[link] = without(&before, place);
         if !self.has_room(links, to, sent.probes, reply_link) {
             self.links[link] = before;
             return Err(Refusal::Range);
@@ -315,7 +323,8 @@ impl<'a> Run<'a> {
     pub(crate) fn deliver_lowest(&mut self, links: &mut Indexed) -> Result<Delivered, Refusal> {
         let (from, to) = links.lowest().ok_or(Refusal::Nothing)?;
         let link = links.find(&self.table, &self.waits, from, to);
-        let message = self.deliver(links, from, to, link)?;
+        // Running on names no place and takes the oldest.
+        let message = self.deliver(links, from, to, link, 1)?;
         Ok(Delivered { from, to, message })
     }
 
@@ -364,9 +373,10 @@ pub fn start(table: &[u8], start: usize, area: &mut [i32]) -> Result<(), Refusal
     Ok(())
 }
 
-/// Delivers the oldest message of the link between two processes: 21, 25, 23, 24, 22.
-pub fn pick(area: &mut [i32], from: usize, to: usize) -> Result<Message, Refusal> {
-    Run::test(area)?.pick(&mut Searched, from, to)
+/// Delivers the message at a place of the link between two processes, 1 for the oldest:
+/// 21, 25, 23, 24, 31, 22.
+pub fn pick(area: &mut [i32], from: usize, to: usize, place: usize) -> Result<Message, Refusal> {
+    Run::test(area)?.pick(&mut Searched, from, to, place)
 }
 
 /// Makes up to k deliveries in the fixed order, and gives how it stopped and how many it made.

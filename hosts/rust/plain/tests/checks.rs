@@ -1,6 +1,8 @@
-//! 01's own examples, its table of checks, and the refusals of each call.
+//! 01's own examples, its table of checks, and the refusals of each call; 02's rules for the escape
+//! (N1) and for places (N5).
 
 use plain::*;
+use std::collections::HashSet;
 
 fn table(n: usize, list: &[u16]) -> Vec<u8> {
     let mut out = vec![0; 4 + 4 * 128 + 8 * 512];
@@ -58,6 +60,78 @@ fn the_rows_to_be_proved() {
     }
 }
 
+/// The words where the links begin, each with the two processes of it: the first of each arc, and
+/// the second if there is no arc back.
+fn links(n: usize, list: &[u16]) -> Vec<(usize, usize, usize)> {
+    let arcs: Vec<_> = list.chunks(2).map(|arc| (arc[0].into(), arc[1].into())).collect();
+    let mut links = Vec::new();
+    for (number, &(from, to)) in arcs.iter().enumerate() {
+        let first = 16 + 8 * n + 4 * arcs.len() + 16 * number;
+        links.push((from, to, first));
+        if !arcs.contains(&(to, from)) {
+            links.push((to, from, first + 8));
+        }
+    }
+    links
+}
+
+/// The messages on a link, oldest first.
+fn waiting(area: &[i32], link: usize) -> Vec<i32> {
+    area[link..link + 4].iter().copied().take_while(|&code| code != 0).collect()
+}
+
+/// 02, N5: "All that is said of the end of a check, D included, is wanted for these picks too,
+/// without links that keep order." Every area that picks can make, at every place, is tried once.
+#[test]
+fn the_end_is_the_same_at_every_place() {
+    // N, the waits, the most messages on a link, D, knot, outside, escape.
+    type Check = (usize, &'static [u16], usize, u32, bool, i32, usize);
+    let checks: [Check; 8] = [
+        (1, &[1, 1], 2, 4, true, 0, 0),
+        (2, &[1, 2], 1, 2, false, 1, 2),
+        (2, &[2, 1], 1, 2, true, 0, 0),
+        (2, &[1, 2, 2, 1], 3, 8, true, 0, 0),
+        (2, &[1, 2, 2, 1, 2, 2], 3, 12, true, 0, 0),
+        (3, &[1, 2, 2, 3, 3, 1], 2, 12, true, 0, 0),
+        (3, &[1, 2, 2, 1, 2, 3], 3, 10, false, 1, 3),
+        (3, &[1, 2, 1, 3, 2, 1, 2, 3, 3, 2], 4, 20, true, 0, 0),
+    ];
+    for (n, list, most, deliveries, knot, outside, escape) in checks {
+        let links = links(n, list);
+        let mut open = vec![started(n, list, 1)];
+        let mut met: HashSet<Vec<i32>> = open.iter().cloned().collect();
+        let mut ends = HashSet::new();
+        let mut found = 0;
+        while let Some(area) = open.pop() {
+            let is_over = read_record(&area, 1).unwrap().num == 0;
+            assert_eq!(links.iter().all(|link| waiting(&area, link.2).is_empty()), is_over);
+            if is_over {
+                let expected = Report { deliveries, knot, outside, escape, returned: knot };
+                assert_eq!(report(&area), Ok(expected), "{list:?}");
+                let records = (1..=n).map(|process| read_record(&area, process).unwrap());
+                let records = records.map(|record| {
+                    let Record { succeeding, preceding, subordinate, cs, num, father: _ } = record;
+                    (succeeding, preceding, subordinate, cs, num)
+                });
+                ends.insert(records.collect::<Vec<_>>());
+            }
+            for &(from, to, link) in &links {
+                let load = waiting(&area, link).len();
+                found = found.max(load);
+                for place in 1..=load {
+                    let mut after = area.clone();
+                    assert!(pick(&mut after, from, to, place).is_ok(), "{list:?}");
+                    if met.insert(after.clone()) {
+                        open.push(after);
+                    }
+                }
+            }
+        }
+        assert_eq!(ends.len(), 1, "only fathers may differ: {list:?}");
+        assert_eq!(found, most, "{list:?}");
+    }
+}
+
 /// What escape names once the run is over.
 fn escape_at_the_end(mut area: Vec<i32>) -> usize {
     assert_eq!(run_on(&mut area, u32::MAX).0, Stopped::Over);
@@ -78,7 +152,7 @@ fn escape_is_the_lowest_way_out() {
     // The picks reach the highest first.
     let mut area = started(4, &[1, 2, 1, 3, 1, 4], 1);
     for to in [4, 3, 2] {
-        assert_eq!(pick(&mut area, 1, to), Ok(Message::Suc));
+        assert_eq!(pick(&mut area, 1, to, 1), Ok(Message::Suc));
     }
     assert_eq!(escape_at_the_end(area), 2);
 }
@@ -98,16 +172,16 @@ fn escape_goes_by_subordinate_alone() {
 #[test]
 fn counts_1_and_minus_1_come_back_when_both_probes_go_first() {
     let mut area = started(2, &[1, 2, 2, 1], 1);
-    assert_eq!(pick(&mut area, 1, 2), Ok(Message::Suc));
-    assert_eq!(pick(&mut area, 1, 2), Ok(Message::Pre));
+    assert_eq!(pick(&mut area, 1, 2, 1), Ok(Message::Suc));
+    assert_eq!(pick(&mut area, 1, 2, 1), Ok(Message::Pre));
     let mut counts = Vec::new();
     while report(&area).is_err() {
-        match pick(&mut area, 2, 1) {
+        match pick(&mut area, 2, 1, 1) {
             Ok(Message::Ack(count)) => counts.push(count),
             Ok(_) => {}
             Err(refusal) => {
                 assert_eq!(refusal, Refusal::Nothing);
-                pick(&mut area, 1, 2).unwrap();
+                pick(&mut area, 1, 2, 1).unwrap();
             }
         }
     }
@@ -225,9 +299,9 @@ fn picks_and_readings_refuse_in_order() {
     let mut area = started(3, &[1, 2, 2, 3], 1);
     let before = area.clone();
     for (from, to) in [(0, 1), (1, 0), (4, 1), (1, 4), (1, 3), (1, 1), (usize::MAX, 1)] {
-        assert_eq!(pick(&mut area, from, to), Err(Refusal::NoLink));
+        assert_eq!(pick(&mut area, from, to, 1), Err(Refusal::NoLink));
     }
-    assert_eq!(pick(&mut area, 2, 1), Err(Refusal::Nothing));
+    assert_eq!(pick(&mut area, 2, 1, 1), Err(Refusal::Nothing));
     assert_eq!(report(&area), Err(Refusal::NotOver));
     assert_eq!(read_record(&area, 0), Err(Refusal::NoLink));
     assert_eq!(read_record(&area, 4), Err(Refusal::NoLink));
@@ -236,8 +310,172 @@ fn picks_and_readings_refuse_in_order() {
     assert_eq!(run_on(&mut area, 3), (Stopped::Spent, 3));
     assert_eq!(run_on(&mut area, 9), (Stopped::Over, 1));
     assert_eq!(run_on(&mut area, 0), (Stopped::Over, 0));
-    assert_eq!(pick(&mut area, 2, 3), Err(Refusal::Over));
-    assert_eq!(pick(&mut area, 1, 3), Err(Refusal::NoLink));
+    assert_eq!(pick(&mut area, 2, 3, 1), Err(Refusal::Over));
+    assert_eq!(pick(&mut area, 1, 3, 1), Err(Refusal::NoLink));
+}
+
+/// Two processes that wait for each other and have heard from each other, so that every message is
+/// delivered, none broadcasts, and a probe is acknowledged with cs: 5 by process 2, 0 by the start.
+/// Four messages wait on each link. Records are from 28 on, the link from 1 to 2 is at 40, the link
+/// back at 56.
+fn four_on_each_link() -> Vec<i32> {
+    let mut area = started(2, &[1, 2, 2, 1], 1);
+    area[28..40].copy_from_slice(&[3, 0, 9, 0, 0, 0, 3, 5, 9, 1, 0, 0]);
+    area[40..44].copy_from_slice(&[256 + 7, 2, 256 - 4, 1]);
+    area[56..60].copy_from_slice(&[1, 256 + 2, 256 - 1, 2]);
+    area
+}
+
+/// 02, N5: "A pick may name a place, 1 for the oldest message, and that message is taken out of the
+/// middle."
+#[test]
+fn a_pick_takes_the_message_at_its_place_and_the_others_keep_their_order() {
+    // From 1 to 2: the message, and the link, cs and num of 2 afterwards.
+    let to_2 = [
+        (Message::Ack(7), [2, 252, 1, 0], 12, 8),
+        (Message::Pre, [263, 252, 1, 0], 0, 9),
+        (Message::Ack(-4), [263, 2, 1, 0], 1, 8),
+        (Message::Suc, [263, 2, 252, 0], 0, 9),
+    ];
+    for (place, (message, link, cs, num)) in (1..).zip(to_2) {
+        let mut area = four_on_each_link();
+        // Room for the acknowledgement of a probe.
+        area[59] = 0;
+        let mut expected = area.clone();
+        expected[2] = 1;
+        expected[40..44].copy_from_slice(&link);
+        (expected[35], expected[36]) = (cs, num);
+        if matches!(message, Message::Suc | Message::Pre) {
+            expected[59] = 256 + 5;
+        }
+        assert_eq!(pick(&mut area, 1, 2, place), Ok(message));
+        assert_eq!(area, expected, "place {place}");
+    }
+    // From 2 to the start, where an acknowledgement changes cs and num.
+    let to_1 = [
+        (Message::Suc, [258, 255, 2, 0], 0, 9),
+        (Message::Ack(2), [1, 255, 2, 0], 2, 8),
+        (Message::Ack(-1), [1, 258, 2, 0], -1, 8),
+        (Message::Pre, [1, 258, 255, 0], 0, 9),
+    ];
+    for (place, (message, link, cs, num)) in (1..).zip(to_1) {
+        let mut area = four_on_each_link();
+        area[43] = 0;
+        let mut expected = area.clone();
+        expected[2] = 1;
+        expected[56..60].copy_from_slice(&link);
+        (expected[29], expected[30]) = (cs, num);
+        if matches!(message, Message::Suc | Message::Pre) {
+            expected[43] = 256;
+        }
+        assert_eq!(pick(&mut area, 2, 1, place), Ok(message));
+        assert_eq!(area, expected, "place {place}");
+    }
+}
+
+/// The last of one, two, three and four: those before it stay.
+#[test]
+fn the_last_place_is_the_number_of_messages_waiting() {
+    for load in 1..=4 {
+        let mut area = four_on_each_link();
+        area[40..44].copy_from_slice(&[256, 257, 258, 259]);
+        area[40 + load..44].fill(0);
+        let before = area.clone();
+        assert_eq!(pick(&mut area, 1, 2, load + 1), Err(Refusal::NoPlace));
+        assert_eq!(area, before);
+        assert_eq!(pick(&mut area, 1, 2, load), Ok(Message::Ack(load as i32 - 1)));
+        assert_eq!(waiting(&area, 40), before[40..40 + load - 1]);
+    }
+}
+
+/// A message that goes to the end of the link that another was taken from: of a loop.
+#[test]
+fn what_is_sent_on_the_same_link_goes_behind_the_others() {
+    let mut area = started(1, &[1, 1], 1);
+    let link = 16 + 8 + 4;
+    area[link..link + 4].copy_from_slice(&[256 + 9, 1, 2, 256 + 8]);
+    assert_eq!(pick(&mut area, 1, 1, 2), Ok(Message::Suc));
+    assert_eq!(waiting(&area, link), [265, 2, 264, 256]);
+    assert_eq!(pick(&mut area, 1, 1, 3), Ok(Message::Ack(8)));
+    assert_eq!(waiting(&area, link), [265, 2, 256]);
+}
+
+/// 02, N5: "It refuses a place that is 0 or beyond the messages waiting with 31, after 24." So it
+/// comes before 22.
+#[test]
+fn places_are_refused_after_24_and_before_22() {
+    let far = [5, 6, 256 + 1, 65_536 + 1, 1 << 31, (1 << 32) + 1, usize::MAX - 1, usize::MAX];
+    let outside = |load: usize| [0].into_iter().chain(load + 1..5).chain(far);
+    let refused = |area: &[i32], from, to, place, refusal| {
+        let mut after = area.to_vec();
+        assert_eq!(pick(&mut after, from, to, place), Err(refusal), "place {place}");
+        assert_eq!(after, area);
+    };
+    for load in 1..=4 {
+        let mut area = four_on_each_link();
+        area[40 + load..44].fill(0);
+        // One more delivery is one too many.
+        let mut last = area.clone();
+        last[2] = 2048;
+        // Process 2 expects no acknowledgement.
+        let mut stuck = area.clone();
+        stuck[36] = 0;
+        stuck[40..40 + load].fill(256);
+        for place in outside(load) {
+            refused(&area, 1, 2, place, Refusal::NoPlace);
+            refused(&last, 1, 2, place, Refusal::NoPlace);
+            refused(&stuck, 1, 2, place, Refusal::NoPlace);
+        }
+        for place in 1..=load {
+            refused(&last, 1, 2, place, Refusal::Range);
+            refused(&stuck, 1, 2, place, Refusal::Range);
+        }
+    }
+    let mut empty = four_on_each_link();
+    empty[40..44].fill(0);
+    let mut over = empty.clone();
+    over[30] = 0;
+    let mut malformed = empty.clone();
+    malformed[3] = 1;
+    for place in outside(0) {
+        refused(&empty, 1, 2, place, Refusal::Nothing);
+        refused(&over, 1, 2, place, Refusal::Over);
+        refused(&over, 2, 1, place, Refusal::Over);
+        refused(&over, 1, 1, place, Refusal::NoLink);
+        refused(&malformed, 1, 1, place, Refusal::Malformed);
+    }
+}
+
+/// 22 is a matter of the message that is taken, not of the oldest.
+#[test]
+fn the_step_is_that_of_the_message_taken() {
+    let mut area = four_on_each_link();
+    // 2 expects nothing, so an acknowledgement takes num out of its range and a probe does not.
+    (area[35], area[36], area[59]) = (5, 0, 0);
+    let before = area.clone();
+    for place in [1, 3] {
+        assert_eq!(pick(&mut area, 1, 2, place), Err(Refusal::Range));
+        assert_eq!(area, before);
+    }
+    assert_eq!(pick(&mut area, 1, 2, 2), Ok(Message::Pre));
+    assert_eq!(pick(&mut area, 1, 2, 3), Err(Refusal::Range));
+}
+
+/// "Program picks keep their form and mean place 1" (02, N5), and running on takes the oldest.
+#[test]
+fn the_program_and_running_on_take_the_oldest() {
+    let picks = [1, 0, 2, 0, 1, 0, 2, 0];
+    let input = [&[1, 0], &table(2, &[1, 2, 2, 1])[..], &picks].concat();
+    assert!(printed(&input).starts_with("pick 1 2 suc\npick 1 2 pre\n"));
+    let own = printed(&[&[1, 0], &table(2, &[1, 2, 2, 1])[..]].concat());
+    assert!(own.starts_with("own 1 2 suc\nown 1 2 pre\n"), "{own}");
+    let mut area = four_on_each_link();
+    area[59] = 0;
+    let mut picked = area.clone();
+    assert_eq!(run_on(&mut area, 2), (Stopped::Spent, 2));
+    assert_eq!(pick(&mut picked, 1, 2, 1), Ok(Message::Ack(7)));
+    assert_eq!(pick(&mut picked, 1, 2, 1), Ok(Message::Pre));
+    assert_eq!(area, picked);
 }
 
 #[test]
@@ -254,7 +492,7 @@ fn every_damaged_word_that_leaves_its_range_is_seen() {
             let expected = if sum && value == -1 { Ok(()) } else { Err(Refusal::Malformed) };
             assert_eq!(read_record(&area, 1).map(|_| ()), expected, "{place} {value}");
             if expected.is_err() {
-                assert_eq!(pick(&mut area, 1, 2), Err(Refusal::Malformed));
+                assert_eq!(pick(&mut area, 1, 2, 1), Err(Refusal::Malformed));
                 assert_eq!(run_on(&mut area, 5), (Stopped::Refused(Refusal::Malformed), 0));
                 assert_eq!(report(&area), Err(Refusal::Malformed));
                 assert_eq!(area, damaged);
@@ -283,7 +521,7 @@ fn one_wait() -> Vec<i32> {
 
 fn refused_untouched(area: &[i32], from: usize, to: usize) {
     let mut after = area.to_vec();
-    assert_eq!(pick(&mut after, from, to), Err(Refusal::Range));
+    assert_eq!(pick(&mut after, from, to, 1), Err(Refusal::Range));
     assert_eq!(after, area);
     let (stopped, _) = run_on(&mut after, 1);
     assert_eq!(stopped, Stopped::Refused(Refusal::Range));

@@ -18,10 +18,10 @@ abbrev area : tie.Start → List ℤ
 area s = s .args .area .now
 
 abbrev run₁ : tie.Start → Run
-run₁ s = off (runIn (area s)) (s .args .a) (s .args .b)
+run₁ s = off (runIn (area s)) (s .args .a) (s .args .b) (s .args .place)
 
 abbrev run₂ : tie.Start → Run
-run₂ s = changed (runIn (area s)) (s .args .a) (s .args .b) (s .args .process)
+run₂ s = changed (runIn (area s)) (s .args .a) (s .args .b) (s .args .place) (s .args .process)
 
 abbrev run₃ : tie.Start → Run
 run₃ s = answered (run₂ s) (s .args .b) (s .args .reply)

@@ -10,20 +10,20 @@ carry-out-requires c κs =
     let g = c .before .before in
     let p = g .before .before in
     let s = p .before .before in
-    carry-asks (s .pre .0) (s .args .a) (s .args .b) (s .pre .1 .0) (p .prepare .ensures) (g .message .given .1)
+    carry-asks (s .pre .0) (s .args .a) (s .args .b) (s .args .place) (s .pre .1 .0) (p .prepare .ensures) (g .message .given .1)
 
 returns : tie.Need-returns
 returns c =
     let p = c .before .before .before in
     let s = p .before .before in
-    refusal (s .pre .0) (s .args .a) (s .args .b) (p .prepare .ensures) (c .before .number .given .1)
+    refusal (s .pre .0) (s .args .a) (s .args .b) (s .args .place) (p .prepare .ensures) (c .before .number .given .1)
 
 returns-2 : tie.Need-returns-2
 returns-2 c =
     let g = c .before .before .before .before in
     let p = g .before .before in
     let s = p .before .before in
-    delivery (s .pre .0) (s .args .a) (s .args .b) (s .pre .1 .0) (p .prepare .ensures) (g .message .given .1) (c .before .carry-out .ensures)
+    delivery (s .pre .0) (s .args .a) (s .args .b) (s .args .place) (s .pre .1 .0) (p .prepare .ensures) (g .message .given .1) (c .before .carry-out .ensures)
 
 pub deliver-spec : {M : Type 1} → statement M
 deliver-spec =

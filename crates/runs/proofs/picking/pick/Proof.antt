@@ -15,7 +15,7 @@ returns : tie.Need-returns
 returns c =
     let test = c .before .before .test in
     let a = c .before .before .before .before .before .args in
-    pick-21 (a .area .now) (wrong-area (a .area .now) _ (test .ensures .0) (c .enum-told .given .1)) (a .from) (a .to)
+    pick-21 (a .area .now) (wrong-area (a .area .now) _ (test .ensures .0) (c .enum-told .given .1)) (a .from) (a .to) (a .place)
 
 pick-in-requires : tie.Need-pick-in-requires
 pick-in-requires c κs =

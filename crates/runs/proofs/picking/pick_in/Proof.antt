@@ -19,13 +19,13 @@ use Rattle.runs.proofs.picking.pick_in.Tie as tie
 returns : tie.Need-returns
 returns c =
     let s = c .before .before in
-    pick-25 _ (s .pre .right) (s .args .from) (s .args .to)
+    pick-25 _ (s .pre .right) (s .args .from) (s .args .to) (s .args .place)
     (none-from (s .pre) (s .args .from) (s .args .to) (value-not (c .before .is-process .ensures) (c .if1 .taken)))
 
 returns-2 : tie.Need-returns-2
 returns-2 c =
     let s = c .before .before .before .before in
-    pick-25 _ (s .pre .right) (s .args .from) (s .args .to)
+    pick-25 _ (s .pre .right) (s .args .from) (s .args .to) (s .args .place)
     (none-to (s .pre) (s .args .from) (s .args .to) (value-not (c .before .is-process2 .ensures) (c .if2 .taken)))
 
 -- both are processes
@@ -56,7 +56,7 @@ linked c =
 returns-3 : tie.Need-returns-3
 returns-3 c =
     let s = start (c .before) in
-    pick-25 _ (s .pre .right) (s .args .from) (s .args .to) (sym (linked (c .before)) ∙ not-true _ (c .if3 .taken))
+    pick-25 _ (s .pre .right) (s .args .from) (s .args .to) (s .args .place) (sym (linked (c .before)) ∙ not-true _ (c .if3 .taken))
 
 joined : (c : tie.Else3) → let s = start (c .before) in neighbours (runIn (s .args .area .now) .waits) (s .args .from) (s .args .to) ≡ true
 joined c = sym (linked (c .before)) ∙ not-false _ (c .if3 .left)
@@ -64,7 +64,7 @@ joined c = sym (linked (c .before)) ∙ not-false _ (c .if3 .left)
 returns-4 : tie.Need-returns-4
 returns-4 c =
     let three = c .before .before .before in
-    pick-23 _ (start (three .before) .pre .right) _ _ (joined three) (sym (c .before .is-over .ensures) ∙ c .if4 .taken)
+    pick-23 _ (start (three .before) .pre .right) _ _ _ (joined three) (sym (c .before .is-over .ensures) ∙ c .if4 .taken)
 
 deliver-requires : tie.Need-deliver-requires
 deliver-requires c κs =
@@ -77,7 +77,7 @@ returns-5 c =
     let call = c .before in
     let four = call .before .before in
     let three = four .before .before .before in
-    let on = pick-on _ (start (three .before) .pre .right) _ _ (joined three) (sym (four .before .is-over .ensures) ∙ four .if4 .left) in
+    let on = pick-on _ (start (three .before) .pre .right) _ _ _ (joined three) (sym (four .before .is-over .ensures) ∙ four .if4 .left) in
     (call .deliver .ensures .0 ∙ on .0, call .deliver .ensures .1 ∙ on .1)
 
 pub pick-in-spec : {M : Type 1} → statement M
