@@ -40,7 +40,7 @@ use Rattle.steps.specs.Step.{inRange, small, countSmall, replyFits}
 use Rattle.machine.specs.Calls.{Cut, behind, atPlace}
 use Rattle.machine.specs.FormedLaws.{wellFormed-P, allRight-append}
 use Rattle.machine.specs.Among.{Placed, there, not-there, Here}
-use Rattle.machine.specs.AmongLaws.{among-length, among-right, atPlace-P, atPlace-here}
+use Rattle.machine.specs.AmongLaws.{among-length, among-right, between-among, atPlace-P, atPlace-here}
 use Rattle.checks.specs.Run.{Run, mostDeliveries, knot, fatherRight, countsSmall, one}
 use Rattle.areas.specs.Used.{linkSlots}
 use Rattle.areas.specs.Replaced.{putProcess, putLink, putCount}
@@ -96,7 +96,7 @@ module _ (k : ℕ) (ms : List Message) where
   without-right u e = at (atPlace-P k ms)
     where
       at : {f : Cut Message} → Placed k ms f → (length (stays ms f) ≤ 4) × (countsSmall (stays ms f) ≡ true)
-      at (there _ _ i) = (omega (arith, among-length i), among-right countSmall i e .1)
+      at (there b) = (omega (arith, among-length (between-among b)), among-right countSmall (between-among b) e .1)
       at (not-there _) = (u, e)
 
 pub probe-small : (c : Chain) → countSmall (probeOf c) ≡ true

@@ -12,7 +12,7 @@ use lib.ListN.{length}
 use lib.IntN.{pos}
 use Rattle.machine.specs.Calls.{Cut, nowhere, cut, past, behind, atPlace}
 use Rattle.machine.specs.Among.{Placed, there, not-there}
-use Rattle.machine.specs.AmongLaws.{atPlace-P, cut-placed}
+use Rattle.machine.specs.AmongLaws.{between-place, atPlace-P, cut-placed}
 use Rattle.steps.specs.declared.Message.{Message}
 use Rattle.areas.specs.Area.{codeOf, slotWord}
 use Rattle.lenses.specs.declared.links.AtPlace.{AtPlace}
@@ -33,7 +33,9 @@ standing-beyond k (m ∷ ms) l h = at (atPlace-P k (m ∷ ms))
   where
     at : {f : Cut Message} → Placed k (m ∷ ms) f → foundAt f ≡ Beyond
     at (not-there _) = refl
-    at (there lo hi _) = absurd (⊎-elim (λ (z : k ≡ 0). omega arith) (λ (z : length (m ∷ ms) < k). omega arith) h)
+    at (there b) =
+        let p = between-place b in
+        absurd (⊎-elim (λ (z : k ≡ 0). omega (arith, p)) (λ (z : length (m ∷ ms) < k). omega (arith, p)) h)
 
 pub standing-cut : (k : ℕ) (ms : List Message) {x : Message} {rest : List Message} → atPlace k ms ≡ cut x rest → standing k ms ≡ AtPlace.Message x
 unfolding standing

@@ -1,7 +1,7 @@
 -- What picks and running on do and answer (01, "Steps" and "Refused because of the state"; 02, N5), for any check.
 --   Answer M           == the message of a delivery, or the number of its refusal
 --   Picked, RanOn      == an answer and the run that the call leaves
---   Cut M            == a message of a link, and those that stay; or none
+--   Cut M              == a message of a link, and those that stay; or none
 --   behind k ms, atPlace k ms   == the message behind k others, and that at place k, "1 for the oldest message" (02, N5)
 --   pick ρ r a b k     == a pick of place k checks 21, 25, 23, 24, 31, 22
 --   Selection          == a link with a message, or nobody

@@ -30,7 +30,7 @@ use Rattle.machine.specs.Made.{Made, none, more, Stopped, went, nothing,
 use Rattle.machine.specs.Made.{Answered, none-refused, was-over, none-waits, no-link, not-over, beyond}
 use Rattle.machine.specs.Made.{Finds, PickMade, RunMade, Sure, PassMade}
 use Rattle.machine.specs.Among.{Among, Placed, there, not-there}
-use Rattle.machine.specs.AmongLaws.{atPlace-P, cut-placed}
+use Rattle.machine.specs.AmongLaws.{between-among, atPlace-P, cut-placed}
 
 -- ---- numbers
 
@@ -89,8 +89,11 @@ module _ {P M : Type 0} (ρ : Rules P M) (r : Machine P M) where
       (a b k : ℕ) → IsProcess (r .waits .n) a → IsProcess (r .waits .n) b → {f : Cut M} → Placed k (r .link a b) f → PickMade ρ r (delivered ρ r a b f)
   unfolding delivered
   delivered-made a b k pa pb (not-there _) = record { made = none; stopped = no-place }
-  delivered-made a b k pa pb (there {m} {rest} _ _ l) = at (tested (accepts ρ r a b m rest))
+  delivered-made a b k pa pb (there {m} {rest} h) = at (tested (accepts ρ r a b m rest))
     where
+      l : Among m rest (r .link a b)
+      l = between-among h
+
       at : Tested (accepts ρ r a b m rest)
           → PickMade ρ r (choose (accepts ρ r a b m rest) (record { answer = given m; run = after ρ r a b m rest }) (refused 22 r))
       at (passed e) = rw e (record { made = more none a b pa pb m rest l e; stopped = went })
