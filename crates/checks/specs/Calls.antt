@@ -52,7 +52,7 @@ answering p = record { answer = deliveryOf (p .answer); run = p .run }
 abbrev pub deliver : Run → ℕ → ℕ → ℕ → List Message → Picked
 deliver r a b k ms = answering (Machines.deliver knot r a b k ms)
 
--- "A pick checks 21, 25, 23, 24, 22."; 02, N5: "A pick may name a place", and 31 "after 24"
+-- "A pick may name a place" (02, N5); it checks 21, 25, 23, 24, 31, 22
 abbrev pub pick : Run → ℕ → ℕ → ℕ → Picked
 pick r a b k = answering (Machines.pick knot r a b k)
 

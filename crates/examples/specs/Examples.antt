@@ -283,8 +283,8 @@ program-sizes = (refl, refl, refl, refl, refl, refl, refl, refl, refl, refl, ref
 
 -- ==== Refused because of the state
 
--- ---- "A pick checks 21, 25, 23, 24, 22", and 31 after 24 (02, N5): a run whose start has cs 129 and num 0 (it is over) and in which nothing
--- waits, picked at place 0 and repaired from line to line; then the same with an acknowledgement that waits for 2, whose num is 0, picked at place 2
+-- ---- a pick checks 21, 25, 23, 24, 31, 22: a run whose start has cs 129 and num 0 (it is over) and in which nothing waits, picked at place 0
+-- and repaired from line to line; then the same with an acknowledgement that waits for 2, whose num is 0, picked at place 2
 
 pick-in-order :
     (pick (two 1 0 (root (pos 129) 0) idle [] []) 2 2 0 .answer ≡ Delivery.Refused 21) ×  -- run area not well formed

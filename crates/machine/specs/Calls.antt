@@ -69,7 +69,7 @@ module _ {P M : Type 0} (ρ : Rules P M) where
   deliver r a b k [] = refused 24 r
   deliver r a b k (m ∷ ms) = delivered r a b (atPlace k (m ∷ ms))
 
-  -- "A pick checks 21, 25, 23, 24, 22."; 02, N5: 31 "after 24"
+  -- a pick checks 21, 25, 23, 24, 31, 22: 01's order, and 31 "after 24" (02, N5)
   unfoldable pub pick : Machine P M → ℕ → ℕ → ℕ → Picked P M
   pick r a b k =
       choose (not (wellFormed ρ r)) (refused 21 r)
