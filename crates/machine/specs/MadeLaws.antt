@@ -3,7 +3,7 @@
 --   made-waits, made-start, made-count   == what deliveries keep, and how they count
 --   made-then           == deliveries after deliveries
 --   made-keeps          == what every accepted delivery keeps holds after any number of them
---   deliver-cut         == a delivery by what is found at its place
+--   deliver-cut, deliver-oldest   == a delivery by what is found at its place; place 1 is the oldest message
 --   deliver-made, pick-made, runFrom-made, runOn-made   == what a call does, as deliveries, and the number that it answers
 --   passed-made         == every list of calls is so many accepted deliveries, and keeps such an invariant; its numbers are Answered
 -- Assumes nothing.
@@ -23,7 +23,7 @@ use Rattle.tables.specs.WaitsLaws.{neighbours-ends}
 use Rattle.machine.specs.declared.Ran.{Ran}
 use Rattle.machine.specs.declared.Ran.the-variants.{Spent}
 use Rattle.machine.specs.Machine.{Machine, Rules, over, wellFormed, after, accepts}
-use Rattle.machine.specs.Calls.{Answer, given, refusal, Picked, refused, Cut, cut, atPlace, delivered, deliver, pick}
+use Rattle.machine.specs.Calls.{Answer, given, refusal, Picked, refused, Cut, cut, behind, atPlace, delivered, deliver, pick}
 use Rattle.machine.specs.Calls.{Selection, nobody, pair, Chooser, RanOn, goOn, deliverOn, runFrom, runOn, ranNumber, ranMade}
 use Rattle.machine.specs.Lists.{Call, picking, runningOn, reporting, reading, Reads, acceptedPick, answerNumber, inTurn, passedBy}
 use Rattle.machine.specs.Made.{Made, none, more, Stopped, went, nothing, no-place, full}
@@ -83,6 +83,11 @@ module _ {P M : Type 0} (ρ : Rules P M) (r : Machine P M) where
   unfolding deliver
   deliver-cut a b k [] e = absurd (omega (arith, cut-placed k [] e .1))
   deliver-cut a b k (x ∷ xs) e = rw e
+
+  -- place 1 is the oldest message: the others stay as they stand
+  pub deliver-oldest : (a b : ℕ) (m : M) (rest : List M) → deliver ρ r a b 1 (m ∷ rest) ≡ delivered ρ r a b (cut m rest)
+  unfolding behind atPlace deliver
+  deliver-oldest a b m rest = refl
 
   -- the delivery of what is found at a place
   delivered-made :
