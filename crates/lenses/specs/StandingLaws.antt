@@ -78,11 +78,11 @@ abbrev SlotIs : List Message → ℕ → Cut Message → Type 0
 SlotIs ms k nowhere = slotWord ms k ≡ pos 0
 SlotIs ms k (cut m rest) = slotWord ms k ≡ codeOf m
 
-slot-behind : (k : ℕ) (ms : List Message) → SlotIs ms k (behind k ms)
+slot-found : (k : ℕ) (ms : List Message) → SlotIs ms k (behind k ms)
 unfolding behind slotWord
-slot-behind k [] = refl
-slot-behind zero (m ∷ ms) = refl
-slot-behind (suc k) (m ∷ ms) = at (behind k ms) (slot-behind k ms)
+slot-found k [] = refl
+slot-found zero (m ∷ ms) = refl
+slot-found (suc k) (m ∷ ms) = at (behind k ms) (slot-found k ms)
   where
     at : (f : Cut Message) → SlotIs ms k f → SlotIs (m ∷ ms) (suc k) (past m f)
     at nowhere h = h
@@ -93,4 +93,4 @@ unfolding atPlace
 slot-cut zero ms e = absurd (omega (arith, cut-placed 0 ms e .1))
 slot-cut (suc k) ms {x} {rest} e =
     let i : suc k - 1 ≡ k = omega arith in
-    rw i (subst (λ (f : Cut Message). SlotIs ms k f) e (slot-behind k ms))
+    rw i (subst (λ (f : Cut Message). SlotIs ms k f) e (slot-found k ms))

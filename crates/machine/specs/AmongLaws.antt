@@ -1,6 +1,5 @@
 -- Laws of one message of a link, and of places.
 --   among-weight, among-length, among-right   == what its list weighs, how long it is, and that all of it is right
---   among-some      == a list with a message is not empty
 --   among-waiting   == a list with a message is one on which something waits
 --   between-among, between-place   == a message taken out of the middle is one of its list, and its place is one of 1 to their number
 --   atPlace-P       == what is found at a place is the message that stands there, taken out of the middle; nothing at place 0 and beyond
@@ -29,10 +28,6 @@ module _ {M : Type 0} {m : M} where
   pub among-length : {rest ms : List M} → Among m rest ms → length ms ≡ suc (length rest)
   among-length oldest = refl
   among-length (later i) = omega (arith, among-length i)
-
-  pub among-some : {rest ms : List M} → Among m rest ms → ms ≡ [] → ⊥
-  among-some oldest e = let z : _≡_ {A = ℕ} 0 1 = cc in omega arith
-  among-some (later i) e = let z : _≡_ {A = ℕ} 0 1 = cc in omega arith
 
   pub among-waiting : {rest ms : List M} → Among m rest ms → waiting ms ≡ true
   among-waiting oldest = refl

@@ -9,7 +9,7 @@
 use Prim.Native.Nat.{ℕ, suc, _+_, _≤_}
 use mathlib.Core.Bool.{Bool, true, false, _&&_, _||_, false≢true}
 use mathlib.Core.List.{List, [], _∷_, _++_}
-use mathlib.Core.Path.{_≡_, refl, sym}
+use mathlib.Core.Path.{_≡_, refl, sym, ap}
 use mathlib.Core.Logic.{_↔_}
 use native.Mathlib.Omega.{arith}
 use borrow.Author.Tests.{leb-true, le-leb, eqb-true}
@@ -25,7 +25,7 @@ use Rattle.tables.specs.TableLaws.{isProcess-P}
 use Rattle.tables.specs.Waits.{neighbours}
 use Rattle.machine.specs.Formed.{Formed, Acceptable}
 use Rattle.machine.specs.Among.{Among}
-use Rattle.machine.specs.AmongLaws.{among-length, among-some, among-right}
+use Rattle.machine.specs.AmongLaws.{among-length, among-right}
 use Rattle.machine.specs.Machine.{Machine, Rules, allRight, linkRight, wellFormed, taken, leftBy, after, accepts}
 
 -- ---- the messages of a list
@@ -133,7 +133,8 @@ taken-empty r a b m rest l x y n = at (tested (eqb x a && eqb y b))
     at (passed e) =
         let p : x ≡ a = eqb-true x a (and-left (eqb x a) (eqb y b) e) in
         let q : y ≡ b = eqb-true y b (and-right (eqb x a) (eqb y b) e) in
-        absurd (among-some l (rw (p, q) at n))
+        let none : r .link a b ≡ [] = rw (p, q) at n in
+        absurd (omega (arith, among-length l, ap length none))
     at (failed e) = rw e n
 
 module _ {P M : Type 0} (ρ : Rules P M) (r : Machine P M) (a b : ℕ) (m : M) (rest : List M) where

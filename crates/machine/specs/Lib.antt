@@ -3,7 +3,8 @@
 -- accepted deliveries), Weights, Among (one message of a link, wherever it stands) and Moved (what a delivery does, in weights), Diffusing
 -- (what start and deliveries keep, and what a check proves of its own step for that), Upheld (what a check's invariants must give).
 -- Laws stand apart: ChooserLaws, FormedLaws, MadeLaws (the one induction over running on, and over lists), RunningLaws (turn by turn),
--- WeightLaws, AmongLaws (and places), MovedLaws, DiffusingLaws, RestLaws, TreeLaws (fathers lead to the start), UpheldLaws (the common part of the promise).
+-- WeightLaws, AmongLaws (and places), MovedLaws, DiffusingLaws, RestLaws, TreeLaws (fathers lead to the start), UpheldLaws (the common part
+-- of the promise).
 pub mod Machine
 pub mod Calls
 pub mod Lists

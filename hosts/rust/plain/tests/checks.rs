@@ -326,51 +326,58 @@ fn four_on_each_link() -> Vec<i32> {
     area
 }
 
+/// A link of `four_on_each_link`: its ends and first word, the receiver's cs and num, and the last
+/// word of the link back with what a probe's acknowledgement puts there.
+struct Full {
+    from: usize,
+    to: usize,
+    link: usize,
+    cs: usize,
+    back: usize,
+    acknowledgement: i32,
+}
+
+/// A pick of each place: the message, and the link, cs and num of the receiver afterwards.
+fn takes_at_each_place(full: Full, rows: [(Message, [i32; 4], i32, i32); 4]) {
+    for (place, (message, link, cs, num)) in (1..).zip(rows) {
+        let mut area = four_on_each_link();
+        // Room for the acknowledgement of a probe.
+        area[full.back] = 0;
+        let mut expected = area.clone();
+        expected[2] = 1;
+        expected[full.link..full.link + 4].copy_from_slice(&link);
+        expected[full.cs..full.cs + 2].copy_from_slice(&[cs, num]);
+        if matches!(message, Message::Suc | Message::Pre) {
+            expected[full.back] = full.acknowledgement;
+        }
+        assert_eq!(pick(&mut area, full.from, full.to, place), Ok(message));
+        assert_eq!(area, expected, "place {place}");
+    }
+}
+
 /// 02, N5: "A pick may name a place, 1 for the oldest message, and that message is taken out of the
 /// middle."
 #[test]
 fn a_pick_takes_the_message_at_its_place_and_the_others_keep_their_order() {
-    // From 1 to 2: the message, and the link, cs and num of 2 afterwards.
-    let to_2 = [
-        (Message::Ack(7), [2, 252, 1, 0], 12, 8),
-        (Message::Pre, [263, 252, 1, 0], 0, 9),
-        (Message::Ack(-4), [263, 2, 1, 0], 1, 8),
-        (Message::Suc, [263, 2, 252, 0], 0, 9),
-    ];
-    for (place, (message, link, cs, num)) in (1..).zip(to_2) {
-        let mut area = four_on_each_link();
-        // Room for the acknowledgement of a probe.
-        area[59] = 0;
-        let mut expected = area.clone();
-        expected[2] = 1;
-        expected[40..44].copy_from_slice(&link);
-        (expected[35], expected[36]) = (cs, num);
-        if matches!(message, Message::Suc | Message::Pre) {
-            expected[59] = 256 + 5;
-        }
-        assert_eq!(pick(&mut area, 1, 2, place), Ok(message));
-        assert_eq!(area, expected, "place {place}");
-    }
-    // From 2 to the start, where an acknowledgement changes cs and num.
-    let to_1 = [
-        (Message::Suc, [258, 255, 2, 0], 0, 9),
-        (Message::Ack(2), [1, 255, 2, 0], 2, 8),
-        (Message::Ack(-1), [1, 258, 2, 0], -1, 8),
-        (Message::Pre, [1, 258, 255, 0], 0, 9),
-    ];
-    for (place, (message, link, cs, num)) in (1..).zip(to_1) {
-        let mut area = four_on_each_link();
-        area[43] = 0;
-        let mut expected = area.clone();
-        expected[2] = 1;
-        expected[56..60].copy_from_slice(&link);
-        (expected[29], expected[30]) = (cs, num);
-        if matches!(message, Message::Suc | Message::Pre) {
-            expected[43] = 256;
-        }
-        assert_eq!(pick(&mut area, 2, 1, place), Ok(message));
-        assert_eq!(area, expected, "place {place}");
-    }
+    takes_at_each_place(
+        Full { from: 1, to: 2, link: 40, cs: 35, back: 59, acknowledgement: 256 + 5 },
+        [
+            (Message::Ack(7), [2, 252, 1, 0], 12, 8),
+            (Message::Pre, [263, 252, 1, 0], 0, 9),
+            (Message::Ack(-4), [263, 2, 1, 0], 1, 8),
+            (Message::Suc, [263, 2, 252, 0], 0, 9),
+        ],
+    );
+    // To the start, where an acknowledgement changes cs and num alone.
+    takes_at_each_place(
+        Full { from: 2, to: 1, link: 56, cs: 29, back: 43, acknowledgement: 256 },
+        [
+            (Message::Suc, [258, 255, 2, 0], 0, 9),
+            (Message::Ack(2), [1, 255, 2, 0], 2, 8),
+            (Message::Ack(-1), [1, 258, 2, 0], -1, 8),
+            (Message::Pre, [1, 258, 255, 0], 0, 9),
+        ],
+    );
 }
 
 /// The last of one, two, three and four: those before it stay.
