@@ -29,7 +29,7 @@ use Rattle.steps.specs.declared.Stepped.the-variants.{Taken}
 use Rattle.steps.specs.Step.{countSmall}
 use Rattle.base.specs.ChoiceLaws.{value-not, value-yes}
 use Rattle.machine.specs.Among.{Among}
-use Rattle.machine.specs.AmongLaws.{among-right, cut-placed}
+use Rattle.machine.specs.AmongLaws.{cut-placed}
 use Rattle.checks.specs.declared.Delivery.{Delivery}
 use Rattle.checks.specs.declared.Delivery.the-variants.{Delivered}
 use Rattle.checks.specs.Run.{mostDeliveries, accepts}
@@ -42,12 +42,12 @@ use Rattle.lenses.specs.Standing.{standing, OneAt}
 use Rattle.lenses.specs.Ready.{Ready}
 use Rattle.lenses.specs.Storable.{Storable}
 use Rattle.lenses.specs.ReadyLaws.{right-storable, ready-n, ready-sizes}
-use Rattle.lenses.specs.ChangeLaws.{link-right}
-use Rattle.lenses.specs.StandingLaws.{none-standing, beyond-standing, message-standing}
+use Rattle.lenses.specs.ChangeLaws.{link-message}
+use Rattle.lenses.specs.StandingLaws.{message-standing}
 use Rattle.delivery.specs.Rooms.{roomy, roomTo}
 use Rattle.delivery.specs.Delivering.{steppedAt, probesOf, carriedOut, Carried, grownBy, deliverAt, PreparedFor, preparedOf}
 use Rattle.delivery.specs.AcceptLaws.{accepts-refused, accepts-full, taken-replied, accepts-crowded}
-use Rattle.delivery.specs.PreparedLaws.{prepared-empty, prepared-beyond, prepared-at, prepared-refused, sent-grows, sent-is, prepared-go}
+use Rattle.delivery.specs.PreparedLaws.{prepared-nothing, prepared-beyond, prepared-at, prepared-refused, sent-grows, sent-is, prepared-go}
 use Rattle.delivery.specs.PreparedLaws.{refused-of, going-of}
 use Rattle.delivery.specs.declared.delivering.Prepared.{Prepared}
 use Rattle.delivery.specs.declared.delivering.Prepared.the-variants.{Go}
@@ -62,25 +62,25 @@ module _ {w : List ℤ} {sq : List ℕ} {n m : ℕ} (y : Ready w sq n m) {a b : 
   pub place-asks : Ready w sq n m × (((a ≤ mostProcesses) × (b ≤ mostProcesses)) × (neighbours (runIn w .waits) a b ≡ true))
   place-asks = (y, (omega (arith, ready-sizes y), j))
 
-  module _ (i : ℕ) {p : AtPlace} (e : p ≡ standing i (runIn w .link a b)) where
-    pub nothing-waits : p ≡ AtPlace.Nothing → Answer w a b i (Prepared.Refused 24)
-    nothing-waits o = sym (prepared-empty (runIn w) a b i (runIn w .link a b) (none-standing i (runIn w .link a b) (sym e ∙ o)))
+module _ {w : List ℤ} {sq : List ℕ} {n m : ℕ} (y : Ready w sq n m) (a b i : ℕ) {p : AtPlace} (e : p ≡ standing i (runIn w .link a b)) where
+  pub nothing-waits : p ≡ AtPlace.Nothing → Answer w a b i (Prepared.Refused 24)
+  nothing-waits o = sym (prepared-nothing (runIn w) a b i (runIn w .link a b) (sym e ∙ o))
 
-    pub none-there : p ≡ Beyond → Answer w a b i (Prepared.Refused 31)
-    none-there o = sym (prepared-beyond (runIn w) a b i (runIn w .link a b) (beyond-standing i (runIn w .link a b) (sym e ∙ o)))
+  pub none-there : p ≡ Beyond → Answer w a b i (Prepared.Refused 31)
+  none-there o = sym (prepared-beyond (runIn w) a b i (runIn w .link a b) (sym e ∙ o))
 
-    module _ {x : Message} (o : p ≡ AtPlace.Message x) where
-      here : OneAt i (runIn w .link a b) x
-      here = message-standing i (runIn w .link a b) (sym e ∙ o)
+  module _ {x : Message} (o : p ≡ AtPlace.Message x) where
+    here : OneAt i (runIn w .link a b) x
+    here = message-standing i (runIn w .link a b) (sym e ∙ o)
 
-      among : Among x (here .rest) (runIn w .link a b)
-      among = cut-placed i (runIn w .link a b) (here .is) .0
+    among : Among x (here .rest) (runIn w .link a b)
+    among = cut-placed i (runIn w .link a b) (here .is) .0
 
-      pub message-small : countSmall x ≡ true
-      message-small = among-right countSmall among (link-right (fieldsIn w) (runIn w) (right-storable w (y .right)) a b .1) .0
+    pub message-small : countSmall x ≡ true
+    message-small = link-message (fieldsIn w) (runIn w) (right-storable w (y .right)) a b among
 
-      pub message-prepared : {d : Prepared} → PreparedFor w a b x d → Answer w a b i d
-      message-prepared h = h (here .rest) among ∙ sym (prepared-at (runIn w) a b i (runIn w .link a b) (here .is))
+    pub message-prepared : {d : Prepared} → PreparedFor w a b x d → Answer w a b i d
+    message-prepared h = h (here .rest) among ∙ sym (prepared-at (runIn w) a b i (runIn w .link a b) (here .is))
 
 -- ---- the delivery of a message
 
@@ -107,10 +107,10 @@ module _ {w : List ℤ} {sq : List ℕ} {n m a b : ℕ} {x : Message} (h : Sent 
   process-asks = (h .ready, step-asks .1 .1 .0)
 
   pub step-refused : {s : Stepped} {k : ℕ} → s ≡ steppedAt (runIn w) a b x → s ≡ Stepped.Refused k → PreparedFor w a b x (Prepared.Refused 22)
-  step-refused {k = k} t o = by-22 (λ rest l. accepts-refused (runIn w) (f .formed) (f .sound) a b (h .near) x rest l k (sym t ∙ o))
+  step-refused {k = k} t o = by-22 (λ rest l. accepts-refused (runIn w) (f .formed) (f .sound) a b (h .near) x (h .small) rest l k (sym t ∙ o))
 
   pub count-full : {c : ℕ} → c ≡ runIn w .count → mostDeliveries ≤ c → PreparedFor w a b x (Prepared.Refused 22)
-  count-full k u = by-22 (λ rest l. accepts-full (runIn w) (f .formed) (f .sound) a b (h .near) x rest l (omega arith))
+  count-full k u = by-22 (λ rest l. accepts-full (runIn w) (f .formed) (f .sound) a b (h .near) x (h .small) rest l (omega arith))
 
   module _ {s : Stepped} {q : Process} {p : Probes} {z : Reply} (t : s ≡ steppedAt (runIn w) a b x) (o : s ≡ Taken q p z) where
     -- the room that code counts, over the N that it is given
@@ -128,7 +128,7 @@ module _ {w : List ℤ} {sq : List ℕ} {n m a b : ℕ} {x : Message} (h : Sent 
 
     pub links-full : (v : Bool) → v ≡ allTo n (roomTo (runIn w) a b p z) → not v ≡ true → PreparedFor w a b x (Prepared.Refused 22)
     links-full v e k =
-        by-22 (λ rest l. accepts-crowded (runIn w) (f .formed) (f .sound) a b (h .near) x rest l q p z (sym t ∙ o) (value-not (sym (room-is e)) k))
+        by-22 (λ rest l. accepts-crowded (runIn w) (f .formed) (f .sound) a b (h .near) x (h .small) rest l q p z (sym t ∙ o) (value-not (sym (room-is e)) k))
 
     -- the record as it was, of which the growth of num is counted
     module _ {v : Process} (d : v ≡ runIn w .process b) where

@@ -21,9 +21,9 @@ use Rattle.steps.specs.Step.{inRange, replyFits}
 use Rattle.checks.specs.Run.{Run, mostDeliveries, fatherRight}
 use Rattle.areas.specs.Used.{linkSlots}
 use Rattle.areas.specs.Area.{fieldsIn, runIn, keeping}
-use Rattle.areas.specs.Replaced.{putProcess, putLink, putCount}
+use Rattle.areas.specs.Replaced.{putProcess, putCount}
 use Rattle.lenses.specs.Ready.{Ready}
-use Rattle.lenses.specs.Changes.{without, answered, off, Spreadable, Answerable}
+use Rattle.lenses.specs.Changes.{answered, off, Spreadable, Answerable}
 use Rattle.lenses.specs.Storable.{Storable}
 use Rattle.lenses.specs.ReadyLaws.{right-storable, runIn-few, ready-n, ready-sizes}
 use Rattle.delivery.specs.Delivering.{probesOf, spreadBy, changed, carriedOut, Carried}
@@ -47,7 +47,7 @@ module _ {w : List ℤ} {sq : List ℕ} {n m : ℕ} (y : Ready w sq n m) {a b i 
       let e = carried-ends (fieldsIn w) r f a b i x p z k in
       (y, (omega (arith, e .1, e .3, ready-n y, ready-sizes y), (k .joined, (k .placed .0, omega (arith, k .placed .1, runIn-few w a b)))))
 
-  pub taken-off : {u : List ℤ} → u ≡ keeping w (putLink (runIn w) a b (without i (runIn w .link a b))) → Holding w u (off r a b i)
+  pub taken-off : {u : List ℤ} → u ≡ keeping w (off r a b i) → Holding w u (off r a b i)
   taken-off e = record { is = e; fit = storable-off (fieldsIn w) r f a b i x p z k }
 
   module _ {v : List ℤ} (h : Holding w v (off r a b i)) where

@@ -7,7 +7,6 @@
 --   accepts-taken         == what an accepted delivery says of the step, the count and the links
 --   accepts-of, accepts-refused, accepts-full, accepts-crowded   == it meets no 22, or 22 for one of its three reasons
 --   carried-of            == what makes the changes of an accepted delivery possible
---   message-small         == the count of a waiting message is in range
 --   deliver-answer, deliver-run   == what a delivery answers, and the run that it leaves
 -- Assumes nothing.
 use Prim.Native.Nat.{ℕ, _+_, _≤_, _<_}
@@ -42,7 +41,7 @@ use Rattle.steps.specs.StepLaws.{stepped-inside}
 use Rattle.checks.specs.declared.Delivery.the-variants.{Delivered}
 use Rattle.machine.specs.Calls.{cut, atPlace}
 use Rattle.machine.specs.Among.{Among}
-use Rattle.machine.specs.AmongLaws.{among-right, cut-placed}
+use Rattle.machine.specs.AmongLaws.{cut-placed}
 use Rattle.machine.specs.MadeLaws.{deliver-cut}
 use Rattle.machine.specs.FormedLaws.{wellFormed-P}
 use Rattle.checks.specs.RunLaws.{formed-range, formed-father, new-father, replied, new-range, new-reply}
@@ -147,13 +146,7 @@ and-true true b = refl
 and-true false b = refl
 
 module _ (r : Run) (h : wellFormed r ≡ true) (sd : Sound (r .waits)) (a b : ℕ) (j : neighbours (r .waits) a b ≡ true) (m : Message)
-    (rest : List Message) (l : Among m rest (r .link a b)) where
-  -- the counts of waiting messages are in range
-  pub message-small : countSmall m ≡ true
-  message-small =
-      let e = neighbours-ends (r .waits) sd a b j in
-      among-right countSmall l (wellFormed-P knot r .0 h .messages a b (e .0, e .1) (e .2, e .3)) .0
-
+    (small : countSmall m ≡ true) (rest : List Message) (l : Among m rest (r .link a b)) where
   abbrev counted : Bool
   counted = leb (r .count + 1) mostDeliveries
 
@@ -174,11 +167,11 @@ module _ (r : Run) (h : wellFormed r ≡ true) (sd : Sound (r .waits)) (a b : �
   unfolding Machines.accepts answer
   accepts-taken e =
       let k = and-three counted fits held e in
-      (rw (steppedAt-is r h sd a b j m message-small, k .1), omega (arith, leb-true (r .count + 1) mostDeliveries (k .0)), sym roomy-is ∙ k .2)
+      (rw (steppedAt-is r h sd a b j m small, k .1), omega (arith, leb-true (r .count + 1) mostDeliveries (k .0)), sym roomy-is ∙ k .2)
 
   pub accepts-refused : (n : ℕ) → steppedAt r a b m ≡ Stepped.Refused n → accepts r a b m rest ≡ false
   unfolding Machines.accepts
-  accepts-refused n e = not-second counted fits held (steppedAt-refused r h sd a b j m message-small n e)
+  accepts-refused n e = not-second counted fits held (steppedAt-refused r h sd a b j m small n e)
 
   pub accepts-full : mostDeliveries ≤ r .count → accepts r a b m rest ≡ false
   unfolding Machines.accepts
@@ -186,7 +179,7 @@ module _ (r : Run) (h : wellFormed r ≡ true) (sd : Sound (r .waits)) (a b : �
 
   module _ (x : Process) (y : Probes) (z : Reply) (e : steppedAt r a b m ≡ Taken x y z) where
     taking : Taking r a b m x y z
-    taking = steppedAt-taken r h sd a b j m message-small x y z e
+    taking = steppedAt-taken r h sd a b j m small x y z e
 
     roomy-taken : held ≡ roomy r a b y z
     roomy-taken = rw (taking .probes, taking .reply) roomy-is
@@ -213,7 +206,7 @@ module _ (r : Run) (h : wellFormed r ≡ true) (sd : Sound (r .waits)) (a b : �
               range = rw (taking .process) (new-range r a b m rest accepts-of);
               father = rw (taking .process) (new-father (wellFormed-P knot r .0 h) sd a b j m);
               replies = rw (taking .reply) (new-reply r a b m rest accepts-of);
-              replied = taken-replied r h sd a b j m message-small x y z e;
+              replied = taken-replied r h sd a b j m small x y z e;
               count = omega arith;
               room = λ q u v. leb-true (loadAfter r a b y z q) 4 (allTo-at (r .waits .n) (λ q. leb (loadAfter r a b y z q) 4) free q u v);
             }

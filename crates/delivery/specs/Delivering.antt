@@ -38,9 +38,9 @@ use Rattle.checks.specs.Calls.{Picked, deliver}
 use Rattle.machine.specs.Calls.{Cut, nowhere, cut, atPlace}
 use Rattle.machine.specs.Among.{Among}
 use Rattle.areas.specs.Area.{runIn}
-use Rattle.areas.specs.Replaced.{putProcess, putLink, putCount}
+use Rattle.areas.specs.Replaced.{putProcess, putCount}
 use Rattle.areas.specs.Squares.{joinsBy}
-use Rattle.lenses.specs.Changes.{without, answered, spread, off}
+use Rattle.lenses.specs.Changes.{answered, spread, off}
 use Rattle.delivery.specs.Rooms.{loadAfter}
 use Rattle.delivery.specs.declared.delivering.Prepared.{Prepared}
 use Rattle.delivery.specs.declared.delivering.Prepared.the-variants.{Go}
@@ -85,7 +85,7 @@ pub record Relinked (r q : Run) : Type 0 where
 -- the changes that make a delivery, one after another
 unfoldable pub carriedOut : Run → ℕ → ℕ → ℕ → Process → Probes → Reply → Run
 carriedOut r a b k x y z =
-    let q : Run = spreadBy y (answered (putProcess (putLink r a b (without k (r .link a b))) b x) b z) b in
+    let q : Run = spreadBy y (answered (changed r a b k x) b z) b in
     putCount q (q .count + 1)
 
 -- what makes each of them possible

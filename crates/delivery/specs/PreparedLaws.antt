@@ -1,5 +1,5 @@
 -- What a prepared delivery says of the delivery itself, and how the code that prepares it comes to its answer.
---   prepared-empty, prepared-beyond, prepared-at   == the answer by what waits at the place
+--   prepared-nothing, prepared-beyond, prepared-at   == the answer by what waits at the place
 --   prepared-refused, prepared-go   == the answer for a message: where 22 is met, and else
 --   sent-grows            == where the step broadcasts, num grows by the number of probes; sent-is, by the growth they are counted
 --   refused-of            == a refusal is the delivery's
@@ -36,7 +36,10 @@ use Rattle.areas.specs.Area.{fieldsIn, runIn}
 use Rattle.lenses.specs.Ready.{Ready}
 use Rattle.lenses.specs.Storable.{Storable}
 use Rattle.lenses.specs.ReadyLaws.{right-storable, ready-n}
-use Rattle.lenses.specs.Standing.{NoneAt}
+use Rattle.lenses.specs.declared.links.AtPlace.{AtPlace}
+use Rattle.lenses.specs.declared.links.AtPlace.the-variants.{Beyond}
+use Rattle.lenses.specs.Standing.{foundAt, standing}
+use Rattle.lenses.specs.ChangeLaws.{link-message}
 use Rattle.delivery.specs.Rooms.{roomy}
 use Rattle.delivery.specs.Delivering.{steppedAt, probesOf, probesSent, grownBy, preparedWith, preparedFound, preparedOf}
 use Rattle.delivery.specs.DeliveryFacts.{Taking, Going}
@@ -47,14 +50,24 @@ use Rattle.delivery.specs.declared.delivering.Prepared.the-variants.{Go}
 
 -- ---- by what waits at the place
 
-module _ (r : Run) (a b k : ℕ) (ms : List Message) where
-  pub prepared-empty : ms ≡ [] → preparedOf r a b k ms ≡ Prepared.Refused 24
-  unfolding preparedOf
-  prepared-empty e = rw e
+module _ (r : Run) (a b k : ℕ) where
+  pub prepared-nothing : (ms : List Message) → standing k ms ≡ AtPlace.Nothing → preparedOf r a b k ms ≡ Prepared.Refused 24
+  unfolding standing preparedOf
+  prepared-nothing [] e = refl
+  prepared-nothing (m ∷ ms) e = absurd (at (atPlace k (m ∷ ms)) e)
+    where
+      at : (c : Cut Message) → foundAt c ≡ AtPlace.Nothing → ⊥
+      at nowhere q = let z : _≡_ {A = ℕ} 0 1 = cc in omega arith
+      at (cut x rest) q = let z : _≡_ {A = ℕ} 0 1 = cc in omega arith
 
-  pub prepared-beyond : NoneAt k ms → preparedOf r a b k ms ≡ Prepared.Refused 31
-  unfolding preparedOf
-  prepared-beyond h = let e : atPlace k (h .first ∷ h .more) ≡ nowhere = rw (h .link) at (h .none) in rw (h .link, e)
+  pub prepared-beyond : (ms : List Message) → standing k ms ≡ Beyond → preparedOf r a b k ms ≡ Prepared.Refused 31
+  unfolding standing preparedOf
+  prepared-beyond [] e = let z : _≡_ {A = ℕ} 0 1 = cc in absurd (omega arith)
+  prepared-beyond (m ∷ ms) e = at (atPlace k (m ∷ ms)) e
+    where
+      at : (c : Cut Message) → foundAt c ≡ Beyond → preparedFound r a b c ≡ Prepared.Refused 31
+      at nowhere q = refl
+      at (cut x rest) q = let z : _≡_ {A = ℕ} 0 1 = cc in absurd (omega arith)
 
 pub prepared-at :
     (r : Run) (a b k : ℕ) (ms : List Message) {m : Message} {rest : List Message} → atPlace k ms ≡ cut m rest →
@@ -85,7 +98,7 @@ module _ (r : Run) (h : wellFormed r ≡ true) (sd : Sound (r .waits)) (a b : �
   module _ (rest : List Message) (l : Among m rest (r .link a b)) (few : r .count < mostDeliveries) (free : roomy r a b y z ≡ true) where
     pub prepared-go : preparedWith r a b m rest ≡ Go m x y z (probesSent (r .waits) b y)
     unfolding preparedWith
-    prepared-go = rw (accepts-of r h sd a b j m rest l x y z e few free, taking .process, taking .probes, taking .reply)
+    prepared-go = rw (accepts-of r h sd a b j m c rest l x y z e few free, taking .process, taking .probes, taking .reply)
 
 pub prepared-refused : (r : Run) (a b : ℕ) (m : Message) (rest : List Message) → accepts r a b m rest ≡ false → preparedWith r a b m rest ≡ Prepared.Refused 22
 unfolding preparedWith
@@ -129,12 +142,13 @@ module _ {w : List ℤ} {sq : List ℕ} {n m : ℕ} (y : Ready w sq n m) (a b i 
   accepted-going g rest p t =
       let u = turnAt (runIn w) a b g in
       let l : Among g rest (runIn w .link a b) = cut-placed i (runIn w .link a b) p .0 in
-      let k = accepts-taken (runIn w) (f .formed) (f .sound) a b j g rest l t in
-      let d = carried-of (runIn w) (f .formed) (f .sound) a b j g rest l (u .process) (u .probes) (u .reply) (k .0) (k .1) (k .2) i p in
+      let c = link-message (fieldsIn w) (runIn w) f a b l in
+      let k = accepts-taken (runIn w) (f .formed) (f .sound) a b j g c rest l t in
+      let d = carried-of (runIn w) (f .formed) (f .sound) a b j g c rest l (u .process) (u .probes) (u .reply) (k .0) (k .1) (k .2) i p in
       record {
         carried = d;
-        answer = deliver-answer (runIn w) (f .formed) (f .sound) a b j g rest l (u .process) (u .probes) (u .reply) (k .0) (k .1) (k .2) i p;
-        run = deliver-run (runIn w) (f .formed) (f .sound) a b j g rest l (u .process) (u .probes) (u .reply) (k .0) (k .1) (k .2) i p;
+        answer = deliver-answer (runIn w) (f .formed) (f .sound) a b j g c rest l (u .process) (u .probes) (u .reply) (k .0) (k .1) (k .2) i p;
+        run = deliver-run (runIn w) (f .formed) (f .sound) a b j g c rest l (u .process) (u .probes) (u .reply) (k .0) (k .1) (k .2) i p;
         sent = refl;
         replied = λ p c e. let i = neighbours-ends (runIn w .waits) (f .sound) b p (d .replied p c e) in (i .2, omega (arith, i .3, ready-n y));
       }

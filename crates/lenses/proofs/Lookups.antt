@@ -27,7 +27,7 @@ use Rattle.steps.specs.Step.{mostCount, small, inRange, countSmall}
 use Rattle.checks.specs.Run.{knot}
 use Rattle.machine.specs.FormedLaws.{wellFormed-P}
 use Rattle.machine.specs.Among.{Here}
-use Rattle.machine.specs.AmongLaws.{among-right, atPlace-here}
+use Rattle.machine.specs.AmongLaws.{atPlace-here}
 use Rattle.checks.specs.RunLaws.{formed-range}
 use Rattle.areas.specs.Places.{startPlace, countPlace, numPlace, recordStart, areaLength}
 use Rattle.areas.specs.Used.{linkSlots}
@@ -41,7 +41,7 @@ use Rattle.lenses.specs.declared.links.AtPlace.{AtPlace}
 use Rattle.lenses.specs.declared.links.AtPlace.the-variants.{Beyond}
 use Rattle.lenses.specs.Standing.{standing}
 use Rattle.lenses.specs.ReadyLaws.{right-storable, runIn-few, ready-n}
-use Rattle.lenses.specs.ChangeLaws.{link-right}
+use Rattle.lenses.specs.ChangeLaws.{link-message}
 use Rattle.lenses.specs.StandingLaws.{standing-none, standing-beyond, standing-cut, slot-cut}
 use Rattle.lenses.proofs.Stores.{read-process, link-is, slot-word, link-place, link-small, link-within}
 use Rattle.steps.proofs.Counts.{signed-back}
@@ -123,7 +123,7 @@ module _ {w : List ℤ} {sq : List ℕ} {n m : ℕ} (y : Ready w sq n m) where
             rw p (slot-word y j l u (k - 1) (omega (arith, lo, few-here)) ∙ slot-cut k (runIn w .link a b) (here .is))
 
         message-small : countSmall (here .message) ≡ true
-        message-small = among-right countSmall (here .among) (link-right (fieldsIn w) (runIn w) (right-storable w (y .right)) a b .1) .0
+        message-small = link-message (fieldsIn w) (runIn w) (right-storable w (y .right)) a b (here .among)
 
         pub word-at : WordAt w i k (runIn w .link a b)
         word-at =

@@ -34,7 +34,7 @@ use Rattle.areas.specs.AreaLaws.{stored-same, areaRight-table}
 use Rattle.areas.specs.SquareLaws.{placeBy-is}
 use Rattle.lenses.specs.Ready.{Ready}
 use Rattle.machine.specs.Calls.{Cut, nowhere, cut, past, behind, atPlace}
-use Rattle.lenses.specs.Changes.{stays, without}
+use Rattle.lenses.specs.Changes.{stays, off}
 use Rattle.lenses.specs.ReadyLaws.{right-long, runIn-few, ready-sizes, ready-joined}
 
 -- ---- the words of what stays on a link
@@ -123,7 +123,7 @@ module _ {w : List ℤ} {sq : List ℕ} {n m : ℕ} (y : Ready w sq n m) where
       link-room h = rw (link-place, ← link-is) (omega arith)
 
       pub store-take : (k : ℕ) → (1 ≤ k) × (k ≤ linkSlots)
-          → movedDown w (i + k - 1) (i + linkSlots) ≡ keeping w (putLink (runIn w) a b (without k (runIn w .link a b)))
+          → movedDown w (i + k - 1) (i + linkSlots) ≡ keeping w (off (runIn w) a b k)
       unfolding atPlace
       store-take zero h = absurd (omega (arith, h))
       store-take (suc k) h =

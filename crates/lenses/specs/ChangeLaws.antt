@@ -4,7 +4,7 @@
 --   joins-low, joins-high, joins-neighbours  == whom a chain leads to is a process and a neighbour
 --   father-few           == a father is at most the largest N
 --   storable-size, probe-small   == the run's N is its table's; a probe has no count out of range
---   link-right           == every link of such a run holds at most 4 messages, with counts in range
+--   link-right, link-message   == every link of such a run holds at most 4 messages, with counts in range; the count of each is
 --   without-none, without-length   == nothing is taken off an empty link; how many messages stay on a link when one is taken
 --   spreadTo-none        == nothing is sent to those of 1 to 0
 --   spreadTo-sent, spreadTo-passed   == one process more, to whom the probe goes or does not go
@@ -39,13 +39,13 @@ use Rattle.steps.specs.declared.Reply.the-variants.{To}
 use Rattle.steps.specs.Step.{inRange, small, countSmall, replyFits}
 use Rattle.machine.specs.Calls.{Cut, behind, atPlace}
 use Rattle.machine.specs.FormedLaws.{wellFormed-P, allRight-append}
-use Rattle.machine.specs.Among.{Placed, there, not-there, Here}
+use Rattle.machine.specs.Among.{Among, Placed, there, not-there, Here}
 use Rattle.machine.specs.AmongLaws.{among-length, among-right, between-among, atPlace-P, atPlace-here}
 use Rattle.checks.specs.Run.{Run, mostDeliveries, knot, fatherRight, countsSmall, one}
 use Rattle.areas.specs.Used.{linkSlots}
 use Rattle.areas.specs.Replaced.{putProcess, putLink, putCount}
 use Rattle.areas.specs.ContainedLaws.{contained-joined, contained-process, contained-link, contained-count}
-use Rattle.lenses.specs.Changes.{probeOf, spreadTo, stays, without, answered, spread}
+use Rattle.lenses.specs.Changes.{probeOf, spreadTo, stays, without, answered, spread, off}
 use Rattle.lenses.specs.Storable.{Storable}
 
 -- ---- whom a chain leads to
@@ -197,12 +197,16 @@ module _ (t : Fields) (r : Run) (f : Storable t r) where
           (g .short a b (e .0, e .1) (e .2, e .3), g .messages a b (e .0, e .1) (e .2, e .3))
       at (failed j) = rw (contained-joined t r (f .held) a b j) (omega arith, refl)
 
+  -- so is each message that waits on one
+  pub link-message : (a b : ℕ) {m : Message} {rest : List Message} → Among m rest (r .link a b) → countSmall m ≡ true
+  link-message a b i = among-right countSmall i (link-right a b .1) .0
+
   pub storable-push : (a b : ℕ) (m : Message) → neighbours (r .waits) a b ≡ true → countSmall m ≡ true → length (r .link a b) ≤ linkSlots - 1
       → Storable t (putLink r a b (r .link a b ++ (m ∷ [])))
   storable-push a b m j k s =
       storable-link a b (r .link a b ++ (m ∷ [])) j (rw length-append (omega arith)) (counts-push (r .link a b) m (link-right a b .1) k)
 
-  pub storable-take : (a b k : ℕ) → neighbours (r .waits) a b ≡ true → Storable t (putLink r a b (without k (r .link a b)))
+  pub storable-take : (a b k : ℕ) → neighbours (r .waits) a b ≡ true → Storable t (off r a b k)
   storable-take a b k j =
       let h = without-right k (r .link a b) (link-right a b .0) (link-right a b .1) in
       storable-link a b (without k (r .link a b)) j (h .0) (h .1)

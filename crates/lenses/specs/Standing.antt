@@ -1,7 +1,7 @@
 -- What waits at a place of a link, as code says it.
 --   foundAt c            == what was found at a place of a link on which something waits
 --   standing k ms        == what waits at place k: nothing on the whole link, none at that place, or a message
---   NoneAt k ms, OneAt k ms x   == what is known where none is at that place, and where x is
+--   OneAt k ms x         == x is at that place
 -- Assumes nothing.
 use Prim.Native.Nat.{ℕ}
 use mathlib.Core.List.{List, [], _∷_}
@@ -18,13 +18,6 @@ foundAt (cut m rest) = AtPlace.Message m
 unfoldable pub standing : ℕ → List Message → AtPlace
 standing k [] = AtPlace.Nothing
 standing k (m ∷ ms) = foundAt (atPlace k (m ∷ ms))
-
--- something waits, and none is at that place
-pub record NoneAt (k : ℕ) (ms : List Message) : Type 0 where
-  pub first : Message
-  pub more : List Message
-  pub link : ms ≡ first ∷ more
-  pub none : atPlace k ms ≡ nowhere
 
 -- what stays beside a message at that place
 pub record OneAt (k : ℕ) (ms : List Message) (x : Message) : Type 0 where

@@ -1,6 +1,6 @@
 -- What waits at a place of a link.
 --   standing-none, standing-beyond, standing-cut   == what code is to say where nothing waits, where no message is at that place, and else
---   none-standing, beyond-standing, message-standing   == what is known of the link where it says so
+--   message-standing     == where it says a message, that is the one
 --   slot-cut             == the word of the message behind so many others
 -- Assumes nothing.
 use Prim.Native.Nat.{ℕ, zero, suc, _-_, _≤_, _<_}
@@ -17,7 +17,7 @@ use Rattle.steps.specs.declared.Message.{Message}
 use Rattle.areas.specs.Area.{codeOf, slotWord}
 use Rattle.lenses.specs.declared.links.AtPlace.{AtPlace}
 use Rattle.lenses.specs.declared.links.AtPlace.the-variants.{Beyond}
-use Rattle.lenses.specs.Standing.{foundAt, standing, NoneAt, OneAt}
+use Rattle.lenses.specs.Standing.{foundAt, standing, OneAt}
 
 -- ---- what code is to say
 
@@ -41,26 +41,6 @@ pub standing-cut : (k : ℕ) (ms : List Message) {x : Message} {rest : List Mess
 unfolding standing
 standing-cut k [] e = absurd (omega (arith, cut-placed k [] e .1))
 standing-cut k (m ∷ ms) e = rw e
-
--- ---- what is known where it says so
-
-pub none-standing : (k : ℕ) (ms : List Message) → standing k ms ≡ AtPlace.Nothing → ms ≡ []
-unfolding standing
-none-standing k [] e = refl
-none-standing k (m ∷ ms) e = absurd (at (atPlace k (m ∷ ms)) e)
-  where
-    at : (f : Cut Message) → foundAt f ≡ AtPlace.Nothing → ⊥
-    at nowhere q = let z : _≡_ {A = ℕ} 0 1 = cc in omega arith
-    at (cut x rest) q = let z : _≡_ {A = ℕ} 0 1 = cc in omega arith
-
-pub beyond-standing : (k : ℕ) (ms : List Message) → standing k ms ≡ Beyond → NoneAt k ms
-unfolding standing
-beyond-standing k [] e = let z : _≡_ {A = ℕ} 0 1 = cc in absurd (omega arith)
-beyond-standing k (m ∷ ms) e = record { first = m; more = ms; link = refl; none = at (atPlace k (m ∷ ms)) e }
-  where
-    at : (f : Cut Message) → foundAt f ≡ Beyond → f ≡ nowhere
-    at nowhere q = refl
-    at (cut x rest) q = let z : _≡_ {A = ℕ} 0 1 = cc in absurd (omega arith)
 
 pub message-standing : (k : ℕ) (ms : List Message) {x : Message} → standing k ms ≡ AtPlace.Message x → OneAt k ms x
 unfolding standing

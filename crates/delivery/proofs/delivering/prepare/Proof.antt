@@ -12,27 +12,27 @@ prepare-message-requires : tie.Need-prepare-message-requires
 prepare-message-requires c κs =
     let a = c .before .before .before in
     let pre = a .before .pre in
-    let small = message-small (pre .0) (pre .1 .0) (pre .1 .1) _ (a .at-place .ensures) (c .before .message .given .1) in
+    let small = message-small (pre .0) _ _ _ (a .at-place .ensures) (c .before .message .given .1) in
     (pre .0, (pre .1 .0, (pre .1 .1, small)))
 
 returns : tie.Need-returns
 returns c =
     let a = c .before .before in
     let pre = a .before .pre in
-    nothing-waits (pre .0) (pre .1 .0) (pre .1 .1) _ (a .at-place .ensures) (c .enum-told .given .1)
+    nothing-waits (pre .0) _ _ _ (a .at-place .ensures) (c .enum-told .given .1)
 
 returns-2 : tie.Need-returns-2
 returns-2 c =
     let a = c .before .before in
     let pre = a .before .pre in
-    none-there (pre .0) (pre .1 .0) (pre .1 .1) _ (a .at-place .ensures) (c .enum-told2 .given .1)
+    none-there (pre .0) _ _ _ (a .at-place .ensures) (c .enum-told2 .given .1)
 
 returns-3 : tie.Need-returns-3
 returns-3 c =
     let m = c .before .before in
     let a = m .before .before in
     let pre = a .before .pre in
-    message-prepared (pre .0) (pre .1 .0) (pre .1 .1) _ (a .at-place .ensures) (m .message .given .1) (c .prepare-message .ensures)
+    message-prepared (pre .0) _ _ _ (a .at-place .ensures) (m .message .given .1) (c .prepare-message .ensures)
 
 pub prepare-spec : {M : Type 1} → statement M
 prepare-spec =
