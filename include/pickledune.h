@@ -1,8 +1,10 @@
 /* pickledune.h: the knot check for C and C++ (C99), over the archive libpickledune.a.
  *
  * A check says whether a process, such as a payment, is stuck in a knot of waits: whether every process that it waits for, at any
- * remove, waits for it in turn. A host writes or brings a wait table, starts a check at one process in words that it lends, delivers
- * the messages that wait on the links, one by one (pick) or in a fixed order (run on), and reads the report once the run is over.
+ * remove, waits for it in turn. By edition 1 of the rulebook that is all, so that a process that waits for nobody is in a knot; edition
+ * 2 asks in addition that it waits for somebody, be it for itself. A host writes or brings a wait table, starts a check at one process
+ * under one edition in words that it lends, delivers the messages that wait on the links, one by one (pick) or in a fixed order (run
+ * on), and reads the report once the run is over.
  *
  * What is lent. Every pointer is used only during the call that gets it; the library keeps none, has no memory of its own and no
  * state outside what is lent. A slice goes as a pointer and the number of its elements. Pointers must not be null, also where the
@@ -29,6 +31,7 @@
  *    9  the run area is too short
  *   10  the list has an odd number of entries
  *   11  the output is too short
+ *   30  the edition is neither 1 nor 2
  * Refused because of the state
  *   21  the run area is not well formed; for one process's step: the record, the kind or the count is out of range, or the father or
  *       a degree is over 128
@@ -101,12 +104,13 @@ uint32_t pickledune_open(const uint8_t *table, size_t table_bytes, uint32_t chai
  * Lent: table_bytes bytes, read only. They are not checked as a table; a walk that pickledune_open opened on the same bytes is right. */
 size_t pickledune_next(const uint8_t *table, size_t table_bytes, uint32_t chain, size_t arc);
 
-/* Starts a check at a process.
+/* Starts a check at a process, under an edition of the rulebook, 1 or 2.
  * Lent: table_bytes bytes, read only, and not needed by later calls; words words for the run area, of which the first
  * PICKLEDUNE_AREA_WORDS(N, M) are written, whatever they held, and the others are not touched.
- * Back: the area holds the run. Later calls take it as it stands; a host that changes a word gets 21 from them, or another run.
- * Refused, in this order: 1, 2, 3, 4, 5, 6, 7, 8, 9. */
-uint32_t pickledune_start(const uint8_t *table, size_t table_bytes, size_t start, int32_t *area, size_t words);
+ * Back: the area holds the run and its edition. Later calls take it as it stands; a host that changes a word gets 21 from them, or
+ * another run.
+ * Refused, in this order: 1, 2, 3, 4, 5, 6, 7, 8, 30, 9. */
+uint32_t pickledune_start(const uint8_t *table, size_t table_bytes, size_t start, size_t edition, int32_t *area, size_t words);
 
 /* Delivers the message at a place of the link from one process to another. Place 1 has the oldest message. The message is taken out of
  * the middle, and the others keep their order.
@@ -126,9 +130,10 @@ uint32_t pickledune_run_on(int32_t *area, size_t words, uint32_t k, uint32_t *ov
 
 /* The report of a run that is over.
  * Lent: words words, the run area, read only.
- * Back: *deliveries, those that the run took; *knot, 1 if the start is in a knot, else 0; *outside, how many processes that the start
- * waits for, at any remove, do not wait for it; *escape, the lowest-numbered of those (the lowest-numbered process with subordinate 1),
- * or 0 if there is none; *returned, 1 for the mark returned (exactly with knot), 0 for held.
+ * Back: *deliveries, those that the run took; *knot, 1 if the start is in a knot by the run's edition, else 0; *outside, how many
+ * processes that the start waits for, at any remove, do not wait for it (0 also if it waits for nobody); *escape, the lowest-numbered
+ * of those (the lowest-numbered process with subordinate 1), or 0 if there is none; *returned, 1 for the mark returned (exactly with
+ * knot), 0 for held.
  * Refused, in this order: 21, 26. */
 uint32_t pickledune_report(
     const int32_t *area,

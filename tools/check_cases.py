@@ -7,8 +7,8 @@ input of each crate that runs the check program itself, with what it must print:
   tools/check_cases.py --list    print each case and each such input with its label and its lines
   tools/check_cases.py --print   read one input of the check program and print what it must print
 
-What is printed comes from the run below, which is written from 01 ("Run and links", "Steps", "The check program") and 02 (N1) and not
-from the crates, and from the reader of tools/table_vectors.py. Each case names by hand what must be among its lines; the script stops
+What is printed comes from the run below, which is written from 01 ("Run and links", "Steps", "The check program") and 02 (N1, N4) and
+not from the crates, and from the reader of tools/table_vectors.py. Each case names by hand what must be among its lines; the script stops
 if it is not. At the end of a run the lines are held to a graph search, too. The format of a case is in the top comment of
 crates/check_cases/src/main.rt. The cases drawn at random have a fixed seed, so every run makes the same files.
 """
@@ -19,6 +19,8 @@ from table_vectors import Draws, Table, fields_of, latest_first, rows_met, shuff
 CRATES = os.path.join(os.path.dirname(os.path.abspath(__file__)), "..", "crates")
 LONGEST = 20480
 MOST_DELIVERIES = 2048
+BEFORE_TABLE = 4  # bytes: the start process and the edition
+EDITIONS = (1, 2)
 
 
 # ---- a run, by 01
@@ -62,8 +64,8 @@ def other_step(x, p, message, out_degree, in_degree):
 
 
 class Run:
-    def __init__(self, n, waits, start):
-        self.n, self.waits, self.start, self.deliveries = n, waits, start, 0
+    def __init__(self, n, waits, start, edition):
+        self.n, self.waits, self.start, self.edition, self.deliveries = n, waits, start, edition, 0
         self.process = {p: Process() for p in range(1, n + 1)}
         self.successors = {p: sorted(b for a, b in waits if a == p) for p in range(1, n + 1)}
         self.predecessors = {p: sorted(a for a, b in waits if b == p) for p in range(1, n + 1)}
@@ -130,9 +132,14 @@ class Run:
         """02, N1: the lowest-numbered process with subordinate 1, and 0 only where there is none."""
         return min((p for p, x in self.process.items() if x.subordinate == 1), default=0)
 
+    def knot(self):
+        """The verdict by the edition named at start: the second asks in addition that the start waits for somebody."""
+        return self.process[self.start].cs == 0 and (self.edition == 1 or len(self.successors[self.start]) > 0)
 
-def closure(start, neighbours):
-    met, rest = {start}, [start]
+
+def closure(first, neighbours):
+    """The first ones, and all that arcs lead to from them."""
+    met, rest = set(first), list(first)
     while rest:
         for q in neighbours[rest.pop()]:
             if q not in met:
@@ -142,9 +149,15 @@ def closure(start, neighbours):
 
 
 def hold_to_search(run):
-    """What 01 says of the end of a check, by a graph search; and that escape is the lowest way out (02, N1)."""
-    reached = closure(run.start, run.successors)
-    reaching = closure(run.start, run.predecessors)
+    """What 01 says of the end of a check, by a graph search; that escape is the lowest way out (02, N1); and the verdict by the edition
+    (02, N4: "in addition, at least one process must be reachable by one arc or more")."""
+    reached = closure([run.start], run.successors)
+    reaching = closure([run.start], run.predecessors)
+    knot = reached <= reaching
+    if run.edition == 2:
+        by_one_arc_or_more = closure(run.successors[run.start], run.successors)
+        knot = knot and len(by_one_arc_or_more) > 0
+    assert run.knot() == knot
     assert run.escape() == min(reached - reaching, default=0)
     d = 2 * sum(a in reached for a, b in run.waits) + 2 * sum(b in reaching for a, b in run.waits)
     assert run.deliveries == d
@@ -157,26 +170,41 @@ def hold_to_search(run):
 
 # ---- the check program of 01
 
+def field(data, at):
+    return data[at] + 256 * data[at + 1]
+
+
+def table_end(n, m):
+    return BEFORE_TABLE + 4 + 4 * n + 8 * m
+
+
 def input_number(data):
     if len(data) > LONGEST:
         return 13
-    if len(data) < 2 or len(data) - 2 < 4:
+    if len(data) < BEFORE_TABLE or len(data) - BEFORE_TABLE < 4:
         return 1
-    n, m = fields_of(data[2:])[:2]
+    n, m = fields_of(data[BEFORE_TABLE:])[:2]
     if not (1 <= n <= 128 and m <= 512):
         return 2
-    end = 2 + 4 + 4 * n + 8 * m
+    end = table_end(n, m)
     if len(data) < end:
         return 3
     if (len(data) - end) % 4:
         return 12
-    rows = rows_met(data[2:end])
+    rows = rows_met(data[BEFORE_TABLE:end])
     if rows:
         return min(rows)
-    start = data[0] + 256 * data[1]
-    if not 1 <= start <= n:
+    if not 1 <= field(data, 0) <= n:
         return 8
+    if field(data, 2) not in EDITIONS:
+        return 30
     return 0
+
+
+def begun(data):
+    """The run of an accepted input, before its picks."""
+    n, _, _, arcs = fields_of(data[BEFORE_TABLE:])
+    return Run(n, [(arc[0], arc[1]) for arc in arcs], field(data, 0), field(data, 2))
 
 
 def message_text(message):
@@ -187,13 +215,9 @@ def printed(data):
     number = input_number(data)
     if number:
         return ["refused %d" % number]
-    n, m, _, arcs = fields_of(data[2:])
-    end = 2 + 4 + 4 * n + 8 * m
-    value = lambda at: data[at] + 256 * data[at + 1]
-    run = Run(n, [(arc[0], arc[1]) for arc in arcs], value(0))
-    lines = []
-    for at in range(end, len(data), 4):
-        a, b = value(at), value(at + 2)
+    run, lines = begun(data), []
+    for at in range(table_end(run.n, len(run.waits)), len(data), 4):
+        a, b = field(data, at), field(data, at + 2)
         answer = run.pick(a, b)
         text = "refused %d" % answer if isinstance(answer, int) else message_text(answer)
         lines.append("pick %d %d %s" % (a, b, text))
@@ -203,9 +227,9 @@ def printed(data):
     hold_to_search(run)
     for p, x in run.process.items():
         lines.append("process %d %d %d %d %d %d" % (p, x.succeeding, x.preceding, x.subordinate, x.cs, x.num))
-    outside = run.process[run.start].cs
-    lines += ["over %d" % run.deliveries, "verdict %s" % ("none" if outside else "knot"), "outside %d" % outside]
-    return lines + ["escape %d" % run.escape(), "mark %s" % ("held" if outside else "returned")]
+    verdict, mark = ("knot", "returned") if run.knot() else ("none", "held")
+    lines += ["over %d" % run.deliveries, "verdict %s" % verdict, "outside %d" % run.process[run.start].cs]
+    return lines + ["escape %d" % run.escape(), "mark %s" % mark]
 
 
 # ---- the cases
@@ -232,7 +256,30 @@ def refused(label, data, number):
 
 
 def check(start, n, waits, picks=(), order=latest_first):
-    return words([start]) + Table(n, waits, order).bytes() + words([end for pick in picks for end in pick])
+    """An input under the first edition."""
+    return words([start, 1]) + Table(n, waits, order).bytes() + words([end for pick in picks for end in pick])
+
+
+def under(edition, data):
+    """The same input under another edition."""
+    return data[:2] + words([edition]) + data[4:]
+
+
+def under_both(label, data, *wanted):
+    """A case under each edition. All that is printed is the same, but verdict and mark may differ."""
+    ends = []
+    for edition in EDITIONS:
+        add("%s, edition %d" % (label, edition), under(edition, data), *wanted)
+        ends.append([line for line in cases[-1][2] if not line.startswith(("verdict ", "mark "))])
+    assert ends[0] == ends[1], label
+
+
+def judged(label, data, outside, first, second, *wanted):
+    """A case under each edition, with the verdict under the first and under the second."""
+    under_both(label, data, *wanted, "outside %d" % outside)
+    for (_, _, lines), verdict in zip(cases[-2:], (first, second)):
+        mark = {"knot": "returned", "none": "held"}[verdict]
+        assert lines[-4] == "verdict %s" % verdict and lines[-1] == "mark %s" % mark, label
 
 
 def path(*processes):
@@ -240,67 +287,123 @@ def path(*processes):
     return list(zip(processes, processes[1:]))
 
 
-def refusals():
-    one = check(1, 2, [(1, 2)])
+def refusals(edition):
+    """Each is met before 30, so the number is the same under any edition."""
+    def wrong(label, data, number):
+        refused("%s, edition %d" % (label, edition), data, number)
+
+    def raw(start, *fields):
+        return words([start, edition, *fields])
+
+    one = under(edition, check(1, 2, [(1, 2)]))
     for length in range(len(one)):
-        refused("the first %d bytes of an input" % length, one[:length], 1 if length < 6 else 3)
+        wrong("the first %d bytes of an input" % length, one[:length], 1 if length < 8 else 3)
     for left in (1, 2, 3):
-        refused("%d bytes left over" % left, one + bytes(left), 12)
-        refused("%d bytes left after a pick" % left, one + words([1, 2]) + bytes(left), 12)
-    refused("N 0", words([1, 0, 0]), 2)
-    refused("N 129", words([1, 129, 0]) + bytes(4 * 129), 2)
-    refused("M 513", words([1, 1, 513]) + bytes(4 + 8 * 513), 2)
-    refused("N 0 before a start of 0", words([0, 0, 0]), 2)
-    refused("too few bytes before a wrong end of an arc", words([1, 1, 1, 1, 1, 9, 9]), 3)
-    refused("bytes left over before a wrong end of an arc", words([1, 1, 1, 1, 1, 9, 9, 0, 0]) + b"\0", 12)
-    refused("an arc's end over N", words([1, 2, 1, 1, 0, 0, 1, 1, 3, 0, 0]), 4)
-    refused("an arc's end 0", words([1, 2, 1, 1, 0, 0, 1, 0, 2, 0, 0]), 4)
-    refused("a first over M", words([1, 2, 1, 2, 0, 0, 1, 1, 2, 0, 0]), 5)
-    refused("a next over M", words([1, 2, 1, 1, 0, 0, 1, 1, 2, 2, 0]), 5)
-    refused("a chain that meets an arc twice", words([1, 2, 1, 1, 0, 0, 1, 1, 2, 1, 0]), 6)
-    refused("a chain that misses its arc", words([1, 2, 1, 0, 0, 0, 1, 1, 2, 0, 0]), 6)
-    refused("a chain that meets a foreign arc", words([1, 2, 1, 1, 0, 1, 1, 1, 2, 0, 0]), 6)
-    refused("two arcs alike", check(1, 2, [(1, 2), (1, 2)]), 7)
-    refused("start 0", check(0, 2, [(1, 2)]), 8)
-    refused("start over N", check(3, 2, [(1, 2)]), 8)
-    refused("start 65,535", check(65535, 2, [(1, 2)]), 8)
-    refused("two arcs alike before a start of 0", check(0, 2, [(1, 2), (1, 2)]), 7)
+        wrong("%d bytes left over" % left, one + bytes(left), 12)
+        wrong("%d bytes left after a pick" % left, one + words([1, 2]) + bytes(left), 12)
+    wrong("N 0", raw(1, 0, 0), 2)
+    wrong("N 129", raw(1, 129, 0) + bytes(4 * 129), 2)
+    wrong("M 513", raw(1, 1, 513) + bytes(4 + 8 * 513), 2)
+    wrong("N 0 before a start of 0", raw(0, 0, 0), 2)
+    wrong("too few bytes before a wrong end of an arc", raw(1, 1, 1, 1, 1, 9, 9), 3)
+    wrong("bytes left over before a wrong end of an arc", raw(1, 1, 1, 1, 1, 9, 9, 0, 0) + b"\0", 12)
+    wrong("an arc's end over N", raw(1, 2, 1, 1, 0, 0, 1, 1, 3, 0, 0), 4)
+    wrong("an arc's end 0", raw(1, 2, 1, 1, 0, 0, 1, 0, 2, 0, 0), 4)
+    wrong("a first over M", raw(1, 2, 1, 2, 0, 0, 1, 1, 2, 0, 0), 5)
+    wrong("a next over M", raw(1, 2, 1, 1, 0, 0, 1, 1, 2, 2, 0), 5)
+    wrong("a chain that meets an arc twice", raw(1, 2, 1, 1, 0, 0, 1, 1, 2, 1, 0), 6)
+    wrong("a chain that misses its arc", raw(1, 2, 1, 0, 0, 0, 1, 1, 2, 0, 0), 6)
+    wrong("a chain that meets a foreign arc", raw(1, 2, 1, 1, 0, 1, 1, 1, 2, 0, 0), 6)
+    wrong("two arcs alike", under(edition, check(1, 2, [(1, 2), (1, 2)])), 7)
+    wrong("start 0", under(edition, check(0, 2, [(1, 2)])), 8)
+    wrong("start over N", under(edition, check(3, 2, [(1, 2)])), 8)
+    wrong("start 65,535", under(edition, check(65535, 2, [(1, 2)])), 8)
+    wrong("two arcs alike before a start of 0", under(edition, check(0, 2, [(1, 2), (1, 2)])), 7)
+
+
+def lengths():
+    """The ends of what is read, and inputs of zeros, whose edition is wrong, too."""
+    one = check(1, 2, [(1, 2)])
     refused("20,481 bytes", one + bytes(20481 - len(one)), 13)
-    refused("20,480 bytes", one + bytes(20480 - len(one)), 12)
+    refused("20,479 bytes", one + bytes(20479 - len(one)), 12)
+    for length in range(8):
+        refused("%d bytes of nothing" % length, bytes(length), 1)
+    refused("8 bytes of nothing", bytes(8), 2)
     refused("20,481 bytes of nothing", bytes(20481), 13)
 
 
+def wrong_editions():
+    """30 (02, N4). In 256 and 512 the high byte is an edition, in 257 and 258 the low byte is."""
+    example = check(1, 2, [(1, 2)], [(1, 2)])
+    for edition in (0, 3, 255, 256, 257, 258, 512, 65535):
+        refused("edition %d" % edition, under(edition, example), 30)
+    refused("edition 0 with a start that waits for nobody", under(0, check(1, 1, [])), 30)
+    refused("edition 3 with a start of 2", under(3, check(2, 2, [(1, 2)])), 30)
+    refused("start 0 and edition 0", under(0, check(0, 2, [(1, 2)])), 8)
+    refused("start 65,535 and edition 65,535", under(65535, check(65535, 2, [(1, 2)])), 8)
+    refused("start 2 and edition 1 of one process, which the other way about would be right", check(2, 1, []), 8)
+
+
 def rows():
-    """The rows of "Checks at the start from process 1"."""
-    for n, waits, d, verdict, outside in (
-        (1, [], 0, "knot", 0),
-        (1, [(1, 1)], 4, "knot", 0),
-        (2, [(1, 2)], 2, "none", 1),
-        (2, [(2, 1)], 2, "knot", 0),
-        (2, [(1, 2), (2, 1)], 8, "knot", 0),
-        (3, [(1, 2), (2, 3), (3, 1)], 12, "knot", 0),
-        (3, [(1, 2), (2, 1), (2, 3)], 10, "none", 1),
-        (3, [(1, 2), (2, 3), (3, 2)], 6, "none", 2),
+    """The rows of "Checks at the start from process 1", with the verdicts under both editions."""
+    for n, waits, d, first, second, outside in (
+        (1, [], 0, "knot", "none", 0),
+        (1, [(1, 1)], 4, "knot", "knot", 0),
+        (2, [(1, 2)], 2, "none", "none", 1),
+        (2, [(2, 1)], 2, "knot", "none", 0),
+        (2, [(1, 2), (2, 1)], 8, "knot", "knot", 0),
+        (3, [(1, 2), (2, 3), (3, 1)], 12, "knot", "knot", 0),
+        (3, [(1, 2), (2, 1), (2, 3)], 10, "none", "none", 1),
+        (3, [(1, 2), (2, 3), (3, 2)], 6, "none", "none", 2),
     ):
-        add("N %d, waits %s" % (n, waits), check(1, n, waits), "over %d" % d, "verdict %s" % verdict, "outside %d" % outside)
+        judged("N %d, waits %s" % (n, waits), check(1, n, waits), outside, first, second, "over %d" % d)
+
+
+def every_small_table():
+    """Every set of waits of 1 and of 2 processes, from each of them, and how many are knots: under the first edition as many as 02 (N12)
+    says, under the second fewer by those in which the start waits for nobody."""
+    for n, first, second in ((1, 2, 2 - 1), (2, 12, 12 - 4)):
+        pairs = [(a, b) for a in range(1, n + 1) for b in range(1, n + 1)]
+        for start in range(1, n + 1):
+            knots = []
+            for chosen in range(2 ** len(pairs)):
+                waits = [pair for k, pair in enumerate(pairs) if chosen >> k & 1]
+                under_both("N %d, waits %s, from %d" % (n, waits, start), check(start, n, waits))
+                knots.append(["verdict knot" in lines for _, _, lines in cases[-2:]])
+            assert [sum(column) for column in zip(*knots)] == [first, second]
+
+
+def editions():
+    """Starts that the second edition judges otherwise, and some like them that it does not."""
+    judged("a start that waits for nobody, for which others wait", check(4, 7, [(1, 4), (2, 4), (3, 1), (5, 6), (6, 5), (6, 1), (7, 7)]),
+           0, "knot", "none", "over 12")
+    judged("a start that waits for nobody and for which nobody waits", check(2, 3, [(1, 3), (3, 1)]), 0, "knot", "none", "over 0")
+    judged("loops at those that wait for the start", check(1, 3, [(2, 2), (2, 1), (3, 3), (3, 2)]), 0, "knot", "none", "over 8")
+    judged("a loop at the start, for which another waits", check(3, 5, [(3, 3), (1, 3), (2, 4)]), 0, "knot", "knot", "over 6")
+    judged("a loop at the start and a way out", check(1, 2, [(1, 1), (1, 2)]), 1, "none", "none", "over 6")
 
 
 def picks():
-    add("the example of 01", check(1, 2, [(1, 2)], [(1, 2)]), "pick 1 2 suc", "own 2 1 ack 1")
-    add("an empty link", check(1, 2, [(1, 2)], [(2, 1)]), "pick 2 1 refused 24")
-    add("a link twice", check(1, 2, [(1, 2)], [(1, 2), (1, 2)]), "pick 1 2 suc", "pick 1 2 refused 24")
+    judged("the example of 01", check(1, 2, [(1, 2)], [(1, 2)]), 1, "none", "none", "pick 1 2 suc", "own 2 1 ack 1")
+    judged("the same wait from 2", check(2, 2, [(1, 2)], [(2, 1), (1, 2), (2, 1)]), 0, "knot", "none",
+           "pick 2 1 pre", "pick 1 2 ack 0", "pick 2 1 refused 23")
+    judged("an empty link", check(1, 2, [(1, 2)], [(2, 1)]), 1, "none", "none", "pick 2 1 refused 24")
+    judged("a link twice", check(1, 2, [(1, 2)], [(1, 2), (1, 2)]), 1, "none", "none", "pick 1 2 suc", "pick 1 2 refused 24")
     ends = [(0, 0), (0, 1), (1, 0), (1, 1), (2, 2), (1, 3), (3, 1), (65535, 65535), (257, 2)]
-    add("picks that name no link", check(1, 2, [(1, 2)], ends), *["pick %d %d refused 25" % pick for pick in ends])
-    add("picks after the end", check(1, 2, [(1, 2)], [(1, 2), (2, 1), (1, 2), (2, 1), (1, 1)]),
-        "pick 2 1 ack 1", "pick 1 2 refused 23", "pick 2 1 refused 23", "pick 1 1 refused 25")
-    add("a start without waits is over at once", check(2, 3, [(1, 3)], [(1, 3), (2, 1)]), "pick 1 3 refused 23", "pick 2 1 refused 25", "over 0")
-    add("a loop by picks", check(1, 1, [(1, 1)], [(1, 1)] * 5), "pick 1 1 suc", "pick 1 1 pre", "pick 1 1 ack 0", "pick 1 1 ack 0", "pick 1 1 refused 23")
+    judged("picks that name no link", check(1, 2, [(1, 2)], ends), 1, "none", "none", *["pick %d %d refused 25" % pick for pick in ends])
+    judged("picks after the end", check(1, 2, [(1, 2)], [(1, 2), (2, 1), (1, 2), (2, 1), (1, 1)]), 1, "none", "none",
+           "pick 2 1 ack 1", "pick 1 2 refused 23", "pick 2 1 refused 23", "pick 1 1 refused 25")
+    judged("a start without waits is over at once", check(2, 3, [(1, 3)], [(1, 3), (2, 1)]), 0, "knot", "none",
+           "pick 1 3 refused 23", "pick 2 1 refused 25", "over 0")
+    judged("a loop by picks", check(1, 1, [(1, 1)], [(1, 1)] * 5), 0, "knot", "knot",
+           "pick 1 1 suc", "pick 1 1 pre", "pick 1 1 ack 0", "pick 1 1 ack 0", "pick 1 1 refused 23")
     both = [(1, 2), (2, 1)]
-    add("both probes before the acknowledgements", check(1, 2, both, [(1, 2), (1, 2), (2, 1), (2, 1)]),
-        "pick 1 2 suc", "pick 1 2 pre", "pick 2 1 ack 1", "own 2 1 ack -1", "verdict knot")
+    judged("both probes before the acknowledgements", check(1, 2, both, [(1, 2), (1, 2), (2, 1), (2, 1)]), 0, "knot", "knot",
+           "pick 1 2 suc", "pick 1 2 pre", "pick 2 1 ack 1", "own 2 1 ack -1")
     fork = [(1, 2), (1, 3)]
-    add("two acknowledgements", check(1, 3, fork, [(1, 2), (1, 3), (2, 1), (3, 1)]), "pick 2 1 ack 1", "pick 3 1 ack 1", "outside 2")
-    add("the same, the other way about", check(1, 3, fork, [(1, 2), (1, 3), (3, 1), (2, 1)]), "pick 3 1 ack 1", "pick 2 1 ack 1", "outside 2")
+    judged("two acknowledgements", check(1, 3, fork, [(1, 2), (1, 3), (2, 1), (3, 1)]), 2, "none", "none", "pick 2 1 ack 1", "pick 3 1 ack 1")
+    judged("the same, the other way about", check(1, 3, fork, [(1, 2), (1, 3), (3, 1), (2, 1)]), 2, "none", "none",
+           "pick 3 1 ack 1", "pick 2 1 ack 1")
 
 
 def random_picks(rng, n, waits, count):
@@ -319,17 +422,21 @@ def random_cases(rng):
     for number in range(60):
         n = rng.between(1, 9)
         waits = some_waits(rng, n, rng.between(0, min(n * n, 14)))
-        add("drawn %d" % number, check(rng.between(1, n), n, waits, random_picks(rng, n, waits, rng.between(0, 24)), shuffled(rng)))
+        under_both("drawn %d" % number, check(rng.between(1, n), n, waits, random_picks(rng, n, waits, rng.between(0, 24)), shuffled(rng)))
 
 
 def large(rng):
     add("a ring of 128", check(128, 128, path(*range(1, 129), 1)), "over 512", "verdict knot")
     add("a path of 128 from its first", check(1, 128, path(*range(1, 129))), "verdict none", "outside 127", "escape 2")
+    judged("all the others of 128 wait for 77", check(77, 128, [(p, 77) for p in range(1, 129) if p != 77]), 0, "knot", "none", "over 254")
+    judged("all of 128 wait for 77", check(77, 128, [(p, 77) for p in range(1, 129)]), 0, "knot", "knot", "over 258")
+    judged("1 and 128 wait for each other, from 1", check(1, 128, [(1, 128), (128, 1)]), 0, "knot", "knot", "over 8")
+    judged("1 and 128 wait for each other, from 128", check(128, 128, [(1, 128), (128, 1)]), 0, "knot", "knot", "over 8")
     full = some_waits(rng, 128, 512)
     add("128 processes, 512 waits", check(1, 128, full, random_picks(rng, 128, full, 40)))
     loop = check(1, 1, [(1, 1)])
-    add("20,478 bytes, the longest that can be whole", loop + words([1, 1]) * ((20478 - len(loop)) // 4), "pick 1 1 suc", "over 4")
-    assert len(cases[-1][1]) == 20478
+    add("20,480 bytes, the longest that is accepted", loop + words([1, 1]) * ((20480 - len(loop)) // 4), "pick 1 1 suc", "over 4")
+    assert len(cases[-1][1]) == 20480
 
 
 def first_reached(lines):
@@ -379,11 +486,9 @@ def escapes():
     ways_out("no way out, and lower ones that the start does not reach", check(3, 4, [(1, 3), (1, 2), (3, 4), (4, 3)]))
 
 
-def orders(rng):
+def in_orders(rng, name, data, *wanted):
     """One check, all its deliveries by picks, in orders of every kind: all that is printed of its end is the same (02, N1: "two installations
-    named different ones for equal runs")."""
-    n, start = 7, 4
-    waits = path(4, 1, 4) + path(4, 7, 6, 2, 6) + path(1, 5, 3) + [(6, 5)]
+    named different ones for equal runs"; N4: "the end state is still one for all orders")."""
     ends = set()
     for label, choose in (
         ("lowest link first", min),
@@ -391,13 +496,21 @@ def orders(rng):
         ("drawn", lambda links: rng.sample(links, 1)[0]),
         ("drawn again", lambda links: rng.sample(links, 1)[0]),
     ):
-        run, picks = Run(n, waits, start), []
+        run, picks = begun(data), []
         while not run.over():
             picks.append(choose(sorted(link for link, waiting in run.link.items() if waiting)))
             run.deliver(*picks[-1])
-        add("one check, %s" % label, check(start, n, waits, picks), "outside 5", "escape 2")
+        add("%s, %s" % (name, label), data + words([end for pick in picks for end in pick]), *wanted)
         ends.add(text(cases[-1][2][len(picks):]))
     assert len(ends) == 1
+
+
+def orders(rng):
+    in_orders(rng, "one check", check(4, 7, path(4, 1, 4) + path(4, 7, 6, 2, 6) + path(1, 5, 3) + [(6, 5)]), "outside 5", "escape 2")
+    in_orders(rng, "a start that waits for nobody, edition 2", under(2, check(3, 6, path(1, 2, 3) + path(6, 5, 4, 6) + [(4, 3), (5, 1)])),
+              "verdict none", "outside 0", "escape 0", "mark held")
+    in_orders(rng, "a knot, edition 2", under(2, check(2, 5, path(2, 4, 5, 2) + [(1, 4), (5, 4), (3, 3)])),
+              "verdict knot", "outside 0", "escape 0", "mark returned")
 
 
 # ---- inputs of the check program itself, each with a crate of its own
@@ -408,7 +521,7 @@ def longest():
     rng = Draws(20478)
     n, start = 9, 4
     waits = some_waits(rng, n, 20)
-    run = Run(n, waits, start)
+    run = begun(check(start, n, waits))
     links = sorted(run.link)
     accepted = []
     while not run.over():
@@ -417,27 +530,27 @@ def longest():
     none = [(a, b) for a in range(n + 2) for b in range(n + 2) if (a, b) not in run.link] + [(start + 256, 1), (65535, 65535)]
     empty = [link for link in links if link != accepted[-1]]
     picks = accepted[:-1] + empty + none + accepted[-1:]
-    room = (LONGEST - 2 - len(check(start, n, waits))) // 4
+    room = (LONGEST - len(check(start, n, waits))) // 4
     picks += [links[k % len(links)] for k in range(room - len(picks))]
     data = check(start, n, waits, picks, shuffled(rng))
     lines = held("longest", data, ["pick %d %d refused 24" % link for link in empty] + ["pick %d %d refused 25" % pair for pair in none]
                  + ["pick %d %d refused 23" % picks[-1], "over %d" % len(accepted), "verdict none"])
-    assert len(data) == LONGEST - 2 and sum(line.startswith("pick ") for line in lines) == len(picks)
+    assert len(data) == LONGEST and sum(line.startswith("pick ") for line in lines) == len(picks)
     assert sum(line.endswith(" refused 23") for line in lines) > 4000 and not any(line.startswith("own ") for line in lines)
     return data, lines
 
 
 def too_long():
-    """The input above and one pick more: a whole number of picks, and its first 20,478 bytes are accepted."""
+    """The input above and one pick more: a whole number of picks, and its first 20,480 bytes are accepted."""
     data = longest()[0] + words([1, 2])
-    assert len(data) == LONGEST + 2
     return data, held("too long", data, ["refused 13"])
 
 
 def most():
-    """As many deliveries as a run can count, all of them the program's own: 128 processes in a ring, 512 waits, no picks."""
+    """As many deliveries as a run can count, all of them the program's own: 128 processes in a ring, 512 waits, no picks; under the second
+    edition."""
     waits = [(p, (p + step - 1) % 128 + 1) for step in (1, 5, 25, 60) for p in range(1, 129)]
-    data = check(77, 128, waits, (), shuffled(Draws(2048)))
+    data = under(2, check(77, 128, waits, (), shuffled(Draws(2048))))
     lines = held("most", data, ["over %d" % MOST_DELIVERIES, "verdict knot", "mark returned"])
     assert sum(line.startswith("own ") for line in lines) == MOST_DELIVERIES
     return data, lines
@@ -446,8 +559,8 @@ def most():
 def programs():
     """For each crate its label, its input and its lines."""
     return {
-        "knot_check_longest": ("20,478 bytes, the longest that is accepted", *longest()),
-        "knot_check_too_long": ("20,482 bytes", *too_long()),
+        "knot_check_longest": ("20,480 bytes, the longest that is accepted", *longest()),
+        "knot_check_too_long": ("20,484 bytes", *too_long()),
         "knot_check_most": ("2,048 deliveries", *most()),
     }
 
@@ -458,8 +571,13 @@ def text(lines):
 
 def make():
     rng = Draws(2002)
-    refusals()
+    for edition in (1, 2, 3):
+        refusals(edition)
+    lengths()
+    wrong_editions()
     rows()
+    every_small_table()
+    editions()
     picks()
     random_cases(rng)
     large(rng)

@@ -1,5 +1,5 @@
 /* A first check from C: process 1 waits for process 2 (01, "The check program"). It prints the nine lines that 01 gives for this table,
- * start 1 and the pick 1 2, and returns 1 with a line on standard error if a call answers anything else than it should.
+ * start 1 (under edition 1) and the pick 1 2, and returns 1 with a line on standard error if a call answers anything else than it should.
  *
  * From the root of the repository, after rt staticlib pickledune:
  *   gcc -std=c99 -Wall -Wextra -pedantic -Iinclude hosts/c/example.c target/staticlib/libpickledune.a -o target/example && target/example
@@ -104,10 +104,38 @@ static void overtake(void)
     uint32_t over;
     uint32_t made;
     expect(pickledune_write_table(2, list, 4, table, sizeof table, &length) == 0, "writing a table of two waits");
-    expect(pickledune_start(table, length, 1, area, words) == 0, "its start");
+    expect(pickledune_start(table, length, 1, 1, area, words) == 0, "its start");
     expect(pickledune_pick(area, words, 1, 2, 2, &kind, &count) == 0 && kind == PICKLEDUNE_PRE, "the second message first");
     expect(pickledune_pick(area, words, 1, 2, 1, &kind, &count) == 0 && kind == PICKLEDUNE_SUC, "then the first");
     expect(pickledune_run_on(area, words, 2048, &over, &made) == 0 && over == 1 && made == 6, "8 deliveries in any order");
+}
+
+/* Editions (02, N4): process 1 waits for nobody, process 2 for itself. By edition 1 both are in a knot, by edition 2 only process 2. */
+static void judge_by_edition(void)
+{
+    const uint16_t list[2] = {2, 2};
+    uint8_t table[PICKLEDUNE_TABLE_BYTES(2, 1)];
+    int32_t area[PICKLEDUNE_AREA_WORDS(2, 1)];
+    const size_t words = PICKLEDUNE_AREA_WORDS(2, 1);
+    size_t length;
+    uint32_t over;
+    uint32_t made;
+    uint32_t deliveries;
+    uint32_t knot;
+    int32_t outside;
+    uint32_t escape;
+    uint32_t returned;
+    expect(pickledune_write_table(2, list, 2, table, sizeof table, &length) == 0, "writing a table of one loop");
+    expect(pickledune_start(table, length, 1, 3, area, words) == 30, "no edition 3");
+    for (size_t process = 1; process <= 2; process++) {
+        for (size_t edition = 1; edition <= 2; edition++) {
+            expect(pickledune_start(table, length, process, edition, area, words) == 0, "a start under either edition");
+            expect(pickledune_run_on(area, words, 2048, &over, &made) == 0 && over == 1, "its end");
+            expect(pickledune_report(area, words, &deliveries, &knot, &outside, &escape, &returned) == 0, "its report");
+            expect(knot == (process == 2 || edition == 1) && returned == knot, "the verdict by the edition");
+            expect(deliveries == (process == 2 ? 4 : 0) && outside == 0 && escape == 0, "the rest of the report by both");
+        }
+    }
 }
 
 static void print_report(const int32_t *area)
@@ -148,8 +176,8 @@ int main(void)
     expect(pickledune_read_table(table, length, &n, &m) == 0 && n == PROCESSES && m == ARCS, "reading it");
     walk(table);
 
-    expect(pickledune_start(table, length, 1, area, WORDS - 1) == 9, "an area that is too short");
-    expect(pickledune_start(table, length, 1, area, WORDS) == 0, "the start");
+    expect(pickledune_start(table, length, 1, 1, area, WORDS - 1) == 9, "an area that is too short");
+    expect(pickledune_start(table, length, 1, 1, area, WORDS) == 0, "the start");
     expect(pickledune_pick(area, WORDS, 1, 2, 2, &kind, &count) == 31, "one message waits there, and none at place 2");
     expect(pickledune_pick(area, WORDS, 1, 2, 1, &kind, &count) == 0, "the pick");
     print_delivery("pick", 1, 2, kind, count);
@@ -160,5 +188,6 @@ int main(void)
     print_report(area);
     step_by_itself();
     overtake();
+    judge_by_edition();
     return 0;
 }

@@ -3,9 +3,10 @@
  *
  * Everything that is lent ends where a page begins that may not be touched, so reading or writing past it stops the program. What 01
  * says of every call is checked after it: a refusal gives zeros and changes nothing (running on keeps the deliveries made before it),
- * nothing but the area changes, the answers of calls that follow each other agree, and a pick is held to the words of its link (02, N5).
+ * nothing but the area changes, the answers of calls that follow each other agree, a start is held to the edition that it is given and a
+ * verdict to the one that the area holds (02, N4), and a pick is held to the words of its link (02, N5).
  * The archive itself is not built for the fuzzer, so each answer is counted as coverage (calls by their refusal numbers, accepted picks by
- * their places too). */
+ * their places and accepted reports by their editions too). */
 #include "pickledune.h"
 
 #include <stdint.h>
@@ -15,14 +16,15 @@
 #include <sys/mman.h>
 #include <unistd.h>
 
-enum { CALLS = 10, ROWS = CALLS + 1, NUMBERS = 50, TABLE = 8192, LIST = 2200, AREA = 12000, STEPS = 4096, WAITING = 4 };
+enum { CALLS = 10, PICKED = CALLS, JUDGED, ROWS, NUMBERS = 50, TABLE = 8192, LIST = 2200, AREA = 12000, STEPS = 4096, WAITING = 4 };
 
 __attribute__((section("__libfuzzer_extra_counters"))) static uint8_t seen[ROWS * NUMBERS];
 
-/* The numbers that each call has answered in the whole run, printed at its end. The last row has accepted picks, by how many messages waited
- * and by place: 32 is the second of three. */
-static const char *const row_names[ROWS] = {"read_table", "write_table", "open",        "next", "start", "pick",
-                                            "run_on",     "report",      "read_record", "step", "picked"};
+/* The numbers that each call has answered in the whole run, printed at its end. The last two rows have accepted picks, by how many messages
+ * waited and by place: 32 is the second of three; and accepted reports, by edition and verdict: 10 and 20 are none, 11 and 21 a knot, and 22
+ * is none with outside 0. */
+static const char *const row_names[ROWS] = {"read_table", "write_table", "open",        "next", "start",  "pick",
+                                            "run_on",     "report",      "read_record", "step", "picked", "judged"};
 static uint64_t answered[ROWS][NUMBERS];
 
 static uint8_t *table_end, *out_end;
@@ -60,7 +62,7 @@ static void note(int row, size_t number)
 
 static uint32_t count(int call, uint32_t number)
 {
-    expect(number <= 11 || (21 <= number && number <= 26) || number == 31, "a number that is in no table");
+    expect(number <= 11 || (21 <= number && number <= 26) || number == 30 || number == 31, "a number that is in no table");
     note(call, number);
     return number;
 }
@@ -205,18 +207,47 @@ static int kept(void)
     return memcmp(before, area, area_len * sizeof *area) == 0;
 }
 
+/* A place on a link, or at times an edition: 0 to 5, or far out. */
+static size_t draw_number(void)
+{
+    uint32_t drawn = byte() % 16, low;
+    if (drawn < 12)
+        return (drawn + 1) % 6;
+    if (drawn < 14)
+        return word();
+    low = byte();
+    return drawn == 14 ? (size_t)((uint64_t)word() << 32 | low % 6) : SIZE_MAX - low;
+}
+
+/* The number that a start must give, by what reading the table gives: 1 to 8, 30, 9 (02, N4). */
+static uint32_t first_refusal_of_start(size_t process, size_t edition)
+{
+    size_t n, m;
+    uint32_t refused = pickledune_read_table(table, table_len, &n, &m);
+    if (refused)
+        return refused;
+    if (process < 1 || process > n)
+        return 8;
+    if (edition != 1 && edition != 2)
+        return 30;
+    return area_len < PICKLEDUNE_AREA_WORDS(n, m) ? 9 : 0;
+}
+
 static void start(void)
 {
     size_t words = byte() % 16 ? AREA - byte() : number() % AREA;
+    size_t process = byte() % (byte() % 8 ? 9 : 130), edition = byte() % 8 ? 1 + byte() % 2 : draw_number();
     area_len = words;
     area = area_end - words;
     for (size_t i = 0; i < words; i++)
         area[i] = -1;
     keep();
-    uint32_t refused = count(4, pickledune_start(table, table_len, byte() % (byte() % 8 ? 9 : 130), area, area_len));
-    expect(refused <= 9, "start gives 1 to 9");
+    uint32_t refused = count(4, pickledune_start(table, table_len, process, edition, area, area_len));
+    expect(refused == first_refusal_of_start(process, edition), "1 to 8, 30, 9, in this order");
     if (refused)
         expect(kept(), "a refusal changes no word");
+    else
+        expect((size_t)area[1] == process && (size_t)area[3] == edition, "the area holds the start and the edition");
 }
 
 static void change_value(void)
@@ -224,26 +255,29 @@ static void change_value(void)
     static const int32_t messages[] = {0, 1, 2, 128, 255, 256, 257, 384};
     if (area_len < 16 || area[14] < 1 || area[14] > 128 || area[15] < 0 || area[15] > 512)
         return;
-    size_t n = (size_t)area[14], m = (size_t)area[15], records = 16 + 2 * n + 4 * m, at, place = byte() % 5;
+    size_t n = (size_t)area[14], m = (size_t)area[15], records = 16 + 2 * n + 4 * m, at, place = byte() % 6;
     int32_t value;
     if (byte() % 2 && m) {
         at = records + 6 * n + 8 * (number() % (2 * m)) + place % 4;
         value = messages[byte() % 8];
     } else {
-        at = place == 4 ? 2 : records + 6 * (byte() % n) + place;
+        at = place >= 4 ? place - 2 : records + 6 * (byte() % n) + place;
         value = place == 0 ? (int32_t)(byte() % 8) : place == 1 ? (int32_t)(byte() % 257) - 128 : (int32_t)(number() % 257);
         if (place == 4) /* often the most deliveries, after which the next is refused with 22 */
             value = 2048 - (int32_t)(byte() % 4 ? byte() % 2 : number() % 2049);
+        if (place == 5) /* the edition, or none */
+            value = (int32_t)(byte() % 4);
     }
     if (at < area_len)
         area[at] = value;
 }
 
-/* Whether words of the area's length have N, M and the start in their ranges, and are as many as N and M need. */
+/* Whether words of the area's length have N, M, the start and the edition in their ranges, and are as many as N and M need. */
 static int has_its_words(const int32_t *words)
 {
     return area_len >= 16 && 1 <= words[14] && words[14] <= 128 && 0 <= words[15] && words[15] <= 512 && 1 <= words[1] &&
-           words[1] <= words[14] && area_len >= PICKLEDUNE_AREA_WORDS((size_t)words[14], (size_t)words[15]);
+           words[1] <= words[14] && 1 <= words[3] && words[3] <= 2 &&
+           area_len >= PICKLEDUNE_AREA_WORDS((size_t)words[14], (size_t)words[15]);
 }
 
 /* Two processes: any two numbers, which as a rule have no link, or the two ends of an arc. */
@@ -258,18 +292,6 @@ static void draw_ends(size_t *from, size_t *to)
         *from = (size_t)arc[back];
         *to = (size_t)arc[1 - back];
     }
-}
-
-/* A place on a link: 0 to 5, or far out. */
-static size_t draw_place(void)
-{
-    uint32_t drawn = byte() % 16, low;
-    if (drawn < 12)
-        return (drawn + 1) % 6;
-    if (drawn < 14)
-        return word();
-    low = byte();
-    return drawn == 14 ? (size_t)((uint64_t)word() << 32 | low % 6) : SIZE_MAX - low;
 }
 
 /* Where the messages of a link stand in a well-formed area as it was before the call (docs/LAYOUT.md), or 0 if there is no such link. */
@@ -289,7 +311,7 @@ static size_t link_place(size_t from, size_t to)
 }
 
 /* The first refusal that a pick meets in a well-formed area as it was before the call, or 0 if there is none before 22. */
-static uint32_t first_refusal(size_t link, size_t load, size_t place)
+static uint32_t first_refusal_of_pick(size_t link, size_t load, size_t place)
 {
     size_t n = (size_t)before[14], m = (size_t)before[15], start = (size_t)before[1];
     if (link == 0)
@@ -318,15 +340,15 @@ static void pick_at(size_t from, size_t to, size_t place)
     }
     if (refused == 21)
         return;
-    expect(has_its_words(before), "21 for an area that is too short, or has sizes or a start out of range");
+    expect(has_its_words(before), "21 for an area that is too short, or has sizes, a start or an edition out of range");
     link = link_place(from, to);
     while (link && load < WAITING && before[link + load])
         load += 1;
-    uint32_t first = first_refusal(link, load, place);
+    uint32_t first = first_refusal_of_pick(link, load, place);
     expect(first ? refused == first : refused == 0 || refused == 22, "25, 23, 24, 31, 22, in this order");
     if (refused)
         return;
-    note(CALLS, 10 * load + place);
+    note(PICKED, 10 * load + place);
     int32_t taken = before[link + place - 1];
     expect(taken <= 2 ? (int32_t)kind == taken : kind == 3 && carried == taken - 256, "the message at the place");
     for (size_t i = 1; i < load; i++)
@@ -340,7 +362,7 @@ static void pick(void)
 {
     size_t from, to;
     draw_ends(&from, &to);
-    pick_at(from, to, draw_place());
+    pick_at(from, to, draw_number());
 }
 
 /* Every place of one link, 0 and those beyond, each on the same words. */
@@ -401,7 +423,11 @@ static void report(void)
         expect(deliveries == 0 && knot == 0 && outside == 0 && escape == 0 && returned == 0, "zeros with a refusal");
         return;
     }
-    expect(knot == (outside == 0) && returned == knot, "the verdict of the sum");
+    expect(has_its_words(area), "a reported area has its words");
+    /* 02, N4: whether the start waits for somebody is a matter of its out-chain, which then has a first arc. */
+    int waits = area[16 + 2 * (area[1] - 1)] != 0;
+    expect(knot == (outside == 0 && (area[3] == 1 || waits)) && returned == knot, "the verdict of the sum, by the edition");
+    note(JUDGED, 10 * (size_t)area[3] + (knot ? 1 : outside == 0 ? 2 : 0));
     expect(escape == lowest_subordinate(), "the lowest way out");
     expect(pickledune_run_on(area, area_len, 9, &over, &made) == 0 && over == 1 && made == 0, "a reported run is over");
 }
@@ -494,7 +520,7 @@ int LLVMFuzzerTestOneInput(const uint8_t *data, size_t size)
         case 13:
             read_record();
             break;
-        case 14: /* a value of a record or a link is changed to another in range, so that the area may stay well formed */
+        case 14: /* a value of a record, a link or the heading is changed, as a rule in its range, so that the area may stay well formed */
             change_value();
             break;
         case 15:

@@ -6,7 +6,7 @@
 --   readAnswer w p                       == reading one process's record
 --   areaPassedBy c w, areaPassed cs w    == one call, and a list: "each call gets the area as the last one left it"
 --   asRun p                              == what a list left, with the run in the place of the area that holds it
---   AreaPromise w s old n p              == what is said of every list: the area is well formed, its run keeps the promise of crate checks,
+--   AreaPromise w s ed old n p           == what is said of every list: the area is well formed, its run keeps the promise of crate checks,
 --                                           and the words from n on are those of old
 -- Assumes nothing.
 use Prim.Native.Nat.{ℕ}
@@ -56,11 +56,11 @@ areaPassed = inTurn areaPassedBy
 abbrev pub asRun : Passed (List ℤ) → Passed Run
 asRun p = record { left = runIn (p .left); made = p .made; numbers = p .numbers }
 
--- what is said of every list of calls on an area of n words that a start at s left in the words old
-pub record AreaPromise (w : Waits) (s : ℕ) (old : List ℤ) (n : ℕ) (p : Passed (List ℤ)) : Type 0 where
+-- what is said of every list of calls on an area of n words that a start at s under the edition ed left in the words old
+pub record AreaPromise (w : Waits) (s ed : ℕ) (old : List ℤ) (n : ℕ) (p : Passed (List ℤ)) : Type 0 where
   -- the area is well formed: no call of a list gets 21
   pub right : areaRight (p .left) ≡ true
   -- the promise of crate checks, of the run that the area holds
-  pub promise : Promise w s (asRun p)
+  pub promise : Promise w s ed (asRun p)
   -- "Surplus words are not touched."
   pub surplus : drop n (p .left) ≡ drop n old

@@ -36,19 +36,19 @@ unfolding stored
 stored-surplus t r w = drop-at (wordsTo (areaOf t) (wordOf t r)) (drop (areaOf t) w) (areaOf t) (wordsTo-length (areaOf t) (wordOf t r))
 
 -- what an accepted start gives the theorem
-module _ (bs : List ℕ) (s : ℕ) (w : List ℤ) (e : startNumber bs s w ≡ 0) where
-  pub begun : Startable bs (nOf (fieldOf bs)) (mOf (fieldOf bs)) s w
-  begun = startNumber-startable bs s w e
+module _ (bs : List ℕ) (s ed : ℕ) (w : List ℤ) (e : startNumber bs s ed w ≡ 0) where
+  pub begun : Startable bs (nOf (fieldOf bs)) (mOf (fieldOf bs)) s ed w
+  begun = startNumber-startable bs s ed w e
 
   pub table : RightTable (fieldOf bs)
   table = accepted-table bs (begun .accepted)
 
   abbrev first : Run
-  first = startRun (waitsOf (fieldOf bs)) s
+  first = startRun (waitsOf (fieldOf bs)) s ed
 
   fits : Storable (fieldOf bs) first
   unfolding waitsOf
-  fits = start-fit (fieldOf bs) (table .right) s (begun .start-in)
+  fits = start-fit (fieldOf bs) (table .right) s (begun .start-in) ed (begun .edition)
 
   module _ (cs : List Call) where
     abbrev last : Passed Run
@@ -57,25 +57,25 @@ module _ (bs : List ℕ) (s : ℕ) (w : List ℤ) (e : startNumber bs s w ≡ 0)
     pub fits-last : Storable (fieldOf bs) (last .left)
     fits-last = fit-list (fieldOf bs) table w (begun .long) cs first fits
 
-    pub list-left : areaPassed cs (startArea bs s w) ≡ record { left = stored (fieldOf bs) (last .left) w; made = last .made; numbers = last .numbers }
+    pub list-left : areaPassed cs (startArea bs s ed w) ≡ record { left = stored (fieldOf bs) (last .left) w; made = last .made; numbers = last .numbers }
     unfolding startArea
-    list-left = rw (eq-eqb (startNumber bs s w) 0 e) (list-stored (fieldOf bs) table w (begun .long) cs first fits)
+    list-left = rw (eq-eqb (startNumber bs s ed w) 0 e) (list-stored (fieldOf bs) table w (begun .long) cs first fits)
 
     -- a list of calls on the area comes to what it comes to on the run
-    pub area-run : asRun (areaPassed cs (startArea bs s w)) ≡ Lists.passed cs first
+    pub area-run : asRun (areaPassed cs (startArea bs s ed w)) ≡ Lists.passed cs first
     area-run = rw (list-left, run (fieldOf bs) table w (begun .long) (last .left) fits-last)
 
-    promised : AreaPromise (waitsOf (fieldOf bs)) s w (areaLength (nOf (fieldOf bs)) (mOf (fieldOf bs))) (areaPassed cs (startArea bs s w))
+    promised : AreaPromise (waitsOf (fieldOf bs)) s ed w (areaLength (nOf (fieldOf bs)) (mOf (fieldOf bs))) (areaPassed cs (startArea bs s ed w))
     unfolding waitsOf
     promised =
         let sd : Sound (waitsOf (fieldOf bs)) = waitsOf-sound (fieldOf bs) (table .right) in
         record {
           right = rw list-left (right (fieldOf bs) table w (begun .long) (last .left) fits-last);
-          promise = rw area-run (ending (waitsOf (fieldOf bs)) sd s (begun .start-in) cs);
+          promise = rw area-run (ending (waitsOf (fieldOf bs)) sd s (begun .start-in) ed (begun .edition) cs);
           surplus = rw list-left (stored-surplus (fieldOf bs) (last .left) w);
         }
 
 -- demand 3 for the calls: "A list begins with the area that an accepted start left"
-pub area-ending : (bs : List ℕ) (s : ℕ) (w : List ℤ) → startNumber bs s w ≡ 0 → (cs : List Call)
-    → AreaPromise (waitsOf (fieldOf bs)) s w (areaLength (nOf (fieldOf bs)) (mOf (fieldOf bs))) (areaPassed cs (startArea bs s w))
-area-ending bs s w e cs = promised bs s w e cs
+pub area-ending : (bs : List ℕ) (s ed : ℕ) (w : List ℤ) → startNumber bs s ed w ≡ 0 → (cs : List Call)
+    → AreaPromise (waitsOf (fieldOf bs)) s ed w (areaLength (nOf (fieldOf bs)) (mOf (fieldOf bs))) (areaPassed cs (startArea bs s ed w))
+area-ending bs s ed w e cs = promised bs s ed w e cs

@@ -34,7 +34,7 @@ use Rattle.checks.specs.declared.Delivery.the-variants.{Delivered}
 use Rattle.checks.specs.declared.Verdict.the-variants.{Knot, Free}
 use Rattle.checks.specs.declared.Mark.the-variants.{Returned, Held}
 use Rattle.checks.specs.declared.Report.{Report}
-use Rattle.checks.specs.Run.{Run, knot, over, startRun}
+use Rattle.checks.specs.Run.{Run, IsEdition, knot, over, startRun}
 use Rattle.checks.specs.Calls.{pick, runOn, deliveryMade}
 use Rattle.checks.specs.AnswerLaws.{deliveryOf-accepted}
 use Rattle.checks.specs.Reach.{inKnot, outsiders, lowestOutsider, dOf}
@@ -82,19 +82,19 @@ pick-keeps w a b k n e = call-keeps (picking a b k) w (ap deliveryMade e)
 
 -- ---- after every list
 
-module _ (bs : List ℕ) (s : ℕ) (w : List ℤ) (e : startNumber bs s w ≡ 0) (cs : List Call) where
+module _ (bs : List ℕ) (s ed : ℕ) (w : List ℤ) (e : startNumber bs s ed w ≡ 0) (cs : List Call) where
   abbrev waits : Waits
   waits = waitsOf (fieldOf bs)
 
   abbrev list : Passed (List ℤ)
-  list = areaPassed cs (startArea bs s w)
+  list = areaPassed cs (startArea bs s ed w)
 
   -- the report of the words that the list left, if all D deliveries are made: one and the same for every order
   pub area-reports : list .made ≡ dOf waits s → reportAnswer (list .left)
-      ≡ Report.Over (dOf waits s) (choose (inKnot waits s) Knot Free) (pos (outsiders waits s)) (lowestOutsider waits s)
-      (choose (inKnot waits s) Returned Held)
+      ≡ Report.Over (dOf waits s) (choose (inKnot waits s ed) Knot Free) (pos (outsiders waits s)) (lowestOutsider waits s)
+      (choose (inKnot waits s ed) Returned Held)
   area-reports z =
-      let p = area-ending bs s w e cs in
+      let p = area-ending bs s ed w e cs in
       report-on (list .left) (p .right) ∙ p .promise .ended (p .promise .over-at-d .1 z) .reports
 
   -- the pick of every message that waits, on any link and at any place of it, answers with that message (02, N5)
@@ -102,7 +102,7 @@ module _ (bs : List ℕ) (s : ℕ) (w : List ℤ) (e : startNumber bs s w ≡ 0)
       atPlace k (runIn (list .left) .link a b) ≡ cut m rest → pickAnswer (list .left) a b k ≡ Delivered m
   unfolding pickAnswer
   area-takes o a b k pa pb {m} {rest} c =
-      let p = area-ending bs s w e cs in
+      let p = area-ending bs s ed w e cs in
       let h = cut-placed k (runIn (list .left) .link a b) c in
       let t : Taken knot (runIn (list .left)) a b k = p .promise .goes-on o .each a b k pa pb (h .1 .0) (h .1 .1) in
       let two : cut m rest ≡ cut (t .message) (t .rest) = sym c ∙ t .waits in
@@ -110,16 +110,19 @@ module _ (bs : List ℕ) (s : ℕ) (w : List ℤ) (e : startNumber bs s w ≡ 0)
       rw (p .right, t .accepted) (ap Delivered same)
 
   sound : Sound waits
-  sound = waitsOf-sound (fieldOf bs) (table bs s w e .right)
+  sound = waitsOf-sound (fieldOf bs) (table bs s ed w e .right)
 
   process : IsProcess (waits .n) s
   unfolding waitsOf
-  process = begun bs s w e .start-in
+  process = begun bs s ed w e .start-in
 
-  is : asRun list ≡ Lists.passed cs (startRun waits s)
-  is = area-run bs s w e cs
+  named : IsEdition ed
+  named = begun bs s ed w e .edition
 
-  made : list .made ≡ Lists.passed cs (startRun waits s) .made
+  is : asRun list ≡ Lists.passed cs (startRun waits s ed)
+  is = area-run bs s ed w e cs
+
+  made : list .made ≡ Lists.passed cs (startRun waits s ed) .made
   made = ap (λ (p : Passed Run). p .made) is
 
   module _ (k : ℕ) (enough : dOf waits s ≤ list .made + k) where
@@ -127,22 +130,22 @@ module _ (bs : List ℕ) (s : ℕ) (w : List ℤ) (e : startNumber bs s w ≡ 0)
     pub area-runs-out : runOnAnswer k (list .left) ≡ Ran.Over (dOf waits s - list .made)
     unfolding runOnAnswer
     area-runs-out =
-        rw (area-ending bs s w e cs .right)
-        (ap (λ (p : Passed Run). runOn k (p .left) .answer) is ∙ ending-runs-out waits sound s process cs k (omega (arith, made)) ∙
+        rw (area-ending bs s ed w e cs .right)
+        (ap (λ (p : Passed Run). runOn k (p .left) .answer) is ∙ ending-runs-out waits sound s process ed named cs k (omega (arith, made)) ∙
         ap (λ (m : ℕ). Ran.Over (dOf waits s - m)) (sym made))
 
     -- .. and the run that it leaves is over
     pub area-over : over (runIn (runOnArea k (list .left))) ≡ true
     area-over =
         let t = fieldOf bs in
-        let tb = table bs s w e in
-        let long = begun bs s w e .long in
+        let tb = table bs s ed w e in
+        let long = begun bs s ed w e .long in
         let on = runningOn k in
-        let r = Lists.passed cs (startRun waits s) .left in
-        let f = fits-last bs s w e cs in
+        let r = Lists.passed cs (startRun waits s ed) .left in
+        let f = fits-last bs s ed w e cs in
         let call = ap (λ (p : Passed (List ℤ)). p .left) (call-stored t tb w long on r f) in
-        rw (list-left bs s w e cs, call, run t tb w long (runOn k r .run) (fit-call t tb w long on r f))
-        (ending-over waits sound s process cs k (omega (arith, made)))
+        rw (list-left bs s ed w e cs, call, run t tb w long (runOn k r .run) (fit-call t tb w long on r f))
+        (ending-over waits sound s process ed named cs k (omega (arith, made)))
 
   -- "accepted deliveries, 0 to 2048": so many suffice from wherever a list has come to
   most-enough : dOf waits s ≤ list .made + knot .most

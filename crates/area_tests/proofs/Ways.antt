@@ -38,7 +38,7 @@ use Rattle.areas.specs.Tells.{Tells}
 use Rattle.areas.specs.TellsLaws.{tells-map, tells-le, tells-eq, tells-id, tells-both, tells-same}
 use Rattle.areas.specs.WordTestLaws.{sameWord-P, counts-of}
 use Rattle.areas.specs.SquareLaws.{joinedBy-is}
-use Rattle.area_tests.specs.AreaTests.{sizesTest, fieldTest, counts, areFree, headTest, recordTest, linkTest, arcTest, areaTests}
+use Rattle.area_tests.specs.AreaTests.{sizesTest, fieldTest, counts, areFree, editionTest, headTest, recordTest, linkTest, arcTest, areaTests}
 
 pub tells-no : {b : Bool} {P : Type 0} → Tells b P → (P → ⊥) → b ≡ false
 tells-no {b} h never = at (tested b)
@@ -62,6 +62,7 @@ pub record HeadParts (w : List ℤ) : Type 0 where
   pub start-in : isProcess (numberAt w (fieldPlace 0)) (numberAt w startPlace) ≡ true
   pub count : counts w countPlace ≡ true
   pub few : numberAt w countPlace ≤ mostDeliveries
+  pub edition : editionTest w ≡ true
   pub free : areFree w headUsed headSize ≡ true
 
 pub headTest-parts : (w : List ℤ) → Tells (headTest w) (HeadParts w)
@@ -69,14 +70,16 @@ unfolding headTest
 headTest-parts w =
     tells-map
     (λ s. record {
-      check = s .0 .0 .0 .0 .0;
-      start = s .0 .0 .0 .0 .1;
-      start-in = s .0 .0 .0 .1;
-      count = s .0 .0 .1;
-      few = s .0 .1;
+      check = s .0 .0 .0 .0 .0 .0;
+      start = s .0 .0 .0 .0 .0 .1;
+      start-in = s .0 .0 .0 .0 .1;
+      count = s .0 .0 .0 .1;
+      few = s .0 .0 .1;
+      edition = s .0 .1;
       free = s .1;
     })
-    (λ s. (((((s .check, s .start), s .start-in), s .count), s .few), s .free))
+    (λ s. ((((((s .check, s .start), s .start-in), s .count), s .few), s .edition), s .free))
+    (tells-both
     (tells-both
     (tells-both
     (tells-both
@@ -84,6 +87,7 @@ headTest-parts w =
     (tells-id (isProcess (numberAt w (fieldPlace 0)) (numberAt w startPlace))))
     (tells-id (counts w countPlace)))
     (tells-le (numberAt w countPlace) mostDeliveries))
+    (tells-id (editionTest w)))
     (tells-id (areFree w headUsed headSize)))
 
 -- ---- a record

@@ -23,8 +23,9 @@ use Rattle.tables.specs.Reading.{fieldsNumber}
 use Rattle.tables.specs.Waits.{waitsOf}
 use Rattle.steps.specs.declared.Process.{Process}
 use Rattle.steps.specs.Step.{inRange, countSmall}
-use Rattle.checks.specs.Run.{mostDeliveries, fatherRight, countsSmall}
-use Rattle.areas.specs.Places.{startPlace, countPlace, headSize, fieldPlace, flagsPlace, numPlace, fatherPlace, recordSize, linkSize, areaLength}
+use Rattle.checks.specs.Run.{mostDeliveries, isEdition, fatherRight, countsSmall}
+use Rattle.areas.specs.Places.{startPlace, countPlace, editionPlace, headSize, fieldPlace, flagsPlace, numPlace, fatherPlace, recordSize, linkSize}
+use Rattle.areas.specs.Places.{areaLength}
 use Rattle.areas.specs.Used.{linkSlots}
 use Rattle.areas.specs.Used.{checkPlace, headUsed, recordUsed}
 use Rattle.areas.specs.Area.{fieldTotalOf, recordPlace, linkPlace, knotCheck, recordWord, codeOf, slotWord, hasBack, numberAt, fieldsIn, recordAt}
@@ -53,10 +54,14 @@ isFree w k = sameWord (getD w k (pos 0)) (pos 0)
 abbrev pub areFree : List ℤ → ℕ → ℕ → Bool
 areFree w i e = allTo (e - i) (λ j. isFree w (i + (j - 1)))
 
+-- the edition is 1 or 2 (02, N4)
+unfoldable pub editionTest : List ℤ → Bool
+editionTest w = counts w editionPlace && isEdition (numberAt w editionPlace)
+
 unfoldable pub headTest : List ℤ → Bool
 headTest w =
     sameWord (getD w checkPlace (pos 0)) knotCheck && counts w startPlace && isProcess (numberAt w (fieldPlace 0)) (numberAt w startPlace) &&
-    counts w countPlace && leb (numberAt w countPlace) mostDeliveries && areFree w headUsed headSize
+    counts w countPlace && leb (numberAt w countPlace) mostDeliveries && editionTest w && areFree w headUsed headSize
 
 unfoldable pub recordTest : List ℤ → ℕ → Bool
 recordTest w p =

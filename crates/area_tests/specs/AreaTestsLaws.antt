@@ -104,6 +104,7 @@ areaTests-right w =
               (record {
                 room = refl;
                 start-in = rw (runIn-n w) (s .0 .0 .1 .start-in);
+                edition = s .0 .0 .1 .edition;
                 count = s .0 .0 .1 .few;
                 records = λ p i. s .0 .1 p (i .0, omega (arith, runIn-n w)) .values;
                 short = λ a b _ _. linkRight-P knot (runIn w .link a b) .0 (links-right w (arcs s) a b) .0;
@@ -147,7 +148,7 @@ areaTests-right w =
     field f j u = (counts-of w (fieldPlace j) (t j) (placed f .fields j u), omega (arith, fieldsIn-at w j u, f .fields j u))
 
     head : AreaRight w → HeadRight w
-    head f = record { start-in = rw (runIn-n w) at (run f .start-in); few = run f .count; words = placed f .head }
+    head f = record { start-in = rw (runIn-n w) at (run f .start-in); few = run f .count; edition = run f .edition; words = placed f .head }
 
     one : AreaRight w → (p : ℕ) → IsProcess (nOf t) p → RecordRight w p
     one f p r = record { values = run f .records p (r .0, omega (arith, runIn-n w)); words = placed f .records p r }

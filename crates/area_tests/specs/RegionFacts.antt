@@ -1,6 +1,6 @@
 -- What the test of an area says of its regions.
 --   SizesFacts w        == the sizes are in range, and there are words enough for them
---   HeadRight w         == the start and the count are in range, and the words before the table are those of the layout
+--   HeadRight w         == the start, the count and the edition are in range, and the words before the table are those of the layout
 --   RecordRight w p     == the values of a record are right, and its words are those of the layout
 --   ArcRight w k        == the messages on an arc's links are right, and their words are those of the layout
 --   Placed w t r        == every word of the layout is that of the table t and the run r
@@ -14,7 +14,7 @@ use lib.IntN.{ℤ, pos}
 use Rattle.tables.specs.Table.{nOf, arcAt, Fields, IsProcess}
 use Rattle.tables.specs.Layout.{IsArc, Sizes}
 use Rattle.steps.specs.Step.{inRange}
-use Rattle.checks.specs.Run.{Run, mostDeliveries, linkRight, fatherRight}
+use Rattle.checks.specs.Run.{Run, mostDeliveries, isEdition, linkRight, fatherRight}
 use Rattle.areas.specs.Places.{headSize, fieldPlace, recordSize, arcSize}
 use Rattle.areas.specs.Area.{fieldTotalOf, areaOf, recordPlace, linkPlace, headWord, recordWord, hasBack, arcWord, fieldsIn, runIn}
 
@@ -26,6 +26,7 @@ pub record SizesFacts (w : List ℤ) : Type 0 where
 pub record HeadRight (w : List ℤ) : Type 0 where
   pub start-in : IsProcess (nOf (fieldsIn w)) (runIn w .start)
   pub few : runIn w .count ≤ mostDeliveries
+  pub edition : isEdition (runIn w .edition) ≡ true
   pub words : (k : ℕ) → k < headSize → getD w k (pos 0) ≡ headWord (runIn w) k
 
 pub record RecordRight (w : List ℤ) (p : ℕ) : Type 0 where

@@ -19,8 +19,9 @@ use Rattle.machine.specs.Machine as Machines
 use Rattle.tables.specs.Table.{Fields, arcAt, nOf, IsProcess}
 use Rattle.tables.specs.TableLaws.{isProcess-P}
 use Rattle.tables.specs.Layout.{IsArc, Right}
-use Rattle.checks.specs.Run.{Run, mostDeliveries, linkRight, countsSmall, fatherRight}
-use Rattle.areas.specs.Places.{startPlace, countPlace, headSize, fieldPlace, flagsPlace, numPlace, fatherPlace, recordSize, linkSize, arcSize}
+use Rattle.checks.specs.Run.{Run, mostDeliveries, isEdition, linkRight, countsSmall, fatherRight}
+use Rattle.areas.specs.Places.{startPlace, countPlace, editionPlace, headSize, fieldPlace, flagsPlace, numPlace, fatherPlace, recordSize, linkSize}
+use Rattle.areas.specs.Places.{arcSize}
 use Rattle.areas.specs.Used.{linkSlots}
 use Rattle.areas.specs.Used.{checkPlace, headUsed, recordUsed}
 use Rattle.areas.specs.Area.{areaOf, recordPlace, linkPlace, knotCheck, headWord, recordWord, slotWord, linkWord, hasBack, arcWord, wordOf, numberAt}
@@ -33,7 +34,7 @@ use Rattle.areas.specs.StoredLaws.{recordPlace-fits, linkPlace-fits}
 use Rattle.areas.specs.WordTestLaws.{sameWord-P}
 use Rattle.areas.specs.RunInLaws.{fieldsIn-n, runIn-process, runIn-contained, runIn-forth, runIn-back}
 use Rattle.areas.specs.LinkLaws.{messagesAt-length, linkWord-slots}
-use Rattle.area_tests.specs.AreaTests.{fieldTest, counts, isFree, areFree, headTest, recordTest, linkTest, arcTest}
+use Rattle.area_tests.specs.AreaTests.{fieldTest, counts, isFree, areFree, editionTest, headTest, recordTest, linkTest, arcTest}
 use Rattle.area_tests.specs.RegionFacts.{HeadRight, RecordRight, ArcRight, Placed}
 use lib.Dec.{leb, ltb}
 use Rattle.base.specs.Choice.{choose}
@@ -67,9 +68,10 @@ fieldTest-P w j = tells-both (tells-counts w (fieldPlace j)) (tells-le (numberAt
 -- ---- the head
 
 pub headTest-P : (w : List ℤ) → Tells (headTest w) (HeadRight w)
-unfolding headTest runIn
+unfolding headTest editionTest runIn
 headTest-P w =
     tells-map to from
+    (tells-both
     (tells-both
     (tells-both
     (tells-both
@@ -77,34 +79,42 @@ headTest-P w =
     (isProcess-P (numberAt w (fieldPlace 0)) (numberAt w startPlace)))
     (tells-counts w countPlace))
     (tells-le (numberAt w countPlace) mostDeliveries))
+    (tells-both (tells-counts w editionPlace) (tells-id (isEdition (numberAt w editionPlace)))))
     (tells-areFree w headUsed headSize))
   where
     Values : Type 0
     Values =
-        ((((word w checkPlace ≡ knotCheck) × (word w startPlace ≡ pos (numberAt w startPlace)))
+        (((((word w checkPlace ≡ knotCheck) × (word w startPlace ≡ pos (numberAt w startPlace)))
         × IsProcess (numberAt w (fieldPlace 0)) (numberAt w startPlace))
         × (word w countPlace ≡ pos (numberAt w countPlace)))
-        × (numberAt w countPlace ≤ mostDeliveries)
+        × (numberAt w countPlace ≤ mostDeliveries))
+        × ((word w editionPlace ≡ pos (numberAt w editionPlace)) × (isEdition (numberAt w editionPlace) ≡ true))
 
     Said : Type 0
     Said = Values × ((j : ℕ) → j < headSize - headUsed → word w (headUsed + j) ≡ pos 0)
 
     words : Said → (k : ℕ) → k < headSize → word w k ≡ headWord (runIn w) k
-    words s zero u = s .0 .0 .0 .0 .0
-    words s (suc zero) u = s .0 .0 .0 .0 .1
-    words s (suc (suc zero)) u = s .0 .0 .1
-    words s (suc (suc (suc k))) u = subst (λ (i : ℕ). word w i ≡ pos 0) (omega arith) (s .1 k (omega arith))
+    words s zero u = s .0 .0 .0 .0 .0 .0
+    words s (suc zero) u = s .0 .0 .0 .0 .0 .1
+    words s (suc (suc zero)) u = s .0 .0 .0 .1
+    words s (suc (suc (suc zero))) u = s .0 .1 .0
+    words s (suc (suc (suc (suc k)))) u = subst (λ (i : ℕ). word w i ≡ pos 0) (omega arith) (s .1 k (omega arith))
 
     to : Said → HeadRight w
-    to s = record { start-in = rw (fieldsIn-n w) (s .0 .0 .0 .1); few = s .0 .1; words = words s }
+    to s = record { start-in = rw (fieldsIn-n w) (s .0 .0 .0 .0 .1); few = s .0 .0 .1; edition = s .0 .1 .1; words = words s }
 
     free : HeadRight w → (j : ℕ) → j < headSize - headUsed → word w (headUsed + j) ≡ pos 0
-    free h j u = subst (λ (i : ℕ). word w i ≡ pos 0) (omega arith) (h .words (suc (suc (suc j))) (omega arith))
+    free h j u = subst (λ (i : ℕ). word w i ≡ pos 0) (omega arith) (h .words (suc (suc (suc (suc j)))) (omega arith))
 
     from : HeadRight w → Said
     from h =
-        let p : IsProcess (numberAt w (fieldPlace 0)) (numberAt w startPlace) = rw (fieldsIn-n w) at (h .start-in) in
-        (((((h .words checkPlace (omega arith), h .words startPlace (omega arith)), p), h .words countPlace (omega arith)), h .few), free h)
+        let p : IsProcess (numberAt w (fieldPlace 0)) (numberAt w startPlace) = rw (fieldsIn-n w) at (h .start-in) in (
+          (
+            ((((h .words checkPlace (omega arith), h .words startPlace (omega arith)), p), h .words countPlace (omega arith)), h .few),
+            (h .words editionPlace (omega arith), h .edition),
+          ),
+          free h,
+        )
 
 -- ---- a record
 

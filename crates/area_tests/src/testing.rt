@@ -15,7 +15,7 @@ ghost use Rattle.tables.specs.Pairs.{squareSize};
 ghost use Rattle.areas.specs.Places.{fieldPlace};
 ghost use Rattle.areas.specs.Area.{numberAt, fieldsIn, areaRight};
 ghost use Rattle.areas.specs.Squares.{Square};
-ghost use Rattle.area_tests.specs.AreaTests.{mostBytes, sizesTest, fieldTest, headTest, recordTest, arcTest};
+ghost use Rattle.area_tests.specs.AreaTests.{mostBytes, sizesTest, fieldTest, editionTest, headTest, recordTest, arcTest};
 ghost use Rattle.area_tests.specs.Testing.{sizesOf, CopiedTo};
 
 // N and M of an area, or that it is not well formed.
@@ -74,7 +74,19 @@ fn fields_to_bytes(area: &[i32], count: usize, table: &mut [u8; places::MOST_BYT
     true
 }
 
-// Which check, the start, the count, and zeros.
+// The edition is 1 or 2 (02, N4).
+fn is_edition_word(area: &[i32]) -> bool
+    requires { ⌜ fieldPlace 2 ≤ length (now area) ⌝ }
+    ensures { λ r. ⌜ r ≡ editionTest (now (area .entry)) ⌝ }
+{
+    if !word_tests::is_number(area[places::EDITION]) {
+        return false;
+    }
+    let edition = words::number(area[places::EDITION]) as usize;
+    checks::is_edition(edition)
+}
+
+// Which check, the start, the count, the edition, and zeros.
 fn is_head(area: &[i32], n: usize) -> bool
     requires { ⌜ fieldPlace 2 ≤ length (now area) ⌝ }
     requires { ⌜ n ≡ numberAt (now area) (fieldPlace 0) ⌝ }
@@ -94,6 +106,9 @@ fn is_head(area: &[i32], n: usize) -> bool
         return false;
     }
     if words::number(area[places::COUNT]) > checks::MOST_DELIVERIES {
+        return false;
+    }
+    if !is_edition_word(area) {
         return false;
     }
     word_tests::is_free(area, places::HEAD_USED, places::HEAD_SIZE)

@@ -17,8 +17,8 @@ use Rattle.tables.specs.{Reading.sizesRight, Reading.fieldsNumber, Waits.waitsO
 use Rattle.steps.specs.declared.{Message.Message, Message.the-variants.Suc, Message.the-variants.Pre, Message.the-variants.Ack, Process.Process}
 use Rattle.steps.specs.Step.{idle}
 use Rattle.checks.specs.Run.{Run, mostWaiting, wellFormed}
-use Rattle.areas.specs.Places.{startPlace, countPlace, headSize, fieldPlace, flagsPlace, csPlace, numPlace, fatherPlace, recordSize, recordStart}
-use Rattle.areas.specs.Places.{linkSize, arcSize, linkStart, areaLength}
+use Rattle.areas.specs.Places.{startPlace, countPlace, editionPlace, headSize, fieldPlace, flagsPlace, csPlace, numPlace, fatherPlace, recordSize}
+use Rattle.areas.specs.Places.{recordStart, linkSize, arcSize, linkStart, areaLength}
 
 -- ---- where things stand
 
@@ -59,12 +59,13 @@ linkOf t a b = choose (eqb (arcOf t a b) 0) (linkPlace t (arcOf t b a) + linkSiz
 abbrev pub knotCheck : ℤ
 knotCheck = pos 1
 
--- the words before the table: which check, the start, the accepted deliveries; the others are kept free and hold 0
+-- the words before the table: which check, the start, the accepted deliveries, the edition; the others are kept free and hold 0
 abbrev pub headWord : Run → ℕ → ℤ
 headWord r zero = knotCheck
 headWord r (suc zero) = pos (r .start)
 headWord r (suc (suc zero)) = pos (r .count)
-headWord r (suc (suc (suc k))) = pos 0
+headWord r (suc (suc (suc zero))) = pos (r .edition)
+headWord r (suc (suc (suc (suc k)))) = pos 0
 
 -- the three flags in one word
 unfoldable pub flagsOf : Process → ℕ
@@ -157,6 +158,7 @@ runIn w =
     record {
       waits = waitsOf (fieldsIn w);
       start = numberAt w startPlace;
+      edition = numberAt w editionPlace;
       count = numberAt w countPlace;
       process = λ p. choose (isProcess (nOf (fieldsIn w)) p) (recordAt w (recordPlace (fieldsIn w) p)) idle;
       link = λ a b. choose (neighbours (waitsOf (fieldsIn w)) a b) (messagesAt w (linkOf (fieldsIn w) a b) mostWaiting) [];
@@ -178,7 +180,8 @@ holdsWords w f n = allTo n (λ k. sameWord (getD w (k - 1) (pos 0)) (f (k - 1)))
 
 -- "It is *well formed* if it has the words that start needs for its N and M, N and M are in range, the copied table meets the section above,
 -- every value is in the range just given, the start is 1 to N, every father is 0 or a neighbour, and every link holds at most 4 messages
--- of the three kinds with counts in range": the sizes, the length, the table, the values of the run, and no word but those of the layout
+-- of the three kinds with counts in range": the sizes, the length, the table, the values of the run, its edition among them ("In an area it gives
+-- 21", 02, N4), and no word but those of the layout
 unfoldable pub areaRight : List ℤ → Bool
 areaRight w =
     leb (fieldPlace 2) (length w) && sizesRight (fieldsIn w) && leb (areaOf (fieldsIn w)) (length w) &&

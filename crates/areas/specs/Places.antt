@@ -1,5 +1,5 @@
 -- The numbers of the area's layout (docs/LAYOUT.md): where its parts begin and how many words they have, for code in src/places.rt too.
---   startPlace, countPlace    == the words of the start and of the accepted deliveries
+--   startPlace, countPlace, editionPlace   == the words of the start, of the accepted deliveries and of the edition
 --   headSize                  == how many words stand before the table
 --   flagsPlace, csPlace, numPlace, fatherPlace   == the words of a process's record, counted from its first
 --   recordSize                == how many words a process's record has
@@ -19,6 +19,10 @@ startPlace = 1
 -- the accepted deliveries
 abbrev pub countPlace : ℕ
 countPlace = 2
+
+-- the edition named at start (02, N4)
+abbrev pub editionPlace : ℕ
+editionPlace = 3
 
 abbrev pub headSize : ℕ
 headSize = 14

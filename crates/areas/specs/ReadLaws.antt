@@ -28,14 +28,14 @@ use Rattle.steps.specs.Effect.{RecordInRange}
 use Rattle.steps.specs.StepLaws.{inRange-P}
 use Rattle.checks.specs.Run.{Run, knot, countsSmall, wellFormed}
 use Rattle.checks.specs.RunLaws.{formed-range}
-use Rattle.areas.specs.Places.{startPlace, countPlace, fieldPlace, flagsPlace, csPlace, numPlace, fatherPlace}
+use Rattle.areas.specs.Places.{startPlace, countPlace, editionPlace, fieldPlace, flagsPlace, csPlace, numPlace, fatherPlace}
 use Rattle.areas.specs.Used.{linkSlots}
 use Rattle.areas.specs.Used.{recordUsed}
 use Rattle.areas.specs.Area.{fieldTotalOf, recordPlace, linkOf, flagsOf, recordWord, codeOf, slotWord, linkWord, stored, numberAt}
 use Rattle.areas.specs.Area.{fieldsIn, recordAt, messagesAt, runIn}
 use Rattle.areas.specs.Contained.{cut, Shut, Contained}
 use Rattle.areas.specs.CodeLaws.{codeOf-some, messageOf-codeOf, linkWord-slot}
-use Rattle.areas.specs.StoredLaws.{stored-start-word, stored-count-word, stored-field-word, stored-record-word, stored-link-word}
+use Rattle.areas.specs.StoredLaws.{stored-start-word, stored-edition-word, stored-count-word, stored-field-word, stored-record-word, stored-link-word}
 
 -- ---- the table
 
@@ -66,7 +66,15 @@ unfoldable linkIn : Fields → List ℤ → ℕ → ℕ → List Message
 linkIn t w a b = choose (neighbours (waitsOf t) a b) (messagesAt w (linkOf t a b) linkSlots) []
 
 unfoldable runOf : Fields → List ℤ → Run
-runOf t w = record { waits = waitsOf t; start = numberAt w startPlace; count = numberAt w countPlace; process = processIn t w; link = linkIn t w }
+runOf t w =
+    record {
+      waits = waitsOf t;
+      start = numberAt w startPlace;
+      edition = numberAt w editionPlace;
+      count = numberAt w countPlace;
+      process = processIn t w;
+      link = linkIn t w;
+    }
 
 runIn-runOf : (w : List ℤ) → runIn w ≡ runOf (fieldsIn w) w
 unfolding runIn runOf processIn linkIn
@@ -161,9 +169,10 @@ module _ (t : Fields) (s : Right t) (r : Run) (w : List ℤ) (g : Contained t r)
       let a : waitsOf t ≡ r .waits = sym (g .waits) in
       let b : numberAt (stored t r w) startPlace ≡ r .start = ap natAbs (stored-start-word t r w (pos 0)) in
       let c : numberAt (stored t r w) countPlace ≡ r .count = ap natAbs (stored-count-word t r w (pos 0)) in
+      let v : numberAt (stored t r w) editionPlace ≡ r .edition = ap natAbs (stored-edition-word t r w (pos 0)) in
       let d : processIn t (stored t r w) ≡ r .process = fun-ext processIn-stored in
       let e : linkIn t (stored t r w) ≡ r .link = fun-ext (λ x. fun-ext (linkIn-stored x)) in
-      λ i. record { waits = a i; start = b i; count = c i; process = d i; link = e i }
+      λ i. record { waits = a i; start = b i; edition = v i; count = c i; process = d i; link = e i }
 
 pub runIn-stored : (t : Fields) (r : Run) (w : List ℤ) → Right t → Shut t → Contained t r → wellFormed r ≡ true → runIn (stored t r w) ≡ r
 runIn-stored t r w s h g e =

@@ -1,7 +1,8 @@
 -- What stands in an area with a table and a run in it.
 --   stored-overlaid                           == such an area as words put before the rest of a list
 --   stored-length, stored-word, stored-past   == its length, its words, and that "Surplus words are not touched."
---   stored-start-word, stored-count-word, stored-field-word, stored-record-word, stored-link-word   == its words by what they hold
+--   stored-start-word, stored-edition-word, stored-count-word, stored-field-word, stored-record-word, stored-link-word   == its words by what
+--                                                they hold
 --   recordPlace-fits, linkPlace-fits, linkOf-fits   == records and links stand inside the words that start needs
 --   stored-of, stored-again   == an area is given by its words; storing anew forgets what was stored before
 -- Assumes nothing.
@@ -15,7 +16,7 @@ use lib.IntN.{ℤ, pos}
 use Rattle.tables.specs.Table.{Fields, nOf, mOf}
 use Rattle.tables.specs.Waits.{waitsOf, neighbours}
 use Rattle.checks.specs.Run.{Run}
-use Rattle.areas.specs.Places.{startPlace, countPlace, fieldPlace, recordSize, linkSize, arcSize}
+use Rattle.areas.specs.Places.{startPlace, countPlace, editionPlace, fieldPlace, recordSize, linkSize, arcSize}
 use Rattle.areas.specs.Area.{fieldTotalOf, areaOf, recordPlace, linkPlace, linkOf, recordWord, linkWord, wordOf, stored}
 use Rattle.areas.specs.Arcs.{LinkAt, forth, back}
 use Rattle.areas.specs.Overlaid.{overlaid}
@@ -59,6 +60,9 @@ linkOf-fits t a b n = at (linkOf-at t a b n)
 
 pub stored-start-word : (t : Fields) (r : Run) (w : List ℤ) (d : ℤ) → getD (stored t r w) startPlace d ≡ pos (r .start)
 stored-start-word t r w d = stored-word t r w startPlace d (omega arith) ∙ wordOf-head t r startPlace (omega arith)
+
+pub stored-edition-word : (t : Fields) (r : Run) (w : List ℤ) (d : ℤ) → getD (stored t r w) editionPlace d ≡ pos (r .edition)
+stored-edition-word t r w d = stored-word t r w editionPlace d (omega arith) ∙ wordOf-head t r editionPlace (omega arith)
 
 pub stored-count-word : (t : Fields) (r : Run) (w : List ℤ) (d : ℤ) → getD (stored t r w) countPlace d ≡ pos (r .count)
 stored-count-word t r w d = stored-word t r w countPlace d (omega arith) ∙ wordOf-head t r countPlace (omega arith)

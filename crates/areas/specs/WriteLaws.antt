@@ -75,12 +75,13 @@ wordOf-agree t q r k u g = at (place? t k u)
     at (in-record p j l m h e) = rw e (wordOf-record t q p j l m h ∙ g .records p j l m h e ∙ sym (wordOf-record t r p j l m h))
     at (in-links a j l m h e) = rw e (wordOf-arc t q a j l h ∙ g .links a j l m h e ∙ sym (wordOf-arc t r a j l h))
 
--- the heading holds the start and the count alone
-headWord-same : (q r : Run) → q .start ≡ r .start → q .count ≡ r .count → (k : ℕ) → headWord q k ≡ headWord r k
-headWord-same q r s c zero = refl
-headWord-same q r s c (suc zero) = ap pos s
-headWord-same q r s c (suc (suc zero)) = ap pos c
-headWord-same q r s c (suc (suc (suc k))) = refl
+-- the heading holds the start, the count and the edition alone
+headWord-same : (q r : Run) → q .start ≡ r .start → q .count ≡ r .count → q .edition ≡ r .edition → (k : ℕ) → headWord q k ≡ headWord r k
+headWord-same q r s c e zero = refl
+headWord-same q r s c e (suc zero) = ap pos s
+headWord-same q r s c e (suc (suc zero)) = ap pos c
+headWord-same q r s c e (suc (suc (suc zero))) = ap pos e
+headWord-same q r s c e (suc (suc (suc (suc k)))) = refl
 
 -- ---- the count
 
@@ -89,7 +90,8 @@ unfolding putCount
 headWord-count r c zero n = refl
 headWord-count r c (suc zero) n = refl
 headWord-count r c (suc (suc zero)) n = absurd (n refl)
-headWord-count r c (suc (suc (suc k))) n = refl
+headWord-count r c (suc (suc (suc zero))) n = refl
+headWord-count r c (suc (suc (suc (suc k)))) n = refl
 
 pub stored-count : (t : Fields) (r : Run) (w : List ℤ) (c : ℕ) → set (stored t r w) countPlace (pos c) ≡ stored t (putCount r c) w
 unfolding putCount arcWord
@@ -102,7 +104,7 @@ stored-count t r w c =
 
 headWord-process : (r : Run) (p : ℕ) (x : Process) (k : ℕ) → headWord (putProcess r p x) k ≡ headWord r k
 unfolding putProcess
-headWord-process r p x k = headWord-same (putProcess r p x) r refl refl k
+headWord-process r p x k = headWord-same (putProcess r p x) r refl refl refl k
 
 -- the other words of a record are kept free and hold 0
 recordWord-free : (x : Process) (j : ℕ) → recordUsed ≤ j → recordWord x j ≡ pos 0
@@ -149,7 +151,7 @@ stored-record t r w p x l u =
 
 headWord-link : (r : Run) (a b : ℕ) (ms : List Message) (k : ℕ) → headWord (putLink r a b ms) k ≡ headWord r k
 unfolding putLink
-headWord-link r a b ms k = headWord-same (putLink r a b ms) r refl refl k
+headWord-link r a b ms k = headWord-same (putLink r a b ms) r refl refl refl k
 
 recordWord-link : (r : Run) (a b : ℕ) (ms : List Message) (p j : ℕ) → recordWord (putLink r a b ms .process p) j ≡ recordWord (r .process p) j
 unfolding putLink

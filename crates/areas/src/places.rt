@@ -4,7 +4,7 @@ ghost use Prim.Native.Nat.{_+_, _*_, _≤_};
 ghost use Rattle.tables.specs.Table.{mostProcesses, mostArcs, fieldTotal};
 ghost use Rattle.areas.specs.Places.{fieldPlace, recordStart, linkStart, areaLength};
 
-// The words before the table that are in use: which check, the start, the accepted deliveries.
+// The words before the table that are in use: which check, the start, the accepted deliveries, the edition.
 pub const CHECK: usize = 0;
 
 pub const KNOT_CHECK: i32 = 1;
@@ -13,7 +13,9 @@ pub const START: usize = 1;
 
 pub const COUNT: usize = 2;
 
-pub const HEAD_USED: usize = COUNT + 1;
+pub const EDITION: usize = 3;
+
+pub const HEAD_USED: usize = EDITION + 1;
 
 pub const HEAD_SIZE: usize = 14;
 

@@ -2,7 +2,7 @@
 -- comes first.
 --   deliveryOf-refused, deliveryOf-delivered   == what an answer of the code says of the machine's
 --   deliveryOf-number, deliveryOf-accepted     == the same number, and the same count of accepted picks
---   verdictOf-knot, verdictOf-free             == the verdict by the sum
+--   isZero-yes, isZero-no                      == the test of a sum
 --   markOf-chosen                              == the mark of a verdict that goes by a test
 --   escapeOf-P                                 == the lowest process with subordinate 1, or 0 and none has it
 --   pick-21, runOn-21, report-21, readRecord-21   == 21 comes first
@@ -28,7 +28,7 @@ use Rattle.checks.specs.declared.Mark.the-variants.{Returned, Held}
 use Rattle.checks.specs.declared.Report.{Report}
 use Rattle.checks.specs.declared.Reading.{Reading}
 use Rattle.checks.specs.Run.{Run, wellFormed}
-use Rattle.checks.specs.Calls.{refused, deliveryOf, pick, runOn, escapeOf, verdictOf, markOf, report, readRecord, deliveryNumber, deliveryMade}
+use Rattle.checks.specs.Calls.{refused, deliveryOf, pick, runOn, escapeOf, isZero, markOf, report, readRecord, deliveryNumber, deliveryMade}
 
 pub deliveryOf-refused : (x : Answer Message) {n : ℕ} → deliveryOf x ≡ Delivery.Refused n → x ≡ refusal n
 deliveryOf-refused (refusal k) {n} e = let f : k ≡ n = cc in ap refusal f
@@ -46,14 +46,14 @@ pub deliveryOf-accepted : (x : Answer Message) → deliveryMade (deliveryOf x) �
 deliveryOf-accepted (given m) = refl
 deliveryOf-accepted (refusal n) = refl
 
--- "verdict knot if cs of s is 0, else none"
-pub verdictOf-knot : (z : ℤ) → z ≡ pos 0 → verdictOf z ≡ Knot
-verdictOf-knot z e = rw e
+-- "cs of s is 0"
+pub isZero-yes : (z : ℤ) → z ≡ pos 0 → isZero z ≡ true
+isZero-yes z e = rw e
 
-pub verdictOf-free : (z : ℤ) → (z ≡ pos 0 → ⊥) → verdictOf z ≡ Free
-verdictOf-free (pos zero) h = absurd (h refl)
-verdictOf-free (pos (suc n)) h = refl
-verdictOf-free (negsuc n) h = refl
+pub isZero-no : (z : ℤ) → (z ≡ pos 0 → ⊥) → isZero z ≡ false
+isZero-no (pos zero) h = absurd (h refl)
+isZero-no (pos (suc n)) h = refl
+isZero-no (negsuc n) h = refl
 
 -- "mark returned if the verdict is knot, else held"
 pub markOf-chosen : (b : Bool) → markOf (choose b Knot Free) ≡ choose b Returned Held

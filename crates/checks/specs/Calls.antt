@@ -1,15 +1,16 @@
--- What each call of a knot check does and answers (01, "Steps" and "Refused because of the state"; 02, N1 and N5). Picks and running on are
--- the machine's (crate machine, Calls), by the knot check's rules.
+-- What each call of a knot check does and answers (01, "Steps" and "Refused because of the state"; 02, N1, N4 and N5). Picks and running on
+-- are the machine's (crate machine, Calls), by the knot check's rules.
 --   Picked             == an answer and the run that a delivery leaves
 --   pick r a b k       == a pick of place k checks 21, 25, 23, 24, 31, 22
 --   runOn k r          == "Running on checks 21 first, then over, then spent, then 24, 22.", in the fixed order
 --   isSubordinate x, escapeOf r   == "escape is the lowest-numbered process with subordinate 1, and 0 only where there is none" (02, N1)
+--   isZero z, verdictOf r, markOf v   == whether a sum is 0; the verdict, by the edition named at start (02, N4); its mark
 --   report r           == "The report checks 21, 26"
 --   readRecord r p     == "reading one process's record checks 21, 25"
 --   deliveryNumber, deliveryMade, reportNumber, readingNumber   == for each case of an answer 01's number
 -- Assumes nothing.
 use Prim.Native.Nat.{ℕ, zero, suc}
-use mathlib.Core.Bool.{Bool, not}
+use mathlib.Core.Bool.{Bool, true, false, not, _&&_}
 use mathlib.Core.List.{List}
 use lib.Dec.{eqb}
 use lib.IntN.{ℤ, pos, negsuc}
@@ -28,7 +29,7 @@ use Rattle.checks.specs.declared.Mark.the-variants.{Returned, Held}
 use Rattle.checks.specs.declared.Report.{Report}
 use Rattle.checks.specs.declared.Reading.{Reading}
 use Rattle.checks.specs.declared.Reading.the-variants.{Found}
-use Rattle.checks.specs.Run.{Run, knot, over, wellFormed}
+use Rattle.checks.specs.{Run.Run, Run.knot, Run.over, Run.wellFormed, Reach.editionAllows}
 
 -- ---- a pick
 
@@ -80,11 +81,15 @@ isSubordinate x = eqb (x .subordinate) 1
 unfoldable pub escapeOf : Run → ℕ
 escapeOf r = lowestTo (r .waits .n) (λ p. isSubordinate (r .process p))
 
--- "verdict knot if cs of s is 0, else none"
-abbrev pub verdictOf : ℤ → Verdict
-verdictOf (pos zero) = Knot
-verdictOf (pos (suc n)) = Free
-verdictOf (negsuc n) = Free
+-- "cs of s is 0"
+abbrev pub isZero : ℤ → Bool
+isZero (pos zero) = true
+isZero (pos (suc n)) = false
+isZero (negsuc n) = false
+
+-- "verdict knot if cs of s is 0, else none"; "judged by the edition named at start" (02, N4)
+unfoldable pub verdictOf : Run → Verdict
+verdictOf r = choose (isZero (r .process (r .start) .cs) && editionAllows (r .waits) (r .start) (r .edition)) Knot Free
 
 -- "mark returned if the verdict is knot, else held"
 abbrev pub markOf : Verdict → Mark
@@ -93,9 +98,7 @@ markOf Free = Held
 
 -- "over count; verdict ..; outside = cs of s; escape ..; mark .."
 unfoldable pub reported : Run → Report
-reported r =
-    Report.Over (r .count) (verdictOf (r .process (r .start) .cs)) (r .process (r .start) .cs) (escapeOf r)
-    (markOf (verdictOf (r .process (r .start) .cs)))
+reported r = Report.Over (r .count) (verdictOf r) (r .process (r .start) .cs) (escapeOf r) (markOf (verdictOf r))
 
 -- "The report checks 21, 26"
 unfoldable pub report : Run → Report

@@ -1,7 +1,7 @@
 -- The end of a check in the words of the relation of who reaches whom (01, "The end of a check"), over the arcs of a table. Ended (Lists) says
 -- the same by the tests that compute it; ended-P (crate ending, InWordsLaws) ties the two.
 --   Outside w s p         == p is reachable from s and does not reach it
---   EndedInWords t s r    == what is said of a run that is over, of the table with fields t, started at s
+--   EndedInWords t s ed r   == what is said of a run that is over, of the table with fields t, started at s under the edition ed
 -- HowMany P n k (crate base, Sums) says that k of the numbers 1 to n have P, and Lowest P n e that e is the lowest that has P, 0 if none has.
 -- Assumes nothing.
 use Prim.Native.Nat.{ℕ, _+_, _*_}
@@ -18,13 +18,13 @@ use Rattle.checks.specs.declared.Mark.the-variants.{Returned}
 use Rattle.checks.specs.declared.Report.{Report}
 use Rattle.checks.specs.Run.{Run}
 use Rattle.checks.specs.Calls.{report}
-use Rattle.checks.specs.Reach.{Reaches}
+use Rattle.checks.specs.Reach.{Reaches, SomeByArcs}
 
 -- "those that do not": reachable from the start, and not reaching it
 abbrev pub Outside : Waits → ℕ → ℕ → Type 0
 Outside w s p = Reaches w s p × (Reaches w p s → ⊥)
 
-pub record EndedInWords (t : Fields) (s : ℕ) (r : Run) : Type 0 where
+pub record EndedInWords (t : Fields) (s ed : ℕ) (r : Run) : Type 0 where
   -- "the number of arcs whose from is reachable from the start", and "the number whose to reaches it"
   pub onward : ℕ
   pub onward-is : HowMany (λ k. Reaches (waitsOf t) s (arcAt t k .from)) (mOf t) onward
@@ -42,7 +42,8 @@ pub record EndedInWords (t : Fields) (s : ℕ) (r : Run) : Type 0 where
   pub verdict : Verdict
   pub mark : Mark
   pub reports : report r ≡ Report.Over (2 * onward + 2 * back) verdict (pos outside) escape mark
-  pub knot : (verdict ≡ Knot) ↔ ((p : ℕ) → Reaches (waitsOf t) s p → Reaches (waitsOf t) p s)
+  -- 02, N4: under the second edition "in addition, at least one process must be reachable by one arc or more"
+  pub knot : (verdict ≡ Knot) ↔ (((p : ℕ) → Reaches (waitsOf t) s p → Reaches (waitsOf t) p s) × (ed ≡ 2 → SomeByArcs (waitsOf t) s))
   pub returned : (mark ≡ Returned) ↔ (verdict ≡ Knot)
   -- "succeeding 1 exactly if it is reachable from the start, preceding 1 exactly if it reaches it, subordinate 1 exactly if the first holds
   -- and not the second"

@@ -1,8 +1,8 @@
 -- What is said of every list of the four calls on a knot check (01, "The end of a check"). Lists are the machine's (crate machine, Lists).
 --   asked              == the numbers that the report and the reading of a record answer
 --   passed cs r        == the list: "each call gets the area as the last one left it"
---   Ended w s r        == what is said of a run that is over
---   Promise w s p      == what is said of every list, with p what the list left
+--   Ended w s ed r     == what is said of a run that is over, started at s under the edition ed
+--   Promise w s ed p   == what is said of every list, with p what the list left
 -- Assumes nothing.
 use Prim.Native.Nat.{ℕ, _≤_}
 use mathlib.Core.Bool.{true, false}
@@ -39,12 +39,13 @@ unfoldable pub endSum : Waits → ℕ → ℕ → ℕ
 endSum w s p = choose (eqb p s) (outsiders w s) 0
 
 -- what is said of a run that is over
-pub record Ended (w : Waits) (s : ℕ) (r : Run) : Type 0 where
+pub record Ended (w : Waits) (s ed : ℕ) (r : Run) : Type 0 where
   -- "When it is over none waits"
   pub none-waits : (a b : ℕ) → IsProcess (w .n) a → IsProcess (w .n) b → r .link a b ≡ []
-  -- "a report gives D, knot exactly if .., as outside the number of those that do not"; as escape the lowest of them, 0 if none (02, N1)
+  -- "a report gives D, knot exactly if .., as outside the number of those that do not"; as escape the lowest of them, 0 if none (02, N1);
+  -- "Verdicts are judged by the edition named at start" (02, N4)
   pub reports : report r
-      ≡ Report.Over (dOf w s) (choose (inKnot w s) Knot Free) (pos (outsiders w s)) (lowestOutsider w s) (choose (inKnot w s) Returned Held)
+      ≡ Report.Over (dOf w s) (choose (inKnot w s ed) Knot Free) (pos (outsiders w s)) (lowestOutsider w s) (choose (inKnot w s ed) Returned Held)
   -- "Each process then has .."
   pub succeeding : (p : ℕ) → IsProcess (w .n) p → r .process p .succeeding ≡ bit (reaches w s p)
   pub preceding : (p : ℕ) → IsProcess (w .n) p → r .process p .preceding ≡ bit (reaches w p s)
@@ -53,7 +54,7 @@ pub record Ended (w : Waits) (s : ℕ) (r : Run) : Type 0 where
   pub cs : (p : ℕ) → IsProcess (w .n) p → r .process p .cs ≡ pos (endSum w s p)
 
 -- "After every list, the empty one too, .."
-pub record Promise (w : Waits) (s : ℕ) (p : Passed Run) : Type 0 where
+pub record Promise (w : Waits) (s ed : ℕ) (p : Passed Run) : Type 0 where
   -- "A is at most D"
   pub at-most : p .made ≤ dOf w s
   -- "and is the run's count"
@@ -63,7 +64,9 @@ pub record Promise (w : Waits) (s : ℕ) (p : Passed Run) : Type 0 where
   -- "otherwise a message waits on some link, and a pick can take it"; each that waits, at its place (02, N5)
   pub goes-on : over (p .left) ≡ false → Waiting knot w (p .left)
   -- "When it is over .."
-  pub ended : over (p .left) ≡ true → Ended w s (p .left)
+  pub ended : over (p .left) ≡ true → Ended w s ed (p .left)
+  -- 02, N4: "Open payments keep the edition they began under."
+  pub edition : p .left .edition ≡ ed
   -- the numbers that occur: "22 never occurs in a run made by start and deliveries", whichever message is taken, nor does 21
   pub answers : (n : ℕ) → List·Memᴰ n (p .numbers) → List·Memᴰ n (0 ∷ 23 ∷ 24 ∷ 25 ∷ 26 ∷ 31 ∷ [])
   -- "with at most 4 messages waiting"

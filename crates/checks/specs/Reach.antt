@@ -1,7 +1,11 @@
--- Who reaches whom, and the number D (01, "Steps" and "The end of a check").
+-- Who reaches whom, what a knot is under each edition, and the number D (01, "Steps" and "The end of a check"; 02, N4).
 --   Reaches w p q      == "p *reaches* q .. if q is p or arcs lead from p to q, each beginning where the one before it ended" (01's term)
 --   reaches w p q      == the same as a test: the closure of the waits, grown N times
---   inKnot w s         == "knot exactly if all processes reachable from the start reach it"
+--   ReachesByArcs w p q, reachesByArcs w p q   == q is "reachable by one arc or more" (02, N4) from p, and the test of it
+--   SomeByArcs w s, someByArcs w s   == "at least one process must be reachable by one arc or more", from s, and the test of it
+--   allReachBack w s   == "all processes reachable from the start reach it"
+--   editionAllows w s ed   == what an edition asks of a knot in addition: nothing under 1, under 2 that sentence of 02, N4
+--   inKnot w s ed      == "knot exactly if all processes reachable from the start reach it", by edition
 --   outsiders w s      == "the number of those that do not"
 --   lowestOutsider w s == the lowest of those, 0 if there is none: the escape of 02, N1, at the end of a check
 --   dOf w s            == "D is twice the number of arcs whose from is reachable from the start plus twice the number whose to reaches it"
@@ -27,9 +31,33 @@ within w (suc k) p q = within w k p q || anyTo (w .n) (λ m. within w k p m && w
 unfoldable pub reaches : Waits → ℕ → ℕ → Bool
 reaches w p q = within w (w .n) p q
 
--- "knot exactly if all processes reachable from the start reach it"
-unfoldable pub inKnot : Waits → ℕ → Bool
-inKnot w s = allTo (w .n) (λ p. not (reaches w s p) || reaches w p s)
+-- 02, N4: "reachable by one arc or more"; 01's Reaches has the process itself too
+pub data ReachesByArcs (w : Waits) (p r : ℕ) : Type 0 where
+  onward : {q : ℕ} → w .waits p q ≡ true → Reaches w q r → ReachesByArcs w p r
+
+unfoldable pub reachesByArcs : Waits → ℕ → ℕ → Bool
+reachesByArcs w p r = anyTo (w .n) (λ q. w .waits p q && reaches w q r)
+
+-- 003, section 3.1: "and there is at least one such vertex q"; 02, N4: "at least one process must be reachable by one arc or more"
+pub record SomeByArcs (w : Waits) (s : ℕ) : Type 0 where
+  pub process : ℕ
+  pub reached : ReachesByArcs w s process
+
+unfoldable pub someByArcs : Waits → ℕ → Bool
+someByArcs w s = anyTo (w .n) (λ q. reachesByArcs w s q)
+
+-- "all processes reachable from the start reach it"
+unfoldable pub allReachBack : Waits → ℕ → Bool
+allReachBack w s = allTo (w .n) (λ p. not (reaches w s p) || reaches w p s)
+
+-- 02, N4: "Under the first edition a process that waits for nobody counts as a knot. The second follows .. 003, section 3.1: in addition, at
+-- least one process must be reachable by one arc or more"
+unfoldable pub editionAllows : Waits → ℕ → ℕ → Bool
+editionAllows w s ed = not (eqb ed 2) || someByArcs w s
+
+-- "knot exactly if all processes reachable from the start reach it", and as its edition asks
+unfoldable pub inKnot : Waits → ℕ → ℕ → Bool
+inKnot w s ed = allReachBack w s && editionAllows w s ed
 
 -- reachable from the start, and does not reach it
 unfoldable pub outsider : Waits → ℕ → ℕ → Bool

@@ -2,26 +2,30 @@
 --   from-in, to-in      == both ends of a wait are processes
 --   reaches-forward, reaches-backward   == what passes along every wait (or back along it) passes along a path
 --   reaches-trans       == paths join
---   reaches-P           == the test and the relation agree; so with inKnot-P, outsider-P, outsiders-P, lowestOutsider-P, each named after its test
+--   reaches-P           == the test and the relation agree; so with reachesByArcs-P, someByArcs-P, allReachBack-P, inKnot-P, outsider-P,
+--                          outsiders-P, lowestOutsider-P, each named after its test
+--   someByArcs-waits    == some process is reachable by one arc or more exactly if the start waits for somebody
 --   reaches-in          == whoever is reached from a process is a process
 -- Assumes nothing.
 use Prim.Native.Nat.{ℕ, zero, suc, _+_, _≤_}
 use mathlib.Core.Bool.{Bool, true, false, not, _&&_, _||_, false≢true}
-use mathlib.Core.Path.{_≡_, refl, sym, _∙_}
+use mathlib.Core.Path.{_≡_, refl, sym, ap, _∙_}
 use mathlib.Core.Logic.{_⊎_, inl, inr, _↔_, ⊎-elim}
 use native.Mathlib.Omega.{arith}
 use borrow.Author.Tests.{eqb-true, eq-eqb, not-true}
+use lib.Dec.{eqb}
 use Rattle.base.specs.Choice.{bit}
-use Rattle.base.specs.ChoiceLaws.{bit-≤1, tested, same?, and-left, and-right, and-both, or-cases, or-left, or-right}
+use Rattle.base.specs.ChoiceLaws.{bit-≤1, bit-some, tested, same?, and-left, and-right, and-both, or-cases, or-left, or-right}
 use Rattle.base.specs.Checks.{Tested, passed, failed, Same, same, apart}
 use Rattle.base.specs.Sums.{sumTo, countTo, anyTo, spot, HowMany, Lowest}
 use Rattle.base.specs.SumLaws.{spot-at, spot-off, sumTo-add, sumTo-le, sumTo-part, sumTo-spot, sumTo-most, allTo-at, allTo-of, anyTo-of}
-use Rattle.base.specs.Sums.{Found}
-use Rattle.base.specs.SumLaws.{anyTo-found, countTo-P, lowestTo-P}
-use Rattle.tables.specs.Waits.{Waits}
+use Rattle.base.specs.Sums.{Found, Part}
+use Rattle.base.specs.SumLaws.{anyTo-found, sumTo-some, countTo-P, lowestTo-P}
+use Rattle.tables.specs.Waits.{Waits, outDegree}
 use Rattle.tables.specs.Sound.{Sound}
 use Rattle.tables.specs.Table.{IsProcess}
-use Rattle.checks.specs.Reach.{Reaches, here, along, within, reaches, inKnot, outsider, outsiders, lowestOutsider}
+use Rattle.checks.specs.Reach.{Reaches, here, along, within, reaches, ReachesByArcs, onward, reachesByArcs, SomeByArcs, someByArcs, allReachBack}
+use Rattle.checks.specs.Reach.{editionAllows, inKnot, outsider, outsiders, lowestOutsider}
 use Rattle.checks.specs.InWords.{Outside}
 
 -- both ends of a wait are processes
@@ -166,14 +170,32 @@ reaches-P w ok p q pIn = (
       (within-own w ok p (w .n)),
 )
 
+pub reachesByArcs-P : (w : Waits) → Sound w → (p r : ℕ) → (reachesByArcs w p r ≡ true) ↔ ReachesByArcs w p r
+unfolding reachesByArcs
+reachesByArcs-P w ok p r = (
+  λ e. by (anyTo-found (w .n) (λ q. w .waits p q && reaches w q r) e),
+  test,
+)
+  where
+    by : Found (w .n) (λ q. w .waits p q && reaches w q r) → ReachesByArcs w p r
+    by f =
+        onward (and-left (w .waits p (f .at)) (reaches w (f .at) r) (f .passes))
+        (reaches-P w ok (f .at) r (f .low, f .high) .0 (and-right (w .waits p (f .at)) (reaches w (f .at) r) (f .passes)))
+
+    test : ReachesByArcs w p r → anyTo (w .n) (λ q. w .waits p q && reaches w q r) ≡ true
+    test (onward {q} e t) =
+        let i = to-in ok p q e in
+        anyTo-of (w .n) (λ q. w .waits p q && reaches w q r) q (i .0) (i .1)
+        (and-both (w .waits p q) (reaches w q r) e (reaches-P w ok q r i .1 t))
+
 module _ (w : Waits) (ok : Sound w) (s : ℕ) (sIn : IsProcess (w .n) s) where
   -- whoever is reached from a process is a process
   pub reaches-in : {p : ℕ} → Reaches w s p → IsProcess (w .n) p
   reaches-in t = reaches-forward (λ x. IsProcess (w .n) x) (λ a b e _. to-in ok a b e) t sIn
 
-  pub inKnot-P : (inKnot w s ≡ true) ↔ ((p : ℕ) → Reaches w s p → Reaches w p s)
-  unfolding inKnot
-  inKnot-P = (
+  pub allReachBack-P : (allReachBack w s ≡ true) ↔ ((p : ℕ) → Reaches w s p → Reaches w p s)
+  unfolding allReachBack
+  allReachBack-P = (
     λ e p t. let i = reaches-in t in back p i (allTo-at (w .n) (λ q. not (reaches w s q) || reaches w q s) e p (i .0) (i .1)) t,
     λ h. allTo-of (w .n) (λ q. not (reaches w s q) || reaches w q s) (λ p l u. test p (l, u) h (tested (reaches w s p))),
   )
@@ -184,6 +206,50 @@ module _ (w : Waits) (ok : Sound w) (s : ℕ) (sIn : IsProcess (w .n) s) where
       test : (p : ℕ) → IsProcess (w .n) p → ((q : ℕ) → Reaches w s q → Reaches w q s) → Tested (reaches w s p) → (not (reaches w s p) || reaches w p s) ≡ true
       test p i h (passed e) = rw e (reaches-P w ok p s i .1 (h p (reaches-P w ok s p sIn .0 e)))
       test p i h (failed e) = rw e
+
+  pub someByArcs-P : (someByArcs w s ≡ true) ↔ SomeByArcs w s
+  unfolding someByArcs
+  someByArcs-P = (
+    λ e. let f = anyTo-found (w .n) (λ q. reachesByArcs w s q) e in
+        record { process = f .at; reached = reachesByArcs-P w ok s (f .at) .0 (f .passes) },
+    λ h. by (h .process) (h .reached),
+  )
+    where
+      by : (r : ℕ) → ReachesByArcs w s r → anyTo (w .n) (λ q. reachesByArcs w s q) ≡ true
+      by r (onward e t) =
+          let i = reaches-in (along e t) in
+          anyTo-of (w .n) (λ q. reachesByArcs w s q) r (i .0) (i .1) (reachesByArcs-P w ok s r .1 (onward e t))
+
+  -- 02, N4: the second edition asks in addition that the start waits for somebody
+  pub someByArcs-waits : (someByArcs w s ≡ true) ↔ (1 ≤ outDegree w s)
+  unfolding outDegree countTo
+  someByArcs-waits = (
+    λ e. some (someByArcs-P .0 e .reached),
+    λ h. by (sumTo-some (w .n) (λ q. bit (w .waits s q)) h),
+  )
+    where
+      some : {r : ℕ} → ReachesByArcs w s r → 1 ≤ sumTo (w .n) (λ q. bit (w .waits s q))
+      some (onward {q} e t) =
+          let i = to-in ok s q e in
+          omega (arith, sumTo-part (w .n) (λ q. bit (w .waits s q)) q (i .0) (i .1), ap bit e)
+
+      by : Part (w .n) (λ q. bit (w .waits s q)) → someByArcs w s ≡ true
+      by x = someByArcs-P .1 (record { process = x .at; reached = onward (bit-some (w .waits s (x .at)) (x .some)) here })
+
+  -- by edition (02, N4)
+  pub inKnot-P : (ed : ℕ) → (inKnot w s ed ≡ true) ↔ (((p : ℕ) → Reaches w s p → Reaches w p s) × (ed ≡ 2 → SomeByArcs w s))
+  unfolding inKnot editionAllows
+  inKnot-P ed = (
+    λ e. (
+      allReachBack-P .0 (and-left (allReachBack w s) (not (eqb ed 2) || someByArcs w s) e),
+      λ two. someByArcs-P .0 (rw (eq-eqb ed 2 two) at (and-right (allReachBack w s) (not (eqb ed 2) || someByArcs w s) e)),
+    ),
+    λ h. and-both (allReachBack w s) (not (eqb ed 2) || someByArcs w s) (allReachBack-P .1 (h .0)) (test (h .1) (same? ed 2)),
+  )
+    where
+      test : (ed ≡ 2 → SomeByArcs w s) → Same ed 2 → (not (eqb ed 2) || someByArcs w s) ≡ true
+      test h (same e f) = rw f (someByArcs-P .1 (h e))
+      test h (apart e f) = rw f
 
   pub outsider-P : (p : ℕ) → IsProcess (w .n) p → (outsider w s p ≡ true) ↔ Outside w s p
   unfolding outsider

@@ -1,6 +1,7 @@
 -- The knot check as a machine (crate machine): its records and messages are those of the crate steps (01, "Run and links" and "Steps").
 --   Run                 == the state of a check
 --   mostWaiting, mostDeliveries   == "at most 4 messages waiting" on a link; "accepted deliveries, 0 to 2048"
+--   IsEdition ed, isEdition ed   == "the edition, 1 or 2" (02, N4), and the test of it
 --   knot                == the knot check's rules: what it hands to the machine
 --   fatherRight w p x   == "every father is 0 or a neighbour"
 --   started w s         == the start's first record
@@ -11,6 +12,8 @@
 use Prim.Native.Nat.{ℕ, _+_}
 use mathlib.Core.Bool.{Bool, true, false, _&&_, _||_}
 use mathlib.Core.List.{List, [], _∷_, _++_}
+use mathlib.Core.Logic.{_⊎_}
+use mathlib.Core.Path.{_≡_}
 use lib.Dec.{eqb}
 use lib.IntN.{pos}
 use Rattle.base.specs.Choice.{choose}
@@ -73,6 +76,13 @@ mostWaiting = 4
 abbrev pub mostDeliveries : ℕ
 mostDeliveries = 2048
 
+-- 02, N4: "Start takes the edition, 1 or 2"
+abbrev pub IsEdition : ℕ → Type 0
+IsEdition ed = (ed ≡ 1) ⊎ (ed ≡ 2)
+
+unfoldable pub isEdition : ℕ → Bool
+isEdition ed = eqb ed 1 || eqb ed 2
+
 -- "s sends suc to each successor, then pre to each predecessor"
 abbrev pub knot : Rules Process Message
 knot =
@@ -85,6 +95,7 @@ knot =
       firstTo = λ w s q. one (w .waits s q) Suc ++ one (w .waits q s) Pre;
       step = λ w s a b m x. leaving w b (turnOf w s a b m x);
       fits = λ w s a b m x. fitting m x (turnOf w s a b m x);
+      editionRight = isEdition;
       recordRight = λ w p x. inRange x && fatherRight w p x;
       messageRight = countSmall;
       room = λ r. true;
@@ -107,7 +118,7 @@ over = Machines.over knot
 abbrev pub wellFormed : Run → Bool
 wellFormed = Machines.wellFormed knot
 
-abbrev pub startRun : Waits → ℕ → Run
+abbrev pub startRun : Waits → ℕ → ℕ → Run
 startRun = Machines.startRun knot
 
 abbrev pub after : Run → ℕ → ℕ → Message → List Message → Run

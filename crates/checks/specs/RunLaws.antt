@@ -1,4 +1,5 @@
 -- Laws of a knot check's runs: the parts of a well-formed one are the machine's (machine, FormedLaws).
+--   isEdition-P, edition-few  == the test of an edition says that it is 1 or 2; so it is at most 2
 --   formed-range, formed-father   == the record of a process in a well-formed run: in range, its father 0 or a neighbour
 --   turnAt-effect, turnAt-named, turnAt-sucs, turnAt-pres   == the laws of the step, of the receiver's step in a run
 --   new-range, new-reply      == the record and the acknowledgement that an accepted delivery makes are in range
@@ -6,16 +7,16 @@
 --   new-father, replied       == the father that a step leaves is right, and whom it acknowledges is a neighbour
 --   knot-after                == an accepted delivery keeps a run well formed, whether start made it or not
 -- Assumes nothing.
-use Prim.Native.Nat.{ℕ, _+_}
+use Prim.Native.Nat.{ℕ, _+_, _≤_}
 use mathlib.Core.Bool.{true, false, false≢true}
 use mathlib.Core.List.{List, []}
 use mathlib.Core.Path.{_≡_, refl, sym, _∙_}
-use mathlib.Core.Logic.{⊎-elim}
+use mathlib.Core.Logic.{_↔_, inl, inr, ⊎-elim}
 use native.Mathlib.Omega.{arith}
-use borrow.Author.Tests.{eqb-true, leb-true}
+use borrow.Author.Tests.{eqb-true, eq-eqb, leb-true}
 use lib.Dec.{eqb, leb}
 use lib.IntN.{ℤ}
-use Rattle.base.specs.ChoiceLaws.{and-both, and-left, and-right, and-three, or-right, or-none, or-cases, same?, tested}
+use Rattle.base.specs.ChoiceLaws.{and-both, and-left, and-right, and-three, or-left, or-right, or-none, or-cases, same?, tested}
 use Rattle.base.specs.Checks.{Same, same, apart, Tested, passed, failed}
 use Rattle.tables.specs.Waits.{outDegree, inDegree, neighbours}
 use Rattle.tables.specs.Sound.{Sound}
@@ -33,8 +34,20 @@ use Rattle.steps.specs.declared.Reply.the-variants.{To}
 use Rattle.steps.specs.Step.{inRange, small, numSuffices, replyFits, fitting}
 use Rattle.steps.specs.Effect.{Known, Effect, Named, Grown}
 use Rattle.steps.specs.StepLaws.{turn-effect, startTurn-effect, turn-named, startTurn-named, turn-grown, startTurn-grown, grown-sucs, grown-pres}
-use Rattle.checks.specs.Run.{Run, knot, fatherRight, one, turnOf, turnAt, replyTo, probesTo, sentTo, after, accepts}
+use Rattle.checks.specs.Run.{Run, IsEdition, isEdition, knot, fatherRight, one, turnOf, turnAt, replyTo, probesTo, sentTo, after, accepts}
 use Rattle.checks.specs.SentLaws.{sent-right}
+
+-- ---- the edition (02, N4)
+
+pub isEdition-P : (ed : ℕ) → (isEdition ed ≡ true) ↔ IsEdition ed
+unfolding isEdition
+isEdition-P ed = (
+  λ e. ⊎-elim (λ f. inl (eqb-true ed 1 f)) (λ f. inr (eqb-true ed 2 f)) (or-cases (eqb ed 1) (eqb ed 2) e),
+  λ h. ⊎-elim (λ f. or-left (eqb ed 1) (eqb ed 2) (eq-eqb ed 1 f)) (λ f. or-right (eqb ed 1) (eqb ed 2) (eq-eqb ed 2 f)) h,
+)
+
+pub edition-few : {ed : ℕ} → IsEdition ed → ed ≤ 2
+edition-few h = ⊎-elim (λ e. omega arith) (λ e. omega arith) h
 
 -- ---- the receiver's step
 

@@ -27,7 +27,7 @@ use Rattle.areas.specs.Replaced.{putProcess, putLink}
 use Rattle.lenses.specs.Changes.{without, answered}
 use Rattle.lenses.specs.ChangeLaws.{without-none, without-length}
 use Rattle.delivery.specs.Delivering.{changed}
-use Rattle.delivery.specs.DeliveryLaws.{answered-relinked, answered-link}
+use Rattle.delivery.specs.DeliveryLaws.{relinked-waits, answered-relinked, answered-link}
 use Rattle.choosing.specs.Memory.{backlogOf}
 use Rattle.choosing.specs.Noting.{LinksFrom}
 
@@ -83,7 +83,7 @@ module _ (r : Run) (a b k : ℕ) (x : Process) where
 module _ (r : Run) (b : ℕ) where
   pub replied-from : (z : Reply) → LinksFrom r (answered r b z) b
   replied-from z =
-      record { waits = answered-relinked r b z .waits; others = λ u v h. rw (answered-link r b z u v, ne-eqb u b h) }
+      record { waits = relinked-waits (answered-relinked r b z); others = λ u v h. rw (answered-link r b z u v, ne-eqb u b h) }
 
   module _ (p : ℕ) (c : ℤ) where
     replied-link : (v : ℕ) → answered r b (To p c) .link b v ≡ r .link b v ++ replyTo (To p c) v

@@ -23,7 +23,7 @@ use Rattle.steps.specs.declared.Probes.the-variants.{Sucs, Pres}
 use Rattle.checks.specs.Run.{Run, one, probesTo}
 use Rattle.areas.specs.Replaced.{putCount}
 use Rattle.delivery.specs.Delivering.{probesSent}
-use Rattle.delivery.specs.DeliveryLaws.{spreadBy-relinked, spreadBy-link}
+use Rattle.delivery.specs.DeliveryLaws.{relinked-waits, spreadBy-relinked, spreadBy-link}
 use Rattle.choosing.specs.Memory.{backlogOf}
 use Rattle.choosing.specs.Noting.{LinksFrom, spread}
 use Rattle.choosing.specs.SenderLaws.{backlog-more}
@@ -70,7 +70,7 @@ module _ (y : Probes) (r : Run) (s : Sound (r .waits)) (b c : ℕ) where
   pub spread-from : LinksFrom r (spread y r b c) b
   unfolding putCount
   spread-from =
-      record { waits = spreadBy-relinked y r b .waits; others = λ u v h. spread-link u v ∙ rw (ne-eqb u b h) }
+      record { waits = relinked-waits (spreadBy-relinked y r b); others = λ u v h. spread-link u v ∙ rw (ne-eqb u b h) }
 
   spread-here : (v : ℕ) → spread y r b c .link b v ≡ r .link b v ++ probesTo (r .waits) b y v
   spread-here v = rw (spread-link b v, eq-eqb b b refl)

@@ -1,6 +1,8 @@
 // One run of a case, from its start to its end, with every call compared with what the plain search expects (the crate `expecting`), for
 // the program `trials`. It calls the library as a host does: `starting`, `runs` and `reports`. It promises only that it is safe and ends; a
-// difference is an answer. The module `waiting` looks at the messages on a link, and `written` compares how a table is read back.
+// difference is an answer. The module `exchanging` puts other editions into an area that is over, `waiting` looks at the messages on a link,
+// and `written` compares how a table is read back.
+pub mod exchanging;
 pub mod waiting;
 pub mod written;
 
@@ -66,10 +68,7 @@ fn settle(area: &[i32], before: usize, made: u32, c: Course) -> Course {
     if !ordering::is_watched(area.len(), c) {
         return c;
     }
-    probe(
-        area,
-        answers::expect(c, words::digest(area) == before, faults::CHANGED),
-    )
+    probe(area, answers::kept(area, before, c))
 }
 
 // One call, and what is looked at after it.
@@ -111,16 +110,14 @@ fn are_last(area: &[i32], found: &[bool; 16899], e: Expected) -> bool {
 // The end of a run compared (01, "The end of a check"), and the surplus words.
 fn compare(area: &[i32], found: &[bool; 16899], e: Expected, order: usize, c: Course) -> Course {
     let over = answers::expect(c, c.made == c.due, faults::STILL);
-    let report = reports::report(area);
-    let right = answers::is_last_report(report, e, c.due);
-    let told = answers::expect(over, right, faults::REPORT);
+    let told = answers::last_reported(reports::report(area), e, over);
     let read = answers::expect(told, are_last(area, found, e), faults::LAST_RECORD);
     let counted = answers::expect(read, answers::are_all_probes(e, order, c), faults::PROBES);
     let kept = words::is_marked(area, starts::needed(e.n, e.m));
     answers::expect(counted, kept, faults::SURPLUS)
 }
 
-// A begun run brought to its end, and the calls past it. The end is compared before and after these.
+// A begun run brought to its end, the calls past it, and other editions in its area. The end is compared before and after these.
 fn end(
     area: &mut [i32],
     list: &[u16],
@@ -132,7 +129,8 @@ fn end(
     let ended = drive(area, list, found, way, begun);
     let over = compare(area, found, e, way.order, ended);
     let past = drive(area, list, found, way, ordering::past_end(over));
-    compare(area, found, e, way.order, past)
+    let exchanged = exchanging::exchange(area, e, past);
+    compare(area, found, e, way.order, exchanged)
 }
 
 // One run in an order, by a random number. Words past those that a start needs are surplus.

@@ -31,7 +31,7 @@ use Rattle.lenses.specs.Changes.{answered, spread, off}
 use Rattle.lenses.specs.Storable.{Storable}
 use Rattle.lenses.specs.ChangeLaws.{storable-size, storable-count, storable-process, storable-take, storable-answered, storable-spread}
 use Rattle.delivery.specs.Delivering.{probesOf, spreadBy, changed, carriedOut, Carried}
-use Rattle.delivery.specs.DeliveryLaws.{answered-relinked, spreadBy-relinked, answered-link, off-length}
+use Rattle.delivery.specs.DeliveryLaws.{relinked-waits, relinked-count, answered-relinked, spreadBy-relinked, answered-link, off-length}
 
 -- an acknowledgement goes to its process, and a probe along its chain
 reply-one : (p : ℕ) (c : ℤ) → length (replyTo (To p c) p) ≡ 1
@@ -81,7 +81,7 @@ module _ (t : Fields) (r : Run) (f : Storable t r) (a b i : ℕ) (x : Process) (
   storable-replied = storable-answered t (changed r a b i x) storable-changed b z (k .replies) (λ p c e. (reply-room p c e .1, reply-room p c e .2))
 
   replied-waits : answered (changed r a b i x) b z .waits ≡ r .waits
-  replied-waits = answered-relinked (changed r a b i x) b z .waits ∙ changed-waits
+  replied-waits = relinked-waits (answered-relinked (changed r a b i x) b z) ∙ changed-waits
 
   replied-length : (q : ℕ) → length (answered (changed r a b i x) b z .link b q) ≡ length (r .link b q) - bit (eqb b a && eqb q b) + length (replyTo z q)
   replied-length q = rw (answered-link (changed r a b i x) b z b q, eq-eqb b b refl, length-append, changed-length q)
@@ -107,7 +107,9 @@ module _ (t : Fields) (r : Run) (f : Storable t r) (a b i : ℕ) (x : Process) (
 
   pub carried-count : spreadBy y (answered (changed r a b i x) b z) b .count + 1 ≤ mostDeliveries
   unfolding putProcess putLink
-  carried-count = rw (spreadBy-relinked y (answered (changed r a b i x) b z) b .count, answered-relinked (changed r a b i x) b z .count) (k .count)
+  carried-count =
+      let q : Run = answered (changed r a b i x) b z in
+      rw (relinked-count (spreadBy-relinked y q b), relinked-count (answered-relinked (changed r a b i x) b z)) (k .count)
 
   pub storable-carried : Storable t (carriedOut r a b i x y z)
   unfolding carriedOut

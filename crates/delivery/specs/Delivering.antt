@@ -38,7 +38,7 @@ use Rattle.checks.specs.Calls.{Picked, deliver}
 use Rattle.machine.specs.Calls.{Cut, nowhere, cut, atPlace}
 use Rattle.machine.specs.Among.{Among}
 use Rattle.areas.specs.Area.{runIn}
-use Rattle.areas.specs.Replaced.{putProcess, putCount}
+use Rattle.areas.specs.Replaced.{withLinks, putProcess, putCount}
 use Rattle.areas.specs.Squares.{joinsBy}
 use Rattle.lenses.specs.Changes.{answered, spread, off}
 use Rattle.delivery.specs.Rooms.{loadAfter}
@@ -77,10 +77,7 @@ changed r a b k x = putProcess (off r a b k) b x
 
 -- q differs from r in its links alone
 pub record Relinked (r q : Run) : Type 0 where
-  pub waits : q .waits ≡ r .waits
-  pub start : q .start ≡ r .start
-  pub count : q .count ≡ r .count
-  pub process : (p : ℕ) → q .process p ≡ r .process p
+  pub is : q ≡ withLinks r (q .link)
 
 -- the changes that make a delivery, one after another
 unfoldable pub carriedOut : Run → ℕ → ℕ → ℕ → Process → Probes → Reply → Run

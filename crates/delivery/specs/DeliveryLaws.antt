@@ -1,6 +1,5 @@
 -- A delivery made by changes one after another is the delivery that a promise names.
---   answered-relinked, spreadBy-relinked   == what a step sends changes links alone
---   run-same              == two runs that agree in every value are the same
+--   answered-relinked, spreadBy-relinked   == what a step sends changes links alone; relinked-waits, relinked-count, so not these
 --   answered-link, spreadBy-link   == the links after an acknowledgement, and after a broadcast
 --   off-length            == how many messages stay on a link of the receiver
 --   carriedOut-is         == the changes one after another make `after`
@@ -35,31 +34,30 @@ use Rattle.machine.specs.Machine.{taken}
 use Rattle.machine.specs.Calls.{cut, atPlace}
 use Rattle.machine.specs.Among.{Among, Here}
 use Rattle.machine.specs.AmongLaws.{among-length, atPlace-here}
-use Rattle.areas.specs.Replaced.{putProcess, putLink, putCount}
+use Rattle.areas.specs.Replaced.{withLinks, putProcess, putLink, putCount}
 use Rattle.lenses.specs.Changes.{probeOf, spreadTo, answered, spread, off}
 use Rattle.lenses.specs.ChangeLaws.{joins-high}
 use Rattle.delivery.specs.Rooms.{loadAfter}
 use Rattle.delivery.specs.Delivering.{spreadBy, changed, Relinked, carriedOut}
 
-run-same : (q r : Run) → q .waits ≡ r .waits → q .start ≡ r .start → q .count ≡ r .count → ((p : ℕ) → q .process p ≡ r .process p)
-    → ((x y : ℕ) → q .link x y ≡ r .link x y) → q ≡ r
-run-same q r w s c p l =
-    let d : q .process ≡ r .process = fun-ext p in
-    let e : q .link ≡ r .link = fun-ext (λ x. fun-ext (l x)) in
-    λ i. record { waits = w i; start = s i; count = c i; process = d i; link = e i }
-
 -- ---- what a step sends
+
+pub relinked-waits : {r q : Run} → Relinked r q → q .waits ≡ r .waits
+relinked-waits h = ap (λ (p : Run). p .waits) (h .is)
+
+pub relinked-count : {r q : Run} → Relinked r q → q .count ≡ r .count
+relinked-count h = ap (λ (p : Run). p .count) (h .is)
 
 pub answered-relinked : (r : Run) (b : ℕ) (z : Reply) → Relinked r (answered r b z)
 unfolding answered putLink
-answered-relinked r b Reply.Nothing = record { waits = refl; start = refl; count = refl; process = λ p. refl }
-answered-relinked r b (To p c) = record { waits = refl; start = refl; count = refl; process = λ p. refl }
+answered-relinked r b Reply.Nothing = record { is = refl }
+answered-relinked r b (To p c) = record { is = refl }
 
 pub spreadBy-relinked : (y : Probes) (r : Run) (b : ℕ) → Relinked r (spreadBy y r b)
 unfolding spread spreadTo
-spreadBy-relinked Probes.Nothing r b = record { waits = refl; start = refl; count = refl; process = λ p. refl }
-spreadBy-relinked Sucs r b = record { waits = refl; start = refl; count = refl; process = λ p. refl }
-spreadBy-relinked Pres r b = record { waits = refl; start = refl; count = refl; process = λ p. refl }
+spreadBy-relinked Probes.Nothing r b = record { is = refl }
+spreadBy-relinked Sucs r b = record { is = refl }
+spreadBy-relinked Pres r b = record { is = refl }
 
 none-sent : (t : Bool) (ms : List Message) → ms ≡ choose t (ms ++ []) ms
 none-sent true ms = sym (append-nil ms)
@@ -146,16 +144,16 @@ module _ (r : Run) (s : Sound (r .waits)) (a b k : ℕ) (m : Message) (rest : Li
   -- what a step leaves of the run without the message
   carried-relinked : (x : Process) (y : Probes) (z : Reply) → Relinked (changed r a b k x) (spreadBy y (answered (changed r a b k x) b z) b)
   carried-relinked x y z =
-      let g = answered-relinked (changed r a b k x) b z in
-      let h = spreadBy-relinked y (answered (changed r a b k x) b z) b in
-      record { waits = h .waits ∙ g .waits; start = h .start ∙ g .start; count = h .count ∙ g .count; process = λ p. h .process p ∙ g .process p }
+      let q : Run = spreadBy y (answered (changed r a b k x) b z) b in
+      let sent = spreadBy-relinked y (answered (changed r a b k x) b z) b in
+      record { is = sent .is ∙ ap (λ (p : Run). withLinks p (q .link)) (answered-relinked (changed r a b k x) b z .is) }
 
   carried-link : (x : Process) (y : Probes) (z : Reply) (u v : ℕ)
       → spreadBy y (answered (changed r a b k x) b z) b .link u v
       ≡ choose (eqb u b) (taken r a b rest u v ++ (replyTo z v ++ probesTo (r .waits) b y v)) (taken r a b rest u v)
   unfolding putProcess putLink
   carried-link x y z u v =
-      let w : answered (changed r a b k x) b z .waits ≡ r .waits = answered-relinked (changed r a b k x) b z .waits in
+      let w : answered (changed r a b k x) b z .waits ≡ r .waits = relinked-waits (answered-relinked (changed r a b k x) b z) in
       spreadBy-link y (answered (changed r a b k x) b z) (rw w s) b u v
       ∙ rw (w, answered-link (changed r a b k x) b z u v, changed-link x u v)
       (twice (eqb u b) (taken r a b rest u v) (replyTo z v) (probesTo (r .waits) b y v))
@@ -166,8 +164,8 @@ module _ (r : Run) (s : Sound (r .waits)) (a b k : ℕ) (m : Message) (rest : Li
       let x : Process = turnAt r a b m .process in
       let y : Probes = turnAt r a b m .probes in
       let z : Reply = turnAt r a b m .reply in
-      let g = carried-relinked x y z in
-      run-same (carriedOut r a b k x y z) (after r a b m rest) (g .waits) (g .start) (ap (λ (c : ℕ). c + 1) (g .count)) (g .process) (carried-link x y z)
+      ap (λ (q : Run). putCount q (q .count + 1)) (carried-relinked x y z .is)
+      ∙ ap (λ (l : ℕ → ℕ → List Message). withLinks (after r a b m rest) l) (fun-ext (λ u. fun-ext (carried-link x y z u)))
 
 -- what is counted without making the delivery
 pub loadAfter-is :

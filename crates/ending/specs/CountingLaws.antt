@@ -72,13 +72,13 @@ module _ (w : Waits) (s : ℕ) where
         father-idle = refl;
       }
 
-  pub worked-start : IsProcess (w .n) s → Worked w (startRun knot w s)
+  pub worked-start : (ed : ℕ) → IsProcess (w .n) s → Worked w (startRun knot w s ed)
   unfolding startRun sends started
-  worked-start ps =
+  worked-start ed ps =
       let d : ℕ = outDegree w s + inDegree w s in
-      let sent : sends w (startRun knot w s) ≡ sumTo (w .n) (spot s d) = sumTo-cong (w .n) _ (spot s d) (λ i _ _. at i (same? i s)) in
+      let sent : sends w (startRun knot w s ed) ≡ sumTo (w .n) (spot s d) = sumTo-cong (w .n) _ (spot s d) (λ i _ _. at i (same? i s)) in
       let whole : sumTo (w .n) (spot s d) ≡ d = sumTo-spot (w .n) s d (ps .0) (ps .1) in
-      omega (arith, work-start knot-begins ps)
+      omega (arith, work-start ed knot-begins ps)
     where
       at : (i : ℕ) → Same i s
           → choose (eqb i s) (started w s) idle .succeeding * outDegree w i + choose (eqb i s) (started w s) idle .preceding * inDegree w i

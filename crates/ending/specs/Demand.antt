@@ -1,4 +1,4 @@
--- Demand 3 whole: after any accepted start on any accepted table, and any list of calls.
+-- Demand 3 whole: after any accepted start on any accepted table, under either edition, and any list of calls.
 --   demand-3      == THE THEOREM. MeetsLayout, waitsOf: crate tables. Call: crate machine. startRun, passed, Promise: crate checks
 -- Assumes nothing.
 use Prim.Native.Nat.{ℕ}
@@ -8,11 +8,11 @@ use Rattle.tables.specs.Layout.{MeetsLayout}
 use Rattle.tables.specs.Waits.{waitsOf}
 use Rattle.tables.specs.WaitsLaws.{waitsOf-sound}
 use Rattle.machine.specs.Lists.{Call}
-use Rattle.checks.specs.Run.{startRun}
+use Rattle.checks.specs.Run.{IsEdition, startRun}
 use Rattle.checks.specs.Lists.{Promise, passed}
 use Rattle.ending.specs.Ending.{ending}
 
--- demand 3: for every accepted table, every start process of it, and every list of picks, runnings on, reports and readings
-pub demand-3 : (bs : List ℕ) → MeetsLayout bs → (s : ℕ) → IsProcess (waitsOf (fieldOf bs) .n) s → (cs : List Call)
-    → Promise (waitsOf (fieldOf bs)) s (passed cs (startRun (waitsOf (fieldOf bs)) s))
-demand-3 bs h s i cs = ending (waitsOf (fieldOf bs)) (waitsOf-sound (fieldOf bs) (h .right)) s i cs
+-- demand 3: for every accepted table, every start process of it, both editions (02, N4), and every list of picks, runnings on, reports and readings
+pub demand-3 : (bs : List ℕ) → MeetsLayout bs → (s : ℕ) → IsProcess (waitsOf (fieldOf bs) .n) s → (ed : ℕ) → IsEdition ed → (cs : List Call)
+    → Promise (waitsOf (fieldOf bs)) s ed (passed cs (startRun (waitsOf (fieldOf bs)) s ed))
+demand-3 bs h s i ed named cs = ending (waitsOf (fieldOf bs)) (waitsOf-sound (fieldOf bs) (h .right)) s i ed named cs

@@ -4,7 +4,7 @@
 --   ending           == THE THEOREM: after every list of calls on an accepted start, the promise holds
 -- Assumes nothing.
 use Prim.Native.Nat.{ℕ, zero, suc, _+_, _≤_}
-use mathlib.Core.Bool.{true, false, false≢true}
+use mathlib.Core.Bool.{Bool, true, false, false≢true}
 use mathlib.Core.List.{List, []}
 use mathlib.Core.Path.{_≡_, refl, sym, ap, _∙_, subst}
 use native.Mathlib.Omega.{arith}
@@ -23,16 +23,16 @@ use Rattle.machine.specs.Lists.{Call, Passed}
 use Rattle.machine.specs.Weights.{sumOf}
 use Rattle.machine.specs.ChooserLaws.{fixedOrder-finds}
 use Rattle.machine.specs.Made.{PassMade}
-use Rattle.machine.specs.MadeLaws.{made-waits, made-start, made-count, answered-listed}
+use Rattle.machine.specs.MadeLaws.{made-waits, made-start, made-edition, made-count, answered-listed}
 use Rattle.machine.specs.RestLaws.{work-rest, work-busy}
 use Rattle.machine.specs.UpheldLaws.{upheld-busy, upheld-rest, upheld-empty, upheld-goes-on, upheld-list}
 use Rattle.checks.specs.declared.Verdict.the-variants.{Knot, Free}
 use Rattle.checks.specs.declared.Mark.the-variants.{Returned, Held}
 use Rattle.checks.specs.declared.Report.{Report}
-use Rattle.checks.specs.Run.{Run, knot, over, startRun}
+use Rattle.checks.specs.Run.{Run, IsEdition, knot, over, startRun}
 use Rattle.checks.specs.AnswerLaws.{markOf-chosen}
-use Rattle.checks.specs.Calls.{escapeOf, verdictOf, reported, report}
-use Rattle.checks.specs.Reach.{inKnot, outsider, outsiders, lowestOutsider, dOf}
+use Rattle.checks.specs.Calls.{escapeOf, isZero, verdictOf, reported, report}
+use Rattle.checks.specs.Reach.{allReachBack, inKnot, outsider, outsiders, lowestOutsider, dOf}
 use Rattle.checks.specs.Lists.{endSum, Ended, Promise}
 use Rattle.checks.specs.Lists
 use Rattle.ending.specs.Invariants.{Holds}
@@ -62,11 +62,11 @@ module _ (r : Run) (h : Holds r) where
 
 -- ---- the end
 
--- the verdict by the number outside
-knot-verdict : (w : Waits) (s : ℕ) → verdictOf (pos (outsiders w s)) ≡ choose (inKnot w s) Knot Free
-knot-verdict w s = at (tested (inKnot w s)) (outsiders w s) refl
+-- the sum by the number outside
+none-outside : (w : Waits) (s : ℕ) → isZero (pos (outsiders w s)) ≡ allReachBack w s
+none-outside w s = at (tested (allReachBack w s)) (outsiders w s) refl
   where
-    at : Tested (inKnot w s) → (k : ℕ) → outsiders w s ≡ k → verdictOf (pos (outsiders w s)) ≡ choose (inKnot w s) Knot Free
+    at : Tested (allReachBack w s) → (k : ℕ) → outsiders w s ≡ k → isZero (pos (outsiders w s)) ≡ allReachBack w s
     at (passed e) k q = rw (e, knot-end w s .0 e)
     at (failed e) zero q = absurd (false≢true (sym e ∙ knot-end w s .1 q))
     at (failed e) (suc k) q = rw (e, q)
@@ -91,12 +91,19 @@ module _ (r : Run) (h : Holds r) (o : over r ≡ true) where
   unfolding escapeOf lowestOutsider
   escape-end = lowestTo-same (r .waits .n) _ _ (λ p l u. rw (subs p (l, u)) (bit-test (outsider (r .waits) (r .start) p)))
 
+  abbrev inAKnot : Bool
+  inAKnot = inKnot (r .waits) (r .start) (r .edition)
+
+  -- 02, N4: the verdict by the edition
+  verdict-end : verdictOf r ≡ choose inAKnot Knot Free
+  unfolding verdictOf inKnot
+  verdict-end = rw (start-sum, none-outside (r .waits) (r .start))
+
   reports : report r
-      ≡ Report.Over (dOf (r .waits) (r .start)) (choose (inKnot (r .waits) (r .start)) Knot Free) (pos (outsiders (r .waits) (r .start)))
-      (lowestOutsider (r .waits) (r .start)) (choose (inKnot (r .waits) (r .start)) Returned Held)
+      ≡ Report.Over (dOf (r .waits) (r .start)) (choose inAKnot Knot Free) (pos (outsiders (r .waits) (r .start)))
+      (lowestOutsider (r .waits) (r .start)) (choose inAKnot Returned Held)
   unfolding report reported
-  reports =
-      rw (holds-formed r h, o, escape-end, start-sum, at-d r h o, knot-verdict (r .waits) (r .start), markOf-chosen (inKnot (r .waits) (r .start)))
+  reports = rw (holds-formed r h, o, verdict-end, escape-end, start-sum, at-d r h o, markOf-chosen inAKnot)
 
   process-cs : (p : ℕ) → IsProcess (r .waits .n) p → r .process p .cs ≡ pos (endSum (r .waits) (r .start) p)
   unfolding endSum
@@ -106,7 +113,7 @@ module _ (r : Run) (h : Holds r) (o : over r ≡ true) where
       at (same e f) = rw (f, e) start-sum
       at (apart e f) = rw f (sums .1 p i e)
 
-  ended : Ended (r .waits) (r .start) r
+  ended : Ended (r .waits) (r .start) (r .edition) r
   ended =
       record {
         none-waits = gone;
@@ -120,26 +127,29 @@ module _ (r : Run) (h : Holds r) (o : over r ≡ true) where
 
 -- ---- the theorem
 
--- demand 3 over the waits w and the start s: after every list of calls, the empty one too
-pub ending : (w : Waits) → Sound w → (s : ℕ) → IsProcess (w .n) s → (cs : List Call) → Promise w s (Lists.passed cs (startRun w s))
+-- demand 3 over the waits w, the start s and the edition ed: after every list of calls, the empty one too
+pub ending : (w : Waits) → Sound w → (s : ℕ) → IsProcess (w .n) s → (ed : ℕ) → IsEdition ed → (cs : List Call)
+    → Promise w s ed (Lists.passed cs (startRun w s ed))
 unfolding Machines.startRun
-ending w sd s i cs =
-    let u = upheld-list holds-upheld fixedOrder fixedOrder-finds cs (startRun w s) (holds-start w s sd i) in
-    let p : Passed Run = Lists.passed cs (startRun w s) in
+ending w sd s i ed named cs =
+    let u = upheld-list holds-upheld fixedOrder fixedOrder-finds cs (startRun w s ed) (holds-start w s ed sd i named) in
+    let p : Passed Run = Lists.passed cs (startRun w s ed) in
     let count : p .left .count ≡ 0 + p .made = made-count (u .0 .made) in
-    promised w s p (u .1) (made-waits (u .0 .made)) (made-start (u .0 .made)) (omega arith) (u .0)
+    promised w s ed p (u .1) (made-waits (u .0 .made)) (made-start (u .0 .made)) (made-edition (u .0 .made)) (omega arith) (u .0)
   where
-    promised : (w : Waits) (s : ℕ) (p : Passed Run) → Holds (p .left) → p .left .waits ≡ w → p .left .start ≡ s → p .left .count ≡ p .made
-        → PassMade knot (startRun w s) p → Promise w s p
-    promised w s p h e f c m =
-        subst (λ (v : Waits). Promise v s p) e
-        (subst (λ (t : ℕ). Promise (p .left .waits) t p) f
+    promised : (w : Waits) (s ed : ℕ) (p : Passed Run) → Holds (p .left) → p .left .waits ≡ w → p .left .start ≡ s → p .left .edition ≡ ed
+        → p .left .count ≡ p .made → PassMade knot (startRun w s ed) p → Promise w s ed p
+    promised w s ed p h e f g c m =
+        subst (λ (v : Waits). Promise v s ed p) e
+        (subst (λ (t : ℕ). Promise (p .left .waits) t ed p) f
+        (subst (λ (d : ℕ). Promise (p .left .waits) (p .left .start) d p) g
         (record {
           at-most = rw (sym c) (holds-count (p .left) h);
           counted = c;
           over-at-d = (λ o. sym c ∙ at-d (p .left) h o, λ q. only-at-d (p .left) h (c ∙ q));
           goes-on = upheld-goes-on holds-upheld (p .left) h;
           ended = ended (p .left) h;
+          edition = refl;
           answers = λ n j. answered-listed (m .answered n j);
           at-most-4 = λ a b pa pb. link-short (h .tidy) (h .diffusing) pa pb;
-        }))
+        })))

@@ -20,7 +20,7 @@ use Rattle.machine.specs.Made.{RunMade}
 use Rattle.machine.specs.MadeLaws.{made-waits, made-start, made-count, made-keeps, runFrom-made}
 use Rattle.machine.specs.Upheld.{RanOut}
 use Rattle.machine.specs.UpheldLaws.{upheld-list, upheld-runs-out}
-use Rattle.checks.specs.Run.{Run, knot, over, startRun}
+use Rattle.checks.specs.Run.{Run, IsEdition, knot, over, startRun}
 use Rattle.checks.specs.Calls.{runFrom, runOn}
 use Rattle.checks.specs.Reach.{dOf}
 use Rattle.checks.specs.Lists
@@ -50,12 +50,13 @@ module _ (r : Run) (h : Holds r) (k : ℕ) (enough : dOf (r .waits) (r .start) �
 
 -- after every list: as many as are left suffice, and so does 2,048 always
 pub ending-runs-out :
-    (w : Waits) → Sound w → (s : ℕ) → IsProcess (w .n) s → (cs : List Call) (k : ℕ) → dOf w s ≤ Lists.passed cs (startRun w s) .made + k →
-    runOn k (Lists.passed cs (startRun w s) .left) .answer ≡ Ran.Over (dOf w s - Lists.passed cs (startRun w s) .made)
+    (w : Waits) → Sound w → (s : ℕ) → IsProcess (w .n) s → (ed : ℕ) → IsEdition ed → (cs : List Call) (k : ℕ) →
+    dOf w s ≤ Lists.passed cs (startRun w s ed) .made + k →
+    runOn k (Lists.passed cs (startRun w s ed) .left) .answer ≡ Ran.Over (dOf w s - Lists.passed cs (startRun w s ed) .made)
 unfolding Machines.startRun
-ending-runs-out w sd s i cs k enough =
-    let u = upheld-list holds-upheld fixedOrder fixedOrder-finds cs (startRun w s) (holds-start w s sd i) in
-    let p : Passed Run = Lists.passed cs (startRun w s) in
+ending-runs-out w sd s i ed named cs k enough =
+    let u = upheld-list holds-upheld fixedOrder fixedOrder-finds cs (startRun w s ed) (holds-start w s ed sd i named) in
+    let p : Passed Run = Lists.passed cs (startRun w s ed) in
     let count : p .left .count ≡ 0 + p .made = made-count (u .0 .made) in
     let same : dOf (p .left .waits) (p .left .start) ≡ dOf w s = ap₂ dOf (made-waits (u .0 .made)) (made-start (u .0 .made)) in
     let is : dOf (p .left .waits) (p .left .start) - p .left .count ≡ dOf w s - p .made = omega arith in
@@ -63,12 +64,13 @@ ending-runs-out w sd s i cs k enough =
 
 -- .. and leaves a run that is over
 pub ending-over :
-    (w : Waits) → Sound w → (s : ℕ) → IsProcess (w .n) s → (cs : List Call) (k : ℕ) → dOf w s ≤ Lists.passed cs (startRun w s) .made + k →
-    over (runOn k (Lists.passed cs (startRun w s) .left) .run) ≡ true
+    (w : Waits) → Sound w → (s : ℕ) → IsProcess (w .n) s → (ed : ℕ) → IsEdition ed → (cs : List Call) (k : ℕ) →
+    dOf w s ≤ Lists.passed cs (startRun w s ed) .made + k →
+    over (runOn k (Lists.passed cs (startRun w s ed) .left) .run) ≡ true
 unfolding MachineCalls.runOn Machines.startRun
-ending-over w sd s i cs k enough =
-    let u = upheld-list holds-upheld fixedOrder fixedOrder-finds cs (startRun w s) (holds-start w s sd i) in
-    let p : Passed Run = Lists.passed cs (startRun w s) in
+ending-over w sd s i ed named cs k enough =
+    let u = upheld-list holds-upheld fixedOrder fixedOrder-finds cs (startRun w s ed) (holds-start w s ed sd i named) in
+    let p : Passed Run = Lists.passed cs (startRun w s ed) in
     let count : p .left .count ≡ 0 + p .made = made-count (u .0 .made) in
     let same : dOf (p .left .waits) (p .left .start) ≡ dOf w s = ap₂ dOf (made-waits (u .0 .made)) (made-start (u .0 .made)) in
     rw (holds-formed (p .left) (u .1)) (ran-out (p .left) (u .1) k (omega arith) .ended)

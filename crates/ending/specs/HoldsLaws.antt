@@ -43,11 +43,12 @@ use Rattle.steps.specs.Effect.{isProbe, Effect}
 use Rattle.checks.specs.declared.Report.{Report}
 use Rattle.checks.specs.declared.Reading.{Reading}
 use Rattle.checks.specs.declared.Reading.the-variants.{Found}
-use Rattle.checks.specs.Run.{Run, knot, over, startRun, turnAt, replyTo, probesTo, sentTo, leaving, after, accepts, wellFormed, fatherRight, countsSmall}
+use Rattle.checks.specs.Run.{Run, IsEdition, knot, over, startRun, turnAt, replyTo, probesTo, sentTo, leaving, after, accepts, wellFormed}
+use Rattle.checks.specs.Run.{fatherRight, countsSmall}
 use Rattle.checks.specs.Calls.{report, reported, readRecord, reportNumber, readingNumber}
 use Rattle.checks.specs.Lists.{asked}
 use Rattle.checks.specs.Reach.{dOf}
-use Rattle.checks.specs.RunLaws.{turnAt-effect}
+use Rattle.checks.specs.RunLaws.{isEdition-P, turnAt-effect}
 use Rattle.ending.specs.Weights.{quota, Diffuses}
 use Rattle.ending.specs.Invariants.{Holds}
 use Rattle.ending.specs.CountingLaws.{quota-near, knot-begins, effect-counted, acknowledged-in, worked-start, worked-kept, link-short, num-small}
@@ -57,17 +58,18 @@ use Rattle.ending.specs.SpreadEndLaws.{sends-most, dOf-most}
 use Rattle.ending.specs.SummedLaws.{summed-start, summed-kept}
 use Rattle.ending.specs.SumBoundLaws.{cs-small, counts-small}
 
-pub holds-start : (w : Waits) (s : ℕ) → Sound w → IsProcess (w .n) s → Holds (startRun w s)
+pub holds-start : (w : Waits) (s ed : ℕ) → Sound w → IsProcess (w .n) s → IsEdition ed → Holds (startRun w s ed)
 unfolding Machines.startRun
-holds-start w s sd p =
+holds-start w s ed sd p named =
     record {
       sound = sd;
-      tidy = tidy-start p;
-      diffusing = diffusing-start (knot-begins w s);
-      worked = worked-start w s p;
-      treed = treed-start (knot-begins w s);
-      spread = spread-start sd p;
-      summed = summed-start w s p;
+      edition = named;
+      tidy = tidy-start ed p;
+      diffusing = diffusing-start ed (knot-begins w s);
+      worked = worked-start w s ed p;
+      treed = treed-start ed (knot-begins w s);
+      spread = spread-start ed sd p;
+      summed = summed-start w s ed p;
     }
 
 -- ---- a delivery
@@ -99,6 +101,7 @@ module _ (r : Run) (h : Holds r) (a b : ℕ) (pa : IsProcess (r .waits .n) a) (p
       diffusing-kept (quota-near (r .waits)) (h .diffusing) pa pb moved (effect-counted (r .waits) (r .start) effect) in
       record {
         sound = h .sound;
+        edition = h .edition;
         tidy = tidy-kept (h .tidy) pb moved effect;
         diffusing = d;
         worked = worked-kept (r .start) pa pb moved effect (h .worked);
@@ -152,6 +155,7 @@ module _ (r : Run) (h : Holds r) where
       record {
         room = refl;
         start-in = h .tidy .start-in;
+        edition = isEdition-P (r .edition) .1 (h .edition);
         count = omega (arith, holds-count, dOf-most (r .waits) (r .start) (h .sound));
         records = λ i p. and-both _ _ (holds-range i p) (father-fits i p);
         short = λ a b pa pb. link-short (h .tidy) (h .diffusing) pa pb;

@@ -20,7 +20,7 @@ use Rattle.tables.specs.WaitsLaws.{waitsOf-sound}
 use Rattle.machine.specs.Lists.{Call}
 use Rattle.checks.specs.declared.Verdict.the-variants.{Knot, Free}
 use Rattle.checks.specs.declared.Mark.the-variants.{Returned, Held}
-use Rattle.checks.specs.Run.{Run, over, startRun}
+use Rattle.checks.specs.Run.{Run, IsEdition, over, startRun}
 use Rattle.checks.specs.Reach.{Reaches, reaches, inKnot, outsider, outsiders, lowestOutsider, dOf}
 use Rattle.checks.specs.ReachLaws.{reaches-P, inKnot-P, outsider-P, outsiders-P, lowestOutsider-P}
 use Rattle.checks.specs.Lists.{Ended, Promise, passed}
@@ -61,9 +61,9 @@ module _ (t : Fields) (right : Right t) (s : ℕ) (i : IsProcess (nOf t) s) wher
     dOf-arcs t right s,
   )
 
-  pub ended-P : (r : Run) → r .count ≡ dOf (waitsOf t) s → Ended (waitsOf t) s r → EndedInWords t s r
+  pub ended-P : (ed : ℕ) (r : Run) → r .count ≡ dOf (waitsOf t) s → Ended (waitsOf t) s ed r → EndedInWords t s ed r
   unfolding waitsOf
-  ended-P r c h =
+  ended-P ed r c h =
       record {
         onward = onwards;
         onward-is = dOf-P .0;
@@ -72,23 +72,24 @@ module _ (t : Fields) (right : Right t) (s : ℕ) (i : IsProcess (nOf t) s) wher
         count = c ∙ dOf-P .2;
         outside = outsiders (waitsOf t) s;
         outside-is = outsiders-P (waitsOf t) ok s i;
-        verdict = choose (inKnot (waitsOf t) s) Knot Free;
-        mark = choose (inKnot (waitsOf t) s) Returned Held;
+        verdict = choose (inKnot (waitsOf t) s ed) Knot Free;
+        mark = choose (inKnot (waitsOf t) s ed) Returned Held;
         escape = lowestOutsider (waitsOf t) s;
         escape-is = lowestOutsider-P (waitsOf t) ok s i;
         reports = rw (dOf-P .2) at (h .reports);
-        knot = verdict-P (inKnot (waitsOf t) s) (inKnot-P (waitsOf t) ok s i);
-        returned = mark-P (inKnot (waitsOf t) s);
+        knot = verdict-P (inKnot (waitsOf t) s ed) (inKnot-P (waitsOf t) ok s i ed);
+        returned = mark-P (inKnot (waitsOf t) s ed);
         succeeding = λ p j. bit-P (r .process p .succeeding) (reaches (waitsOf t) s p) (h .succeeding p j) (reaches-P (waitsOf t) ok s p i);
         preceding = λ p j. bit-P (r .process p .preceding) (reaches (waitsOf t) p s) (h .preceding p j) (reaches-P (waitsOf t) ok p s j);
         subordinate = λ p j. bit-P (r .process p .subordinate) (outsider (waitsOf t) s p) (h .subordinate p j) (outsider-P (waitsOf t) ok s i p j);
       }
 
 -- after every list that is over
-pub demand-3-words : (bs : List ℕ) → MeetsLayout bs → (s : ℕ) → IsProcess (nOf (fieldOf bs)) s → (cs : List Call)
-    → over (passed cs (startRun (waitsOf (fieldOf bs)) s) .left) ≡ true → EndedInWords (fieldOf bs) s (passed cs (startRun (waitsOf (fieldOf bs)) s) .left)
+pub demand-3-words : (bs : List ℕ) → MeetsLayout bs → (s : ℕ) → IsProcess (nOf (fieldOf bs)) s → (ed : ℕ) → IsEdition ed → (cs : List Call)
+    → over (passed cs (startRun (waitsOf (fieldOf bs)) s ed) .left) ≡ true
+    → EndedInWords (fieldOf bs) s ed (passed cs (startRun (waitsOf (fieldOf bs)) s ed) .left)
 unfolding waitsOf
-demand-3-words bs h s i cs o =
-    let r : Run = passed cs (startRun (waitsOf (fieldOf bs)) s) .left in
-    let p : Promise (waitsOf (fieldOf bs)) s (passed cs (startRun (waitsOf (fieldOf bs)) s)) = demand-3 bs h s i cs in
-    ended-P (fieldOf bs) (h .right) s i r (p .counted ∙ p .over-at-d .0 o) (p .ended o)
+demand-3-words bs h s i ed named cs o =
+    let r : Run = passed cs (startRun (waitsOf (fieldOf bs)) s ed) .left in
+    let p : Promise (waitsOf (fieldOf bs)) s ed (passed cs (startRun (waitsOf (fieldOf bs)) s ed)) = demand-3 bs h s i ed named cs in
+    ended-P (fieldOf bs) (h .right) s i ed r (p .counted ∙ p .over-at-d .0 o) (p .ended o)

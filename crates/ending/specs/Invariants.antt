@@ -4,7 +4,7 @@
 --   Worked w r        == every probe sent means two deliveries
 --   Spread w s r      == probes go along the waits or against them, flags are set on reachable and reaching processes alone, and none is forgotten
 --   Summed w s r      == all sums and counts together are the subordinates; their negative parts are bounded
---   Holds r           == every invariant of r, for its own waits and start
+--   Holds r           == every invariant of r, for its own waits, start and edition
 -- Assumes nothing.
 use Prim.Native.Nat.{ℕ, _+_, _*_, _≤_}
 use mathlib.Core.Path.{_≡_}
@@ -18,7 +18,7 @@ use Rattle.machine.specs.Weights.{total, sumOf, work}
 use Rattle.machine.specs.Diffusing.{Treed}
 use Rattle.steps.specs.Step.{newSubordinate}
 use Rattle.steps.specs.Effect.{isSuc, isPre}
-use Rattle.checks.specs.Run.{Run, knot}
+use Rattle.checks.specs.Run.{Run, IsEdition, knot}
 use Rattle.checks.specs.Reach.{Reaches}
 use Rattle.ending.specs.Weights.{sends, aboveOf, belowOf, bothOff, Diffuses}
 use Rattle.ending.specs.Spreading.{Side}
@@ -49,9 +49,10 @@ pub record Summed (w : Waits) (s : ℕ) (r : Run) : Type 0 where
   pub at-rest : (j : ℕ) → IsProcess (w .n) j → (j ≡ s → ⊥) → r .process j .num ≡ 0 → r .process j .cs ≡ pos 0
   pub falls : sumOf (w .n) (λ x. below (x .cs)) r + total (w .n) belowOf r ≤ sumTo (w .n) (λ i. bothOff s i (r .process i))
 
--- those above, those of any check (Diffuses, Treed), and that the waits are sound
+-- those above, those of any check (Diffuses, Treed), that the waits are sound, and that the edition is one
 pub record Holds (r : Run) : Type 0 where
   pub sound : Sound (r .waits)
+  pub edition : IsEdition (r .edition)
   pub tidy : Tidy (r .waits) (r .start) r
   pub diffusing : Diffuses (r .waits) (r .start) r
   pub worked : Worked (r .waits) r

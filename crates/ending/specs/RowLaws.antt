@@ -1,11 +1,12 @@
--- The eight rows marked P of 01, proved together.
+-- The eight rows marked P of 01, proved together, under both editions (02, N4).
 --   rows-hold       == the tests of all eight rows pass: one computation over the whole table
---   row-holds       == each of the eight rows holds of the table that the writer makes of its waits
+--   row-holds       == each of the eight rows holds of the table that the writer makes of its waits, under each edition
 -- Assumes nothing.
 use Prim.Native.Nat.{ℕ}
 use mathlib.Core.Bool.{Bool, true, false, not, false≢true}
 use mathlib.Core.List.{List, _∷_, List·Memᴰ, List·Memᴰ·head, List·Memᴰ·tail}
 use mathlib.Core.Path.{_≡_, refl, sym, ap, _∙_}
+use mathlib.Core.Logic.{⊎-elim}
 use lib.Dec.{eqb}
 use lib.IntN.{ℤ, pos, negsuc}
 use borrow.Author.Tests.{eqb-true}
@@ -31,19 +32,20 @@ use Rattle.checks.specs.declared.Verdict.the-variants.{Knot, Free}
 use Rattle.checks.specs.declared.Mark.{Mark}
 use Rattle.checks.specs.declared.Mark.the-variants.{Returned, Held}
 use Rattle.checks.specs.declared.Report.{Report}
-use Rattle.checks.specs.Run.{Run, over, fatherRight, wellFormed, started, turnOf, replyTo, probesTo, sentTo}
+use Rattle.checks.specs.Run.{Run, IsEdition, isEdition, over, fatherRight, wellFormed, started, turnOf, replyTo, probesTo, sentTo}
 use Rattle.checks.specs.AnswerLaws.{markOf-chosen}
 use Rattle.checks.specs.Calls.{escapeOf, verdictOf, reported, report}
-use Rattle.checks.specs.Reach.{within, reaches, inKnot, outsider, outsiders, lowestOutsider, dOf}
-use Rattle.ending.specs.Rows.{PRow, rows, waitsFrom, tableSize, tableFrom, ranFrom, RowOfTable}
-use Rattle.ending.specs.RowTests.{agree, isKnot, isAt, defined, overAfter, reports, runs, writable, holds, all}
+use Rattle.checks.specs.Reach.{within, reaches, reachesByArcs, someByArcs, allReachBack, editionAllows, inKnot, outsider, outsiders, lowestOutsider, dOf}
+use Rattle.ending.specs.Rows.{PRow, rows, waitsFrom, tableSize, tableFrom, knotUnder, ranFrom, RowOfTable}
+use Rattle.ending.specs.RowTests.{agree, isKnot, isAt, defined, overAfter, reports, runs, writable, holdsUnder, holds, all}
 
 -- ---- the eight rows
 
 rows-hold : all holds rows ≡ true
-unfolding all rows holds waitsFrom givenWaits given end writable writeNumber endsFit isProcess unlike agree isKnot isAt defined overAfter reports runs
-    dOf inKnot outsiders lowestOutsider outsider reaches within sumTo countTo allTo anyTo lowestTo outDegree inDegree neighbours
-    MachineCalls.runOn runFrom deliverOn lowest lowestSender lowestReceiver behind atPlace deliver delivered report reported escapeOf
+unfolding all rows holds holdsUnder waitsFrom givenWaits given end writable writeNumber endsFit isProcess unlike agree isKnot isAt defined overAfter reports
+    runs dOf inKnot allReachBack editionAllows someByArcs reachesByArcs outsiders lowestOutsider outsider reaches within
+    sumTo countTo allTo anyTo lowestTo outDegree inDegree neighbours
+    MachineCalls.runOn runFrom deliverOn lowest lowestSender lowestReceiver behind atPlace deliver delivered report reported verdictOf escapeOf isEdition
     Machines.over Machines.wellFormed fatherRight Machines.linkRight allRight Machines.startRun started Machines.after Machines.accepts Machines.taken
     sentTo probesTo replyTo turnOf turn startTurn rule1 setSucceeding setPreceding newSubordinate gained rule3 rule4
     acknowledged fitting numSuffices replyFits inRange small countSmall
@@ -51,11 +53,11 @@ rows-hold = refl
 
 -- ---- from tests to equations
 
-abbrev verdict : PRow → Verdict
-verdict x = choose (x .knot) Knot Free
+abbrev verdict : ℕ → PRow → Verdict
+verdict ed x = choose (knotUnder ed x) Knot Free
 
-abbrev mark : PRow → Mark
-mark x = choose (x .knot) Returned Held
+abbrev mark : ℕ → PRow → Mark
+mark ed x = choose (knotUnder ed x) Returned Held
 
 all-at : (p : PRow → Bool) (xs : List PRow) → all p xs ≡ true → (x : PRow) → List·Memᴰ x xs → p x ≡ true
 unfolding all
@@ -88,12 +90,12 @@ overAfter-P d (Spent made) h = absurd (false≢true h)
 overAfter-P d (Ran.Refused n made) h = absurd (false≢true h)
 
 -- the report of a row
-abbrev due : PRow → Report
-due x = Report.Over (x .d) (verdict x) (pos (x .outside)) (lowestOutsider (waitsFrom x) 1) (mark x)
+abbrev due : ℕ → PRow → Report
+due ed x = Report.Over (x .d) (verdict ed x) (pos (x .outside)) (lowestOutsider (waitsFrom x) 1) (mark ed x)
 
-reports-P : (x : PRow) (r : Run) → reports x (report r) ≡ true → report r ≡ due x
+reports-P : (ed : ℕ) (x : PRow) (r : Run) → reports ed x (report r) ≡ true → report r ≡ due ed x
 unfolding report reported reports
-reports-P x r h = at (tested (wellFormed r)) (tested (over r))
+reports-P ed x r h = at (tested (wellFormed r)) (tested (over r))
   where
     cs : ℤ
     cs = r .process (r .start) .cs
@@ -101,56 +103,68 @@ reports-P x r h = at (tested (wellFormed r)) (tested (over r))
     escape : Bool
     escape = eqb (escapeOf r) (lowestOutsider (waitsFrom x) 1)
 
-    same : (eqb (r .count) (x .d) ≡ true) × (agree (isKnot (verdictOf cs)) (x .knot) ≡ true) × (isAt cs (x .outside) ≡ true) × (escape ≡ true)
-        → reported r ≡ due x
+    same : (eqb (r .count) (x .d) ≡ true) × (agree (isKnot (verdictOf r)) (knotUnder ed x) ≡ true) × (isAt cs (x .outside) ≡ true) × (escape ≡ true)
+        → reported r ≡ due ed x
     same t =
         cc (
           eqb-true (r .count) (x .d) (t .0),
-          verdict-P (verdictOf cs) (x .knot) (t .1),
+          verdict-P (verdictOf r) (knotUnder ed x) (t .1),
           isAt-P cs (x .outside) (t .2),
           eqb-true (escapeOf r) (lowestOutsider (waitsFrom x) 1) (t .3),
-          markOf-chosen (x .knot),
+          markOf-chosen (knotUnder ed x),
         )
 
     at : Tested (wellFormed r) → Tested (over r)
-        → choose (not (wellFormed r)) (Report.Refused 21) (choose (not (over r)) (Report.Refused 26) (reported r)) ≡ due x
+        → choose (not (wellFormed r)) (Report.Refused 21) (choose (not (over r)) (Report.Refused 26) (reported r)) ≡ due ed x
     at (failed f) _ = absurd (false≢true (rw f at h))
     at (passed f) (failed g) = absurd (false≢true (rw (f, g) at h))
     at (passed f) (passed g) =
-        rw (f, g) (same (and-four (eqb (r .count) (x .d)) (agree (isKnot (verdictOf cs)) (x .knot)) (isAt cs (x .outside)) escape (rw (f, g) at h)))
+        rw (f, g)
+        (same (and-four (eqb (r .count) (x .d)) (agree (isKnot (verdictOf r)) (knotUnder ed x)) (isAt cs (x .outside)) escape (rw (f, g) at h)))
 
 -- ---- each row
 
 -- what the tests of a row say
-record Tests (x : PRow) : Type 0 where
+record Tests (x : PRow) (ed : ℕ) : Type 0 where
   d : dOf (waitsFrom x) 1 ≡ x .d
-  knot : inKnot (waitsFrom x) 1 ≡ x .knot
+  knot : inKnot (waitsFrom x) 1 ed ≡ knotUnder ed x
   outside : outsiders (waitsFrom x) 1 ≡ x .outside
-  over : ranFrom (waitsFrom x) .answer ≡ Ran.Over (x .d)
-  reported : report (ranFrom (waitsFrom x) .run) ≡ due x
+  over : ranFrom (waitsFrom x) ed .answer ≡ Ran.Over (x .d)
+  reported : report (ranFrom (waitsFrom x) ed .run) ≡ due ed x
   write : writeNumber (x .n) (x .waits) (tableSize x) ≡ 0
 
-tests-of : (x : PRow) → List·Memᴰ x rows → Tests x
-unfolding holds defined runs writable
-tests-of x m =
-    let all3 = and-three (defined x) (runs x) (writable x) (all-at holds rows rows-hold x m) in
-    let ran : Bool = overAfter (x .d) (ranFrom (waitsFrom x) .answer) in
-    let told : Bool = reports x (report (ranFrom (waitsFrom x) .run)) in
-    let t = and-three (eqb (dOf (waitsFrom x) 1) (x .d)) (agree (inKnot (waitsFrom x) 1) (x .knot)) (eqb (outsiders (waitsFrom x) 1) (x .outside)) (all3 .0) in
+-- under each edition
+held : (x : PRow) → List·Memᴰ x rows → (ed : ℕ) → IsEdition ed → holdsUnder ed x ≡ true
+unfolding holds
+held x m ed named =
+    ⊎-elim (λ e. rw e (and-left (holdsUnder 1 x) (holdsUnder 2 x) both)) (λ e. rw e (and-right (holdsUnder 1 x) (holdsUnder 2 x) both)) named
+  where
+    both : holds x ≡ true
+    both = all-at holds rows rows-hold x m
+
+tests-of : (x : PRow) (ed : ℕ) → holdsUnder ed x ≡ true → Tests x ed
+unfolding holdsUnder defined runs writable
+tests-of x ed h =
+    let all3 = and-three (defined ed x) (runs ed x) (writable x) h in
+    let ran : Bool = overAfter (x .d) (ranFrom (waitsFrom x) ed .answer) in
+    let told : Bool = reports ed x (report (ranFrom (waitsFrom x) ed .run)) in
+    let t =
+    and-three (eqb (dOf (waitsFrom x) 1) (x .d)) (agree (inKnot (waitsFrom x) 1 ed) (knotUnder ed x)) (eqb (outsiders (waitsFrom x) 1) (x .outside))
+    (all3 .0) in
     record {
       d = eqb-true _ _ (t .0);
       knot = agree-P _ _ (t .1);
       outside = eqb-true _ _ (t .2);
-      over = overAfter-P (x .d) (ranFrom (waitsFrom x) .answer) (and-left ran told (all3 .1));
-      reported = reports-P x (ranFrom (waitsFrom x) .run) (and-right ran told (all3 .1));
+      over = overAfter-P (x .d) (ranFrom (waitsFrom x) ed .answer) (and-left ran told (all3 .1));
+      reported = reports-P ed x (ranFrom (waitsFrom x) ed .run) (and-right ran told (all3 .1));
       write = eqb-true _ _ (all3 .2);
     }
 
--- the eight rows, each of the table that the writer makes of its waits
-pub row-holds : (x : PRow) → List·Memᴰ x rows → RowOfTable x (tableFrom x)
+-- the eight rows, each of the table that the writer makes of its waits, under both editions
+pub row-holds : (x : PRow) → List·Memᴰ x rows → (ed : ℕ) → IsEdition ed → RowOfTable x ed (tableFrom x)
 unfolding tableFrom waitsFrom
-row-holds x m =
-    let t : Tests x = tests-of x m in
+row-holds x m ed named =
+    let t : Tests x ed = tests-of x ed (held x m ed named) in
     let size : length {A = ℕ} (replicate (tableSize x) 0) ≡ tableSize x = length-replicate {A = ℕ} (tableSize x) 0 in
     let right : WrittenRight (x .n) (x .waits) (tableFrom x) = written-right (x .n) (x .waits) (replicate (tableSize x) 0) (rw size (t .write)) in
     let w : waitsOf (fieldOf (tableFrom x)) ≡ waitsFrom x = right .waits-are in
@@ -158,10 +172,10 @@ row-holds x m =
       accepted = right .accepted;
       waits = w;
       d = ap (λ (v : Waits). dOf v 1) w ∙ t .d;
-      knot = ap (λ (v : Waits). inKnot v 1) w ∙ t .knot;
+      knot = ap (λ (v : Waits). inKnot v 1 ed) w ∙ t .knot;
       outside = ap (λ (v : Waits). outsiders v 1) w ∙ t .outside;
-      over = ap (λ (v : Waits). ranFrom v .answer) w ∙ t .over;
+      over = ap (λ (v : Waits). ranFrom v ed .answer) w ∙ t .over;
       reported =
-          ap (λ (v : Waits). report (ranFrom v .run)) w ∙ t .reported ∙
-          ap (λ (v : Waits). Report.Over (x .d) (verdict x) (pos (x .outside)) (lowestOutsider v 1) (mark x)) (sym w);
+          ap (λ (v : Waits). report (ranFrom v ed .run)) w ∙ t .reported ∙
+          ap (λ (v : Waits). Report.Over (x .d) (verdict ed x) (pos (x .outside)) (lowestOutsider v 1) (mark ed x)) (sym w);
     }

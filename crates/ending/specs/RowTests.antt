@@ -1,9 +1,9 @@
 -- The rows as tests, so that one computation proves them together. A reader need not believe these: RowLaws turns what they compute into
 -- RowOfTable (Rows).
---   defined x       == the definitions of D, of knot and of outside give what the row says
---   runs x          == the check from process 1 is over after D deliveries, and its report gives what the row says
+--   defined ed x    == the definitions of D, of knot under an edition and of outside give what the row says
+--   runs ed x       == the check from process 1 under it is over after D deliveries, and its report gives what the row says
 --   writable x      == the writer takes the row's list
---   holds x         == all three
+--   holds x         == all three, under both editions
 --   agree, isKnot, isAt, overAfter, reports, all   == what these are made of
 -- Assumes nothing.
 use Prim.Native.Nat.{ℕ}
@@ -19,7 +19,7 @@ use Rattle.checks.specs.declared.Verdict.the-variants.{Knot, Free}
 use Rattle.checks.specs.declared.Report.{Report}
 use Rattle.checks.specs.Calls.{report}
 use Rattle.checks.specs.Reach.{inKnot, outsiders, lowestOutsider, dOf}
-use Rattle.ending.specs.Rows.{PRow, waitsFrom, tableSize, ranFrom}
+use Rattle.ending.specs.Rows.{PRow, waitsFrom, tableSize, knotUnder, ranFrom}
 
 unfoldable pub agree : Bool → Bool → Bool
 agree true b = b
@@ -35,9 +35,9 @@ isAt (pos n) k = eqb n k
 isAt (negsuc n) k = false
 
 -- D, the verdict and outside, by their definitions
-unfoldable pub defined : PRow → Bool
-defined x =
-    eqb (dOf (waitsFrom x) 1) (x .d) && agree (inKnot (waitsFrom x) 1) (x .knot) && eqb (outsiders (waitsFrom x) 1) (x .outside)
+unfoldable pub defined : ℕ → PRow → Bool
+defined ed x =
+    eqb (dOf (waitsFrom x) 1) (x .d) && agree (inKnot (waitsFrom x) 1 ed) (knotUnder ed x) && eqb (outsiders (waitsFrom x) 1) (x .outside)
 
 unfoldable pub overAfter : ℕ → Ran → Bool
 overAfter d (Ran.Over made) = eqb made d
@@ -45,19 +45,23 @@ overAfter d (Spent made) = false
 overAfter d (Ran.Refused n made) = false
 
 -- a report with the row's values, and the escape that the definition names
-unfoldable pub reports : PRow → Report → Bool
-reports x (Report.Over d v o e m) = eqb d (x .d) && agree (isKnot v) (x .knot) && isAt o (x .outside) && eqb e (lowestOutsider (waitsFrom x) 1)
-reports x (Report.Refused n) = false
+unfoldable pub reports : ℕ → PRow → Report → Bool
+reports ed x (Report.Over d v o e m) =
+    eqb d (x .d) && agree (isKnot v) (knotUnder ed x) && isAt o (x .outside) && eqb e (lowestOutsider (waitsFrom x) 1)
+reports ed x (Report.Refused n) = false
 
-unfoldable pub runs : PRow → Bool
-runs x = overAfter (x .d) (ranFrom (waitsFrom x) .answer) && reports x (report (ranFrom (waitsFrom x) .run))
+unfoldable pub runs : ℕ → PRow → Bool
+runs ed x = overAfter (x .d) (ranFrom (waitsFrom x) ed .answer) && reports ed x (report (ranFrom (waitsFrom x) ed .run))
 
 -- the writer takes the row's list
 unfoldable pub writable : PRow → Bool
 writable x = eqb (writeNumber (x .n) (x .waits) (tableSize x)) 0
 
+unfoldable pub holdsUnder : ℕ → PRow → Bool
+holdsUnder ed x = defined ed x && runs ed x && writable x
+
 unfoldable pub holds : PRow → Bool
-holds x = defined x && runs x && writable x
+holds x = holdsUnder 1 x && holdsUnder 2 x
 
 unfoldable pub all : (PRow → Bool) → List PRow → Bool
 all p [] = true

@@ -26,7 +26,7 @@ use Rattle.steps.specs.declared.Message.{Message}
 use Rattle.steps.specs.declared.Process.{Process}
 use Rattle.steps.specs.Step.{newSubordinate}
 use Rattle.checks.specs.Run.{Run, mostDeliveries}
-use Rattle.checks.specs.Reach.{reaches, inKnot, outsider, outsiders, dOf}
+use Rattle.checks.specs.Reach.{reaches, allReachBack, outsider, outsiders, dOf}
 use Rattle.checks.specs.ReachLaws.{from-in, to-in, reaches-forward, reaches-backward, reaches-P}
 use Rattle.ending.specs.Weights.{sends}
 use Rattle.ending.specs.Spreading.{Side, NoneWaits}
@@ -144,8 +144,8 @@ module _ {w : Waits} {s : ℕ} {r : Run} (ok : Sound w) (td : Tidy w s r) (sp : 
 
 -- ---- knots
 
-pub knot-end : (w : Waits) (s : ℕ) → (inKnot w s ≡ true) ↔ (outsiders w s ≡ 0)
-unfolding inKnot outsiders outsider countTo
+pub knot-end : (w : Waits) (s : ℕ) → (allReachBack w s ≡ true) ↔ (outsiders w s ≡ 0)
+unfolding allReachBack outsiders outsider countTo
 knot-end w s = (
   λ k. sumTo-zero (w .n) _ (λ p l u. none (reaches w s p) (reaches w p s) (allTo-at (w .n) (λ p. not (reaches w s p) || reaches w p s) k p l u)),
   λ z. allTo-of (w .n) _ (λ p l u. all (reaches w s p) (reaches w p s) (sumTo-parts (w .n) (λ p. bit (reaches w s p && not (reaches w p s))) z p l u)),

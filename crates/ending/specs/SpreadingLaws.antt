@@ -39,10 +39,10 @@ use Rattle.ending.specs.CountingLaws.{flag-most}
 
 -- ---- start
 
-side-start : {flag : Process → ℕ} {μ : Message → ℕ} {e : ℕ → ℕ → Bool} {R : ℕ → Type 0} (w : Waits) (s : ℕ) → R s → flag (started w s) ≡ 1
-    → flag idle ≡ 0 → ((j : ℕ) → edge w s j * μ Suc + edge w j s * μ Pre ≡ bit (e s j)) → Side w flag μ e R (startRun w s)
+side-start : {flag : Process → ℕ} {μ : Message → ℕ} {e : ℕ → ℕ → Bool} {R : ℕ → Type 0} (w : Waits) (s ed : ℕ) → R s → flag (started w s) ≡ 1
+    → flag idle ≡ 0 → ((j : ℕ) → edge w s j * μ Suc + edge w j s * μ Pre ≡ bit (e s j)) → Side w flag μ e R (startRun w s ed)
 unfolding Machines.startRun weight
-side-start {flag} {μ} {e} {R} w s own first rest sent =
+side-start {flag} {μ} {e} {R} w s ed own first rest sent =
     record {
       goes = λ i j _ _. rw (flags i (same? i s), loads i j (same? i s)) (omega arith);
       may = λ i _. may i (same? i s);
@@ -61,12 +61,12 @@ side-start {flag} {μ} {e} {R} w s own first rest sent =
     may i (same f _) l = rw f own
     may i (apart f g) l = absurd (omega (arith, rw g at l))
 
-pub spread-start : {w : Waits} {s : ℕ} → Sound w → IsProcess (w .n) s → Spread w s (startRun w s)
+pub spread-start : {w : Waits} {s : ℕ} (ed : ℕ) → Sound w → IsProcess (w .n) s → Spread w s (startRun w s ed)
 unfolding started
-spread-start {w} {s} ok sIn =
+spread-start {w} {s} ed ok sIn =
     record {
-      sucs = side-start w s here refl refl (λ j. omega arith);
-      pres = side-start w s here refl refl (λ j. omega arith);
+      sucs = side-start w s ed here refl refl (λ j. omega arith);
+      pres = side-start w s ed here refl refl (λ j. omega arith);
     }
 
 -- ---- delivery

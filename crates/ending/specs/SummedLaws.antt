@@ -35,35 +35,34 @@ use Rattle.ending.specs.CountingLaws.{acknowledged-in}
 -- ---- the start
 
 -- a value that is 0 in both records of the start sums to 0
-start-sum : (w : Waits) (s : ℕ) (f : Process → ℕ) → f (started w s) ≡ 0 → f idle ≡ 0 → sumOf (w .n) f (startRun w s) ≡ 0
+start-sum : (w : Waits) (s ed : ℕ) (f : Process → ℕ) → f (started w s) ≡ 0 → f idle ≡ 0 → sumOf (w .n) f (startRun w s ed) ≡ 0
 unfolding sumOf
-start-sum w s f e e′ = sumTo-zero (w .n) (λ p. f (startRun w s .process p)) (λ p _ _. start-at knot w s (λ x. f x ≡ 0) e e′ p)
+start-sum w s ed f e e′ = sumTo-zero (w .n) (λ p. f (startRun w s ed .process p)) (λ p _ _. start-at knot w s ed (λ x. f x ≡ 0) e e′ p)
 
 -- a weight that no probe has is nowhere at the start
-start-total : (w : Waits) (s : ℕ) (μ : Message → ℕ) → μ Suc ≡ 0 → μ Pre ≡ 0 → total (w .n) μ (startRun w s) ≡ 0
+start-total : (w : Waits) (s ed : ℕ) (μ : Message → ℕ) → μ Suc ≡ 0 → μ Pre ≡ 0 → total (w .n) μ (startRun w s ed) ≡ 0
 unfolding total Machines.startRun weight
-start-total w s μ e e′ = sumTo-zero (w .n) _ (λ a _ _. sumTo-zero (w .n) _ (λ b _ _. at a b (eqb a s)))
+start-total w s ed μ e e′ = sumTo-zero (w .n) _ (λ a _ _. sumTo-zero (w .n) _ (λ b _ _. at a b (eqb a s)))
   where
     at : (a b : ℕ) (c : Bool) → weight μ (choose c (one (w .waits s b) Suc ++ one (w .waits b s) Pre) []) ≡ 0
     at a b true = first-weight μ (w .waits s b) (w .waits b s) ∙ rw (e, e′) (omega arith)
     at a b false = refl
 
-pub summed-start : (w : Waits) (s : ℕ) → IsProcess (w .n) s → Summed w s (startRun w s)
+pub summed-start : (w : Waits) (s ed : ℕ) → IsProcess (w .n) s → Summed w s (startRun w s ed)
 unfolding started
-summed-start w s p =
+summed-start w s ed p =
     record {
       balance =
           omega (
             arith,
-            start-sum w s (λ x. above (x .cs)) refl refl,
-            start-sum w s (λ x. below (x .cs)) refl refl,
-            start-sum w s
-                (λ x. x .subordinate) refl refl,
-            start-total w s aboveOf refl refl,
-            start-total w s belowOf refl refl,
+            start-sum w s ed (λ x. above (x .cs)) refl refl,
+            start-sum w s ed (λ x. below (x .cs)) refl refl,
+            start-sum w s ed (λ x. x .subordinate) refl refl,
+            start-total w s ed aboveOf refl refl,
+            start-total w s ed belowOf refl refl,
           );
-      at-rest = λ j _ _ _. start-at knot w s (λ x. x .cs ≡ pos 0) refl refl j;
-      falls = omega (arith, start-sum w s (λ x. below (x .cs)) refl refl, start-total w s belowOf refl refl);
+      at-rest = λ j _ _ _. start-at knot w s ed (λ x. x .cs ≡ pos 0) refl refl j;
+      falls = omega (arith, start-sum w s ed (λ x. below (x .cs)) refl refl, start-total w s ed belowOf refl refl);
     }
 
 -- ---- a delivery

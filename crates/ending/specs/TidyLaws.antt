@@ -24,16 +24,16 @@ module _ {w : Waits} {r q : Run} {a b : ℕ} {m : Message} {t : Left Process Mes
       → flag (q .process s) ≡ 1
   flag-kept s flag more e l own = moved-at mv (λ i x. i ≡ s → flag x ≡ 1) (λ f. let old : flag (r .process b) ≡ 1 = rw f own in omega arith) s (λ _. own) refl
 
-pub tidy-start : {w : Waits} {s : ℕ} → IsProcess (w .n) s → Tidy w s (startRun w s)
+pub tidy-start : {w : Waits} {s : ℕ} (ed : ℕ) → IsProcess (w .n) s → Tidy w s (startRun w s ed)
 unfolding started newSubordinate
-tidy-start {w} {s} sIn =
+tidy-start {w} {s} ed sIn =
     record {
       start-in = sIn;
-      succ-bit = λ i _. start-at knot w s (λ x. x .succeeding ≤ 1) (omega arith) (omega arith) i;
-      prec-bit = λ i _. start-at knot w s (λ x. x .preceding ≤ 1) (omega arith) (omega arith) i;
-      sub-is = λ i _. start-at knot w s (λ x. x .subordinate ≡ newSubordinate x) refl refl i;
-      start-succ = rw (start-own knot w s);
-      start-prec = rw (start-own knot w s);
+      succ-bit = λ i _. start-at knot w s ed (λ x. x .succeeding ≤ 1) (omega arith) (omega arith) i;
+      prec-bit = λ i _. start-at knot w s ed (λ x. x .preceding ≤ 1) (omega arith) (omega arith) i;
+      sub-is = λ i _. start-at knot w s ed (λ x. x .subordinate ≡ newSubordinate x) refl refl i;
+      start-succ = rw (start-own knot w s ed);
+      start-prec = rw (start-own knot w s ed);
     }
 
 pub tidy-kept : {w : Waits} {s : ℕ} {r q : Run} {a b : ℕ} {m : Message} {t : Turn} {o i : ℕ} → Tidy w s r → IsProcess (w .n) b

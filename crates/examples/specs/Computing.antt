@@ -15,23 +15,24 @@ use Rattle.machine.specs.Calls as MachineCalls
 use Rattle.steps.specs.Step.{small, inRange, countSmall, rule1, setSucceeding, setPreceding, newSubordinate, gained, rule3, rule4, acknowledged}
 use Rattle.steps.specs.Step.{turn, startTurn, numSuffices, replyFits, fitting, lentInRange, stepNumber, stepped, startStepped}
 use Rattle.steps.specs.Step as Steps
-use Rattle.checks.specs.Run.{fatherRight, started, turnOf, replyTo, probesTo, sentTo}
-use Rattle.checks.specs.Calls.{escapeOf, reported, report, readRecord}
-use Rattle.checks.specs.Reach.{within, reaches, outsider, lowestOutsider}
+use Rattle.checks.specs.Run.{isEdition, fatherRight, started, turnOf, replyTo, probesTo, sentTo}
+use Rattle.checks.specs.Calls.{escapeOf, verdictOf, reported, report, readRecord}
+use Rattle.checks.specs.Reach.{within, reaches, reachesByArcs, someByArcs, editionAllows, outsider, lowestOutsider}
 use Rattle.areas.specs.Area.{recordPlace, linkPlace, arcIn, arcOf, linkOf, flagsOf, codeOf, slotWord, linkWord, hasBack, arcWord, wordOf, wordsTo, stored}
 use Rattle.areas.specs.Area.{fieldsIn, messagesAt, runIn, sameWord, holdsWords, areaRight}
 use Rattle.areas.specs.Area as Areas
 use Rattle.starting.specs.StartCall.{startNumber, startAnswer, startArea}
 use Rattle.area_calls.specs.AreaCalls.{pickAnswer, pickArea, runOnAnswer, runOnArea, reportAnswer, readAnswer}
 use Rattle.lending.specs.Lent.{lentAnswer, lentRecord}
-use Rattle.inputs.specs.Input.{startIn, tableFields, tableEnd, tableIn, inputNumber, begunNumber, begunArea}
+use Rattle.inputs.specs.Input.{startIn, editionIn, tableFields, tableEnd, tableIn, inputNumber, begunNumber, begunArea}
 use Rattle.lines.specs.Text.{messageText, verdictLine, markLine}
 use Rattle.pickledune.specs.Interface.{chainOf, messageOf}
-use Rattle.examples.specs.States.{lowFirst, processFields, arcFields, table, one, both, fork, met1, met2, met3, met4, met5, met6, met7, input}
-use Rattle.examples.specs.States.{words, root, two, receiving, three, unlinked, area, answers}
+use Rattle.examples.specs.States.{lowFirst, processFields, arcFields, table, one, both, fork, alone, loop, met1, met2, met3, met4, met5, met6, met7}
+use Rattle.examples.specs.States.{input, words, root, two, under, receiving, three, unlinked, area, answers}
 
 unfoldable pub computing : Unit {0}
-unfolding lowFirst processFields arcFields table one both fork met1 met2 met3 met4 met5 met6 met7 input words root two receiving three unlinked area answers
+unfolding lowFirst processFields arcFields table one both fork alone loop met1 met2 met3 met4 met5 met6 met7 input
+    words root two under receiving three unlinked area answers
     sumTo countTo allTo anyTo lowestTo fieldOf isProcess first arcAt near next waitsOf outDegree inDegree neighbours
     walked walkedTo chainsRight sizesRight endsRight firstsRight nextsRight unlikeBefore fieldsNumber readNumber Reads.answer Reads.readingOf
     orElse openNumber openAnswer openedOf arcInside nextAnswer nextOf
@@ -41,10 +42,10 @@ unfolding lowFirst processFields arcFields table one both fork met1 met2 met3 me
     MachineCalls.runFrom MachineCalls.runOn MachineCalls.lowestReceiver MachineCalls.lowestSender MachineCalls.lowest
     small inRange countSmall rule1 setSucceeding setPreceding newSubordinate gained rule3 rule4 acknowledged turn startTurn numSuffices replyFits
     fitting lentInRange stepNumber Steps.answer stepped startStepped
-    fatherRight started turnOf replyTo probesTo sentTo escapeOf reported report readRecord
-    within reaches outsider lowestOutsider
+    isEdition fatherRight started turnOf replyTo probesTo sentTo escapeOf verdictOf reported report readRecord
+    within reaches reachesByArcs someByArcs editionAllows outsider lowestOutsider
     recordPlace linkPlace arcIn arcOf linkOf flagsOf codeOf slotWord linkWord hasBack arcWord wordOf wordsTo stored fieldsIn Areas.messageOf
     messagesAt runIn sameWord holdsWords areaRight
     startNumber startAnswer startArea pickAnswer pickArea runOnAnswer runOnArea reportAnswer readAnswer lentAnswer lentRecord
-    startIn tableFields tableEnd tableIn inputNumber begunNumber begunArea messageText verdictLine markLine chainOf messageOf
+    startIn editionIn tableFields tableEnd tableIn inputNumber begunNumber begunArea messageText verdictLine markLine chainOf messageOf
 computing = tt

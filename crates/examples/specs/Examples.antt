@@ -58,8 +58,8 @@ use Rattle.pickledune.specs.TableValues.{numberOf, nFound, mFound, writingNumbe
 use Rattle.pickledune.specs.Values.{deliveryKind, deliveryCount, ranOver, reportCount, reportKnot, reportOutside, reportEscape, reportReturned}
 use Rattle.pickledune.specs.Values.{readingProcess, steppedNumber, steppedProbes, steppedReply}
 use Rattle.pickledune.specs.Interface.{chainOf, messageOf, processOf, probesNumber, replyTo, replyCount}
-use Rattle.examples.specs.States.{minus, lowFirst, table, one, both, fork, met1, met2, met3, met4, met5, met6, met7, input, words, root, two}
-use Rattle.examples.specs.States.{receiving, three, unlinked, area, answers}
+use Rattle.examples.specs.States.{minus, lowFirst, table, one, both, fork, alone, loop, met1, met2, met3, met4, met5, met6, met7, input, words, root}
+use Rattle.examples.specs.States.{two, under, receiving, three, unlinked, area, answers}
 use Rattle.examples.specs.Computing.{computing}
 
 -- ==== Refused because of the input
@@ -80,9 +80,10 @@ reading-in-order :
 unfolding computing
 reading-in-order = (refl, refl, refl, refl, refl, refl, refl, refl, refl, refl)
 
--- "With input `01 00 02 00 01 00 01 00 00 00 00 00 01 00 01 00 02 00 00 00 00 00 ..`": the table of one wait, 1 for 2
+-- "With input `01 00 02 00 01 00 01 00 00 00 00 00 01 00 01 00 02 00 00 00 00 00 ..`", which "gains `01 00`" after the start process (02, N4): the
+-- table of one wait, 1 for 2
 the-table-of-01 :
-    (input 1 one ≡ 1 ∷ 0 ∷ 2 ∷ 0 ∷ 1 ∷ 0 ∷ 1 ∷ 0 ∷ 0 ∷ 0 ∷ 0 ∷ 0 ∷ 1 ∷ 0 ∷ 1 ∷ 0 ∷ 2 ∷ 0 ∷ 0 ∷ 0 ∷ 0 ∷ 0 ∷ []) ×
+    (input 1 1 one ≡ 1 ∷ 0 ∷ 1 ∷ 0 ∷ 2 ∷ 0 ∷ 1 ∷ 0 ∷ 1 ∷ 0 ∷ 0 ∷ 0 ∷ 0 ∷ 0 ∷ 1 ∷ 0 ∷ 1 ∷ 0 ∷ 2 ∷ 0 ∷ 0 ∷ 0 ∷ 0 ∷ 0 ∷ []) ×
     (readingOf one ≡ Read.Accepted 2 1)
 unfolding computing
 the-table-of-01 = (refl, refl)
@@ -206,80 +207,94 @@ writing-outputs :
 unfolding computing
 writing-outputs = (refl, refl, refl, refl, refl, refl, refl, refl)
 
--- ---- "start 1 to 9": "start needs 8N + 20M + 16" words, which is 72 with N 2 and M 2
+-- ---- "start 1 to 9", and 30 "after 8 and before 9" (02, N4): "start needs 8N + 20M + 16" words, which is 72 with N 2 and M 2
 
 start-in-order :
-    (startNumber met1 0 [] ≡ 1) ×
-    (startNumber met2 0 [] ≡ 2) ×
-    (startNumber met3 0 [] ≡ 3) ×
-    (startNumber met4 0 [] ≡ 4) ×
-    (startNumber met5 0 [] ≡ 5) ×
-    (startNumber met6 0 [] ≡ 6) ×
-    (startNumber met7 0 [] ≡ 7) ×
-    (startNumber both 0 [] ≡ 8) ×  -- start process 0 or over N
-    (startNumber both 3 [] ≡ 8) ×
-    (startNumber both 1 [] ≡ 9) ×  -- run area too short
-    (startNumber both 2 (words 71) ≡ 9) ×
-    (startNumber both 2 (words 72) ≡ 0) ×
-    (startNumber both 1 (words 72) ≡ 0)
+    (startNumber met1 0 0 [] ≡ 1) ×
+    (startNumber met2 0 0 [] ≡ 2) ×
+    (startNumber met3 0 0 [] ≡ 3) ×
+    (startNumber met4 0 0 [] ≡ 4) ×
+    (startNumber met5 0 0 [] ≡ 5) ×
+    (startNumber met6 0 0 [] ≡ 6) ×
+    (startNumber met7 0 0 [] ≡ 7) ×
+    (startNumber both 0 0 [] ≡ 8) ×  -- start process 0 or over N
+    (startNumber both 3 3 [] ≡ 8) ×
+    (startNumber both 1 0 [] ≡ 30) ×  -- "any other edition"
+    (startNumber both 1 3 [] ≡ 30) ×
+    (startNumber both 2 65535 [] ≡ 30) ×
+    (startNumber both 2 65537 (words 72) ≡ 30) ×
+    (startNumber both 1 1 [] ≡ 9) ×  -- run area too short
+    (startNumber both 2 2 (words 71) ≡ 9) ×
+    (startNumber both 2 1 (words 72) ≡ 0) ×
+    (startNumber both 1 2 (words 72) ≡ 0)
 unfolding computing
-start-in-order = (refl, refl, refl, refl, refl, refl, refl, refl, refl, refl, refl, refl, refl)
+start-in-order = (refl, refl, refl, refl, refl, refl, refl, refl, refl, refl, refl, refl, refl, refl, refl, refl, refl)
 
 -- a refusal "changes no lent byte or word"; "Surplus words are not touched"; "s sends suc to each successor, then pre to each predecessor; num
--- is the number sent"
+-- is the number sent"; the area holds "the edition named at start" (02, N4)
 start-outcomes :
-    (startAnswer both 3 (words 72) ≡ Started.Refused 8) ×
-    (startAnswer both 1 (words 72) ≡ Started.Ready) ×
-    (startArea met7 1 (words 72) ≡ words 72) ×
-    (startArea both 3 (words 72) ≡ words 72) ×
-    (startArea both 1 (words 71) ≡ words 71) ×
-    (drop 72 (startArea both 1 (words 74)) ≡ words 2) ×
-    (runIn (startArea both 1 (words 72)) .process 1 ≡ processOf 1 1 0 (pos 0) 2 0) ×
-    (runIn (startArea both 1 (words 72)) .process 2 ≡ processOf 0 0 0 (pos 0) 0 0) ×
-    (runIn (startArea both 1 (words 72)) .link 1 2 ≡ Suc ∷ Pre ∷ []) ×
-    (startArea one 1 (words 52) ≡ area (two 1 0 (processOf 1 1 0 (pos 0) 1 0) idle (Suc ∷ []) []))
+    (startAnswer both 3 1 (words 72) ≡ Started.Refused 8) ×
+    (startAnswer both 1 3 (words 72) ≡ Started.Refused 30) ×
+    (startAnswer both 1 1 (words 72) ≡ Started.Ready) ×
+    (startArea met7 1 1 (words 72) ≡ words 72) ×
+    (startArea both 3 1 (words 72) ≡ words 72) ×
+    (startArea both 1 3 (words 72) ≡ words 72) ×
+    (startArea both 1 1 (words 71) ≡ words 71) ×
+    (drop 72 (startArea both 1 1 (words 74)) ≡ words 2) ×
+    (runIn (startArea both 1 1 (words 72)) .edition ≡ 1) ×
+    (runIn (startArea both 1 2 (words 72)) .edition ≡ 2) ×
+    (runIn (startArea both 1 1 (words 72)) .process 1 ≡ processOf 1 1 0 (pos 0) 2 0) ×
+    (runIn (startArea both 1 1 (words 72)) .process 2 ≡ processOf 0 0 0 (pos 0) 0 0) ×
+    (runIn (startArea both 1 1 (words 72)) .link 1 2 ≡ Suc ∷ Pre ∷ []) ×
+    (startArea one 1 1 (words 52) ≡ area (two 1 0 (processOf 1 1 0 (pos 0) 1 0) idle (Suc ∷ []) []))
 unfolding computing
-start-outcomes = (refl, refl, refl, refl, refl, refl, refl, refl, refl, refl)
+start-outcomes = (refl, refl, refl, refl, refl, refl, refl, refl, refl, refl, refl, refl, refl, refl)
 
--- ---- "The program checks 13, 1, 2, 3, 12, then 4 to 8"
+-- ---- "The program checks 13, 1, 2, 3, 12, then 4 to 8", then 30 (02, N4)
 
 program-in-order :
-    (begunNumber (input 0 (lowFirst (129 ∷ 2 ∷ replicate 10237 0)) ++ (0 ∷ [])) (words 72) ≡ 13) ×  -- input over 20,480 bytes
-    (begunNumber (input 0 met1) (words 72) ≡ 1) ×  -- under 4 bytes, also under 2 before the table
-    (begunNumber (input 0 met2) (words 72) ≡ 2) ×
-    (begunNumber (input 0 met3) (words 72) ≡ 3) ×  -- too few bytes
-    (begunNumber (input 0 met4 ++ (1 ∷ [])) (words 72) ≡ 12) ×  -- 1 to 3 bytes left after the last whole pick
-    (begunNumber (input 0 met4 ++ (1 ∷ 0 ∷ 2 ∷ [])) (words 72) ≡ 12) ×
-    (begunNumber (input 0 met4 ++ (1 ∷ 0 ∷ 2 ∷ 0 ∷ [])) (words 72) ≡ 4) ×
-    (begunNumber (input 0 met5) (words 72) ≡ 5) ×
-    (begunNumber (input 0 met6) (words 72) ≡ 6) ×
-    (begunNumber (input 0 met7) (words 72) ≡ 7) ×
-    (begunNumber (input 0 both) (words 72) ≡ 8) ×
-    (begunNumber (input 3 both) (words 72) ≡ 8) ×
-    (begunNumber (input 2 both) (words 72) ≡ 0) ×
-    (begunNumber (input 1 both ++ lowFirst (1 ∷ 2 ∷ 2 ∷ 1 ∷ [])) (words 72) ≡ 0)
+    (begunNumber (input 0 3 (lowFirst (129 ∷ 2 ∷ replicate 10236 0)) ++ (0 ∷ [])) (words 72) ≡ 13) ×  -- input over 20,480 bytes
+    (begunNumber (input 0 3 met1) (words 72) ≡ 1) ×  -- under 4 bytes, also under 4 before the table
+    (begunNumber (input 0 3 met2) (words 72) ≡ 2) ×
+    (begunNumber (input 0 3 met3) (words 72) ≡ 3) ×  -- too few bytes
+    (begunNumber (input 0 3 met4 ++ (1 ∷ [])) (words 72) ≡ 12) ×  -- 1 to 3 bytes left after the last whole pick
+    (begunNumber (input 0 3 met4 ++ (1 ∷ 0 ∷ 2 ∷ [])) (words 72) ≡ 12) ×
+    (begunNumber (input 0 3 met4 ++ (1 ∷ 0 ∷ 2 ∷ 0 ∷ [])) (words 72) ≡ 4) ×
+    (begunNumber (input 0 3 met5) (words 72) ≡ 5) ×
+    (begunNumber (input 0 3 met6) (words 72) ≡ 6) ×
+    (begunNumber (input 0 3 met7) (words 72) ≡ 7) ×
+    (begunNumber (input 0 3 both) (words 72) ≡ 8) ×
+    (begunNumber (input 3 0 both) (words 72) ≡ 8) ×
+    (begunNumber (input 2 0 both) (words 72) ≡ 30) ×  -- "any other edition"
+    (begunNumber (input 2 3 both) (words 72) ≡ 30) ×
+    (begunNumber (input 2 65535 both) (words 72) ≡ 30) ×
+    (begunNumber (input 2 256 both) (words 72) ≡ 30) ×  -- 1 as the high byte
+    (begunNumber (input 2 1 both) (words 72) ≡ 0) ×
+    (begunNumber (input 1 2 both ++ lowFirst (1 ∷ 2 ∷ 2 ∷ 1 ∷ [])) (words 72) ≡ 0)
 unfolding computing
-program-in-order = (refl, refl, refl, refl, refl, refl, refl, refl, refl, refl, refl, refl, refl, refl)
+program-in-order = (refl, refl, refl, refl, refl, refl, refl, refl, refl, refl, refl, refl, refl, refl, refl, refl, refl, refl)
 
--- 20,480 bytes are read and 20,481 are not; 5 bytes meet 1 and 6 do not; after a pick 1, 2 or 3 bytes meet 12
+-- 20,480 bytes are read and 20,481 are not; 7 bytes meet 1 and 8 do not; after a pick 1, 2 or 3 bytes meet 12
 program-sizes :
-    (inputNumber (input 1 (lowFirst (1 ∷ 0 ∷ replicate 10237 0))) ≡ 12) ×
-    (inputNumber (input 1 (lowFirst (1 ∷ 0 ∷ replicate 10237 0)) ++ (0 ∷ [])) ≡ 13) ×
-    (inputNumber (input 1 (lowFirst (1 ∷ 0 ∷ replicate 10236 0))) ≡ 0) ×
+    (inputNumber (input 1 1 (lowFirst (1 ∷ 0 ∷ replicate 10236 0))) ≡ 0) ×
+    (inputNumber (input 1 1 (lowFirst (1 ∷ 0 ∷ replicate 10236 0)) ++ (0 ∷ [])) ≡ 13) ×
+    (inputNumber (input 1 1 (lowFirst (1 ∷ 0 ∷ replicate 10235 0)) ++ (0 ∷ [])) ≡ 12) ×
     (inputNumber (1 ∷ []) ≡ 1) ×
-    (inputNumber (input 1 (0 ∷ 0 ∷ 0 ∷ [])) ≡ 1) ×
-    (inputNumber (input 1 (0 ∷ 0 ∷ 0 ∷ 0 ∷ [])) ≡ 2) ×
-    (inputNumber (input 1 (lowFirst (129 ∷ 0 ∷ replicate 258 0))) ≡ 2) ×
-    (inputNumber (input 1 (lowFirst (128 ∷ 0 ∷ replicate 256 0))) ≡ 0) ×
-    (inputNumber (input 1 (lowFirst (128 ∷ 512 ∷ []))) ≡ 3) ×
-    (inputNumber (input 1 (lowFirst (128 ∷ 513 ∷ []))) ≡ 2) ×
-    (inputNumber (input 1 one ++ (1 ∷ 0 ∷ 2 ∷ 0 ∷ 1 ∷ [])) ≡ 12) ×
-    (inputNumber (input 1 one ++ (1 ∷ 0 ∷ 2 ∷ 0 ∷ 1 ∷ 0 ∷ [])) ≡ 12) ×
-    (inputNumber (input 1 one ++ (1 ∷ 0 ∷ 2 ∷ 0 ∷ 1 ∷ 0 ∷ 2 ∷ [])) ≡ 12) ×
-    (inputNumber (input 1 one ++ (1 ∷ 0 ∷ 2 ∷ 0 ∷ 1 ∷ 0 ∷ 2 ∷ 0 ∷ [])) ≡ 0) ×
-    (begunArea (input 3 both) (words 72) ≡ words 72)
+    (inputNumber (input 1 1 []) ≡ 1) ×
+    (inputNumber (input 1 1 (0 ∷ 0 ∷ 0 ∷ [])) ≡ 1) ×
+    (inputNumber (input 1 1 (0 ∷ 0 ∷ 0 ∷ 0 ∷ [])) ≡ 2) ×
+    (inputNumber (input 1 1 (lowFirst (129 ∷ 0 ∷ replicate 258 0))) ≡ 2) ×
+    (inputNumber (input 1 1 (lowFirst (128 ∷ 0 ∷ replicate 256 0))) ≡ 0) ×
+    (inputNumber (input 1 1 (lowFirst (128 ∷ 512 ∷ []))) ≡ 3) ×
+    (inputNumber (input 1 1 (lowFirst (128 ∷ 513 ∷ []))) ≡ 2) ×
+    (inputNumber (input 1 1 one ++ (1 ∷ 0 ∷ 2 ∷ 0 ∷ 1 ∷ [])) ≡ 12) ×
+    (inputNumber (input 1 1 one ++ (1 ∷ 0 ∷ 2 ∷ 0 ∷ 1 ∷ 0 ∷ [])) ≡ 12) ×
+    (inputNumber (input 1 1 one ++ (1 ∷ 0 ∷ 2 ∷ 0 ∷ 1 ∷ 0 ∷ 2 ∷ [])) ≡ 12) ×
+    (inputNumber (input 1 1 one ++ (1 ∷ 0 ∷ 2 ∷ 0 ∷ 1 ∷ 0 ∷ 2 ∷ 0 ∷ [])) ≡ 0) ×
+    (begunArea (input 3 1 both) (words 72) ≡ words 72) ×
+    (begunArea (input 1 3 both) (words 72) ≡ words 72)
 unfolding computing
-program-sizes = (refl, refl, refl, refl, refl, refl, refl, refl, refl, refl, refl, refl, refl, refl, refl)
+program-sizes = (refl, refl, refl, refl, refl, refl, refl, refl, refl, refl, refl, refl, refl, refl, refl, refl, refl)
 
 -- ==== Refused because of the state
 
@@ -342,7 +357,7 @@ links :
     (pick (receiving idle Suc) 0 1 1 .answer ≡ Delivery.Refused 25) ×
     (pick (receiving idle Suc) 1 3 1 .answer ≡ Delivery.Refused 25) ×
     (pick (receiving idle Suc) 2 1 1 .answer ≡ Delivery.Refused 24) ×
-    (pick (startRun (waitsOf (fieldOf (table 1 1 ((1, 1) ∷ []) ((1, 1, 0, 0) ∷ [])))) 1) 1 1 1 .answer ≡ Delivered Suc)
+    (pick (startRun (waitsOf (fieldOf loop)) 1 1) 1 1 1 .answer ≡ Delivered Suc)
 unfolding computing
 links = (refl, refl, refl, refl, refl)
 
@@ -423,8 +438,8 @@ running-in-words = (refl, refl, refl, refl, refl, refl, refl)
 -- "lowest sender first and then lowest receiver among links with a message": in 1-2, 1-3 with a message on each link, 2 gets the first and 3 the
 -- second; in 1-2 the message from 1 goes before the one from 2
 running-order :
-    (runOn 1 (startRun (waitsOf (fieldOf fork)) 1) .run .link 1 2 ≡ []) ×
-    (runOn 1 (startRun (waitsOf (fieldOf fork)) 1) .run .link 1 3 ≡ Suc ∷ []) ×
+    (runOn 1 (startRun (waitsOf (fieldOf fork)) 1 1) .run .link 1 2 ≡ []) ×
+    (runOn 1 (startRun (waitsOf (fieldOf fork)) 1 1) .run .link 1 3 ≡ Suc ∷ []) ×
     (runOn 1 (two 1 0 (root (pos 0) 2) idle (Suc ∷ []) (Ack (pos 0) ∷ [])) .run .link 1 2 ≡ []) ×
     (runOn 1 (two 1 0 (root (pos 0) 2) idle (Suc ∷ []) (Ack (pos 0) ∷ [])) .run .link 2 1 ≡ Ack (pos 0) ∷ Ack (pos 1) ∷ [])
 unfolding computing
@@ -447,6 +462,22 @@ report-in-order :
 unfolding computing
 report-in-order = (refl, refl, refl, refl, refl, refl, refl, refl, refl, refl)
 
+-- 02, N4: "Verdicts are judged by the edition named at start": "Under 2 the rows "none" and "2-1" of 01 give verdict none with outside 0; the row
+-- "1-1" stays a knot." Row "2-1" is here 1-2 from process 2
+edition-verdicts :
+    (report (startRun (waitsOf (fieldOf alone)) 1 1) ≡ Report.Over 0 Knot (pos 0) 0 Returned) ×
+    (report (startRun (waitsOf (fieldOf alone)) 1 2) ≡ Report.Over 0 Free (pos 0) 0 Held) ×
+    (report (runOn 8 (startRun (waitsOf (fieldOf one)) 2 1) .run) ≡ Report.Over 2 Knot (pos 0) 0 Returned) ×
+    (report (runOn 8 (startRun (waitsOf (fieldOf one)) 2 2) .run) ≡ Report.Over 2 Free (pos 0) 0 Held) ×
+    (report (runOn 8 (startRun (waitsOf (fieldOf loop)) 1 1) .run) ≡ Report.Over 4 Knot (pos 0) 0 Returned) ×
+    (report (runOn 8 (startRun (waitsOf (fieldOf loop)) 1 2) .run) ≡ Report.Over 4 Knot (pos 0) 0 Returned) ×
+    (report (runOn 8 (startRun (waitsOf (fieldOf fork)) 1 2) .run) ≡ Report.Over 4 Free (pos 2) 2 Held) ×
+    (reportAnswer (set (area (two 2 2 idle (root (pos 0) 0) [] [])) 3 (pos 2)) ≡ Report.Over 2 Free (pos 0) 0 Held) ×
+    (reportAnswer (set (area (two 1 2 (root (pos 0) 0) idle [] [])) 3 (pos 2)) ≡ Report.Over 2 Knot (pos 0) 0 Returned) ×
+    (reportAnswer (set (area (two 1 2 (root (pos 0) 0) idle [] [])) 3 (pos 3)) ≡ Report.Refused 21)
+unfolding computing
+edition-verdicts = (refl, refl, refl, refl, refl, refl, refl, refl, refl, refl)
+
 -- 02, N1: "escape is the lowest-numbered process with subordinate 1, and 0 only where there is none"
 escape-lowest :
     (escapeOf (two 1 2 (processOf 1 0 1 (pos 0) 0 0) (processOf 1 0 1 (pos 0) 0 1) [] []) ≡ 1) ×  -- the first of two, which is the start
@@ -455,7 +486,7 @@ escape-lowest :
     (escapeOf (two 1 2 (root (pos 0) 0) (processOf 1 1 0 (pos 0) 0 1) [] []) ≡ 0) ×
     (lowestOutsider (waitsOf (fieldOf fork)) 1 ≡ 2) ×  -- 1 waits for 2 and for 3
     (lowestOutsider (waitsOf (fieldOf fork)) 2 ≡ 0) ×
-    (report (runOn 8 (startRun (waitsOf (fieldOf fork)) 1) .run) ≡ Report.Over 4 Free (pos 2) 2 Held)
+    (report (runOn 8 (startRun (waitsOf (fieldOf fork)) 1 1) .run) ≡ Report.Over 4 Free (pos 2) 2 Held)
 unfolding computing
 escape-lowest = (refl, refl, refl, refl, refl, refl, refl)
 
@@ -617,6 +648,20 @@ ranges-in-words :
 unfolding computing
 ranges-in-words = (refl, refl, refl, refl, refl, refl, refl, refl, refl, refl, refl, refl, refl, refl, refl, refl, refl, refl, refl, refl, refl)
 
+-- "the edition, 1 or 2": "In an area it gives 21" (02, N4); its word is the fourth
+edition-ranges :
+    (readRecord (under 0 (receiving idle Suc)) 0 ≡ Reading.Refused 21) ×
+    (readRecord (under 1 (receiving idle Suc)) 0 ≡ Reading.Refused 25) ×
+    (readRecord (under 2 (receiving idle Suc)) 0 ≡ Reading.Refused 25) ×
+    (readRecord (under 3 (receiving idle Suc)) 0 ≡ Reading.Refused 21) ×
+    (readAnswer (set (area (receiving idle Suc)) 3 (pos 0)) 0 ≡ Reading.Refused 21) ×
+    (readAnswer (set (area (receiving idle Suc)) 3 (pos 2)) 0 ≡ Reading.Refused 25) ×
+    (readAnswer (set (area (receiving idle Suc)) 3 (pos 3)) 0 ≡ Reading.Refused 21) ×
+    (readAnswer (set (area (receiving idle Suc)) 3 (minus 1)) 0 ≡ Reading.Refused 21) ×
+    (readAnswer (set (area (receiving idle Suc)) 3 (pos 65535)) 0 ≡ Reading.Refused 21)
+unfolding computing
+edition-ranges = (refl, refl, refl, refl, refl, refl, refl, refl, refl)
+
 -- a message in one word: 1 a suc probe, 2 a pre probe, 256 + c an acknowledgement with count c
 messages-in-words :
     (runIn (set (area (receiving idle Suc)) 36 (pos 1)) .link 1 2 ≡ Suc ∷ []) ×
@@ -707,17 +752,17 @@ ends = (refl, refl, refl, refl, refl, refl, refl, refl, refl, refl, refl, refl, 
 
 -- "In 1-2, 2-1, when both probes reach 2 before its acknowledgements, 2 returns counts 1 and −1": the picks, and what each answers
 counts-1-and-minus-1 :
-    answers (startRun (waitsOf (fieldOf both)) 1) ((1, 2) ∷ (1, 2) ∷ (2, 1) ∷ (2, 1) ∷ (2, 1) ∷ (1, 2) ∷ (1, 2) ∷ (2, 1) ∷ (2, 1) ∷ [])
+    answers (startRun (waitsOf (fieldOf both)) 1 1) ((1, 2) ∷ (1, 2) ∷ (2, 1) ∷ (2, 1) ∷ (2, 1) ∷ (1, 2) ∷ (1, 2) ∷ (2, 1) ∷ (2, 1) ∷ [])
     ≡ Delivered Suc ∷ Delivered Pre ∷ Delivered Suc ∷ Delivered (Ack (pos 1)) ∷ Delivered Pre ∷
     Delivered (Ack (pos 0)) ∷ Delivered (Ack (pos 0)) ∷ Delivered (Ack (minus 1)) ∷ Delivery.Refused 23 ∷ []
 unfolding computing
 counts-1-and-minus-1 = refl
 
 -- "22 never occurs in a run made by start and deliveries": the number that a delivery meets is none of those that a list can answer
-never-22-is-met-by-no-list : (w : Waits) (s : ℕ) (p : Passed Run) → Promise w s p
+never-22-is-met-by-no-list : (w : Waits) (s ed : ℕ) (p : Passed Run) → Promise w s ed p
     → List·Memᴰ (deliveryNumber (pick (receiving idle (Ack (pos 0))) 1 2 1 .answer)) (p .numbers) → ⊥
 unfolding computing
-never-22-is-met-by-no-list w s p h m = none (h .answers 22 m)
+never-22-is-met-by-no-list w s ed p h m = none (h .answers 22 m)
   where
     none : List·Memᴰ {A = ℕ} 22 (0 ∷ 23 ∷ 24 ∷ 25 ∷ 26 ∷ 31 ∷ []) → ⊥
     none (List·Memᴰ·head e) = eqb-false 22 0 refl e

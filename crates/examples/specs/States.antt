@@ -3,12 +3,14 @@
 --   lowFirst fs         == fields as bytes: "Each field is 16 bits, unsigned, low byte first"
 --   table n m ps ks     == the bytes of a table: N, M, first-out and first-in of each process, from, to, next-out and next-in of each arc
 --   one, both, fork     == accepted tables: 1-2 with N 2; 1-2 and 2-1 with N 2; 1-2 and 1-3 with N 3
+--   alone, loop         == accepted tables of one process: without waits; 1-1
 --   met1 .. met7        == bytes that meet row 1 .. 7 of "Refused because of the input", and later rows too
---   input s bs          == the check program's input: the start process, then these bytes
+--   input s ed bs       == the check program's input: the start process, the edition, then these bytes
 --   words k             == k words, each 9
 --   root c n            == a start's record, with this cs and this num
---   two s d x y forth back   == a run on the waits of one, with start s and d accepted deliveries: x and y are the records of 1 and of 2,
---                          forth the messages from 1 to 2, back those from 2 to 1
+--   two s d x y forth back   == a run on the waits of one, with start s, edition 1 and d accepted deliveries: x and y are the records of 1 and
+--                          of 2, forth the messages from 1 to 2, back those from 2 to 1
+--   under ed r          == a run with another edition
 --   receiving y m       == such a run, not over, in which m waits on the link from 1 to 2 and y is the record of 2
 --   three               == such a run, not over, in which three messages wait on that link
 --   unlinked            == a run with a message between two processes that are no neighbours
@@ -66,6 +68,12 @@ both = table 2 2 ((1, 2) ∷ (2, 1) ∷ []) ((1, 2, 0, 0) ∷ (2, 1, 0, 0) ∷ [
 unfoldable pub fork : List ℕ
 fork = table 3 2 ((2, 0) ∷ (0, 1) ∷ (0, 2) ∷ []) ((1, 2, 0, 0) ∷ (1, 3, 1, 0) ∷ [])
 
+unfoldable pub alone : List ℕ
+alone = table 1 0 ((0, 0) ∷ []) []
+
+unfoldable pub loop : List ℕ
+loop = table 1 1 ((1, 1) ∷ []) ((1, 1, 0, 0) ∷ [])
+
 -- met7 to met1: each is the one above it spoilt once more, and meets its own row and every later one; met1 alone misses 5 and 6
 
 -- two arcs 1-2
@@ -96,9 +104,9 @@ met2 = table 129 2 ((2, 3) ∷ (0, 2) ∷ []) ((1, 3, 0, 0) ∷ (1, 3, 0, 1) ∷
 unfoldable pub met1 : List ℕ
 met1 = take 3 met2
 
--- "start process (16 bits), table"
-unfoldable pub input : ℕ → List ℕ → List ℕ
-input s bs = s % 256 ∷ s / 256 ∷ bs
+-- "start process (16 bits), table"; the edition "as a 16-bit field after the start process" (02, N4)
+unfoldable pub input : ℕ → ℕ → List ℕ → List ℕ
+input s ed bs = lowFirst (s ∷ ed ∷ []) ++ bs
 
 -- ---- records, runs and areas
 
@@ -114,10 +122,14 @@ two s d x y forth back =
     record {
       waits = waitsOf (fieldOf one);
       start = s;
+      edition = 1;
       count = d;
       process = λ p. choose (eqb p 1) x (choose (eqb p 2) y idle);
       link = λ a b. choose (eqb a 1 && eqb b 2) forth (choose (eqb a 2 && eqb b 1) back []);
     }
+
+unfoldable pub under : ℕ → Run → Run
+under ed r = record { waits = r .waits; start = r .start; edition = ed; count = r .count; process = r .process; link = r .link }
 
 unfoldable pub receiving : Process → Message → Run
 receiving y m = two 1 0 (root (pos 0) 1) y (m ∷ []) []
@@ -132,6 +144,7 @@ unlinked =
     record {
       waits = record { n = 2; waits = λ a b. false };
       start = 1;
+      edition = 1;
       count = 0;
       process = λ p. choose (eqb p 1) (root (pos 0) 1) idle;
       link = λ a b. choose (eqb a 2 && eqb b 1) (Ack (pos 0) ∷ []) [];

@@ -1,6 +1,7 @@
 // The answers of the calls on a run, each compared with what the search expects.
 use crate::Expected;
 use crate::faults;
+use crate::words;
 use checks::Delivery;
 use checks::Mark;
 use checks::Reading;
@@ -20,6 +21,11 @@ pub fn expect(c: Course, test: bool, fault: u32) -> Course {
         d.fault = fault;
     }
     d
+}
+
+// The course with a difference if the words of an area have another digest than before.
+pub fn kept(area: &[i32], before: usize, c: Course) -> Course {
+    expect(c, words::digest(area) == before, faults::CHANGED)
 }
 
 // A report is refused with 26 while fewer than D deliveries are made, and then says D.
@@ -232,37 +238,66 @@ pub fn read(n: usize, p: usize, answer: Reading, c: Course) -> Course {
     expect(c, is_read(answer, 0 < p && p <= n), faults::RECORD)
 }
 
-// "knot exactly if all processes reachable from the start reach it", and returned exactly with knot.
-fn is_verdict(verdict: Verdict, mark: Mark, outside: i32) -> bool {
-    match verdict {
-        Verdict::Knot => match mark {
-            Mark::Returned => outside == 0,
-            Mark::Held => false,
-        },
-        Verdict::Free => match mark {
-            Mark::Returned => false,
-            Mark::Held => outside != 0,
-        },
-    }
-}
-
-// The report of the end; escape is exactly the number that the search found (02, N1).
-pub fn is_last_report(report: Report, e: Expected, due: u32) -> bool {
+// The report of the end but for the verdict and the mark; escape is exactly the number that the search found (02, N1).
+fn is_last_report(report: Report, e: Expected, due: u32) -> bool {
     match report {
         Report::Refused(_) => false,
         Report::Over {
             deliveries,
-            verdict,
+            verdict: _,
             outside,
             escape,
-            mark,
-        } => {
-            deliveries == due
-                && outside == e.outside
-                && is_verdict(verdict, mark, e.outside)
-                && escape == e.escape
-        }
+            mark: _,
+        } => deliveries == due && outside == e.outside && escape == e.escape,
     }
+}
+
+// Whether the search finds a knot by the edition of a run.
+fn is_knot(e: Expected) -> bool {
+    if e.edition == 1 {
+        return e.first;
+    }
+    e.second
+}
+
+// Knot exactly if there is one, and returned exactly with knot.
+fn is_verdict(verdict: Verdict, mark: Mark, knot: bool) -> bool {
+    match verdict {
+        Verdict::Knot => match mark {
+            Mark::Returned => knot,
+            Mark::Held => false,
+        },
+        Verdict::Free => match mark {
+            Mark::Returned => false,
+            Mark::Held => !knot,
+        },
+    }
+}
+
+// "Verdicts are judged by the edition named at start" (02, N4)
+fn is_judged(report: Report, e: Expected) -> bool {
+    match report {
+        Report::Refused(_) => false,
+        Report::Over {
+            deliveries: _,
+            verdict,
+            outside: _,
+            escape: _,
+            mark,
+        } => is_verdict(verdict, mark, is_knot(e)),
+    }
+}
+
+// After the report of the end.
+pub fn last_reported(report: Report, e: Expected, c: Course) -> Course {
+    let told = expect(c, is_last_report(report, e, c.due), faults::REPORT);
+    expect(told, is_judged(report, e), faults::VERDICT)
+}
+
+// After the report of the end in an area whose edition was exchanged for the other.
+pub fn other_reported(report: Report, e: Expected, c: Course) -> Course {
+    let right = is_last_report(report, e, c.due) && is_judged(report, e);
+    expect(c, right, faults::OTHER_EDITION)
 }
 
 // "cs 0, but the start's cs is outside"

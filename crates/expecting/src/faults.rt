@@ -21,15 +21,23 @@ pub const OVER: u32 = 8;
 pub const STILL: u32 = 9;
 // Reading a record at any time, or of no process.
 pub const RECORD: u32 = 10;
-// The report of the end.
+// The report of the end, but for the verdict and the mark.
 pub const REPORT: u32 = 11;
 // A record at the end.
 pub const LAST_RECORD: u32 = 12;
 // The numbers of sucs and of pres that picks delivered.
 pub const PROBES: u32 = 13;
-// A call that delivered nothing changed a word.
+// A call that delivered nothing changed a word, or a small area that is over holds another edition than its start named.
 pub const CHANGED: u32 = 14;
 // A surplus word changed.
 pub const SURPLUS: u32 = 15;
 // A pick took another message than the one at its place, or took or refused where it should not, or the others did not keep their order.
 pub const PLACE: u32 = 16;
+// A start under an edition that is neither 1 nor 2 is not refused with 30, or not in 30's place: after 8 and before 9.
+pub const REFUSED_EDITION: u32 = 17;
+// The verdict or the mark of the end is not that of the edition which the start named.
+pub const VERDICT: u32 = 18;
+// A call in an area whose edition is neither 1 nor 2 is not refused with 21.
+pub const EDITION_WORD: u32 = 19;
+// The report of the end in an area whose edition was exchanged for the other is not that of the other.
+pub const OTHER_EDITION: u32 = 20;

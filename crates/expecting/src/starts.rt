@@ -1,5 +1,6 @@
 // How a run begins: what the search expects of it, its course, the starts that are refused, and the start.
 use crate::Expected;
+use crate::editions;
 use crate::faults;
 use crate::words;
 use drawing::numbers;
@@ -19,7 +20,7 @@ fn signed(k: u32) -> i32 {
     k as i32
 }
 
-// What the search found of a table from a start.
+// What the search found of a table from a start, under the first edition.
 pub fn found_of(table: &[u8], found: &[bool; 16899], start: usize) -> Expected {
     Expected {
         n: searching::processes(table),
@@ -29,7 +30,17 @@ pub fn found_of(table: &[u8], found: &[bool; 16899], start: usize) -> Expected {
         pres: searching::waits_for(found),
         outside: signed(searching::outsiders(found)),
         escape: searching::lowest_outsider(found),
+        first: searching::is_knot(found, 1),
+        second: searching::is_knot(found, 2),
+        edition: 1,
     }
+}
+
+// The same under an edition: all but the verdict and the mark is the same.
+pub fn under(e: Expected, edition: usize) -> Expected {
+    let mut d = e;
+    d.edition = edition;
+    d
 }
 
 // The course of a run that has not begun, by a random number.
@@ -51,49 +62,87 @@ pub fn course(e: Expected, x: usize, fault: u32) -> Course {
     }
 }
 
-// The number of a start, 0 if it is accepted.
-fn start(area: &mut [i32], table: &[u8], s: usize) -> u32 {
-    match starting::start(table, s, area) {
+// The number of a start under an edition, 0 if it is accepted.
+fn start(area: &mut [i32], table: &[u8], s: usize, edition: usize) -> u32 {
+    match starting::start(table, s, edition, area) {
         Started::Ready => 0,
         Started::Refused(number) => number,
     }
 }
 
-// Whether a start in one word too few is refused.
-fn refuse_short(area: &mut [i32], table: &[u8], e: Expected) -> bool {
+// The number of a start in one word too few, 0 if the area has not even those.
+fn start_short(area: &mut [i32], table: &[u8], e: Expected, edition: usize) -> u32 {
     let end = 8 * (e.n % 65536) + 20 * (e.m % 65536) + 15;
     if end > area.len() {
-        return false;
+        return 0;
     }
-    start(&mut area[0..end], table, e.start) == 9
+    start(&mut area[0..end], table, e.start, edition)
 }
 
 // Whether starts at 0 and N + 1 are refused.
-fn refuse_nobody(area: &mut [i32], table: &[u8], n: usize) -> bool {
-    if start(area, table, 0) != 8 {
+fn refuse_nobody(area: &mut [i32], table: &[u8], e: Expected) -> bool {
+    if start(area, table, 0, e.edition) != 8 {
         return false;
     }
-    start(area, table, numbers::more(n)) == 8
+    start(area, table, numbers::more(e.n), e.edition) == 8
 }
 
-// Starts that are refused, each with its number. Gives whether they are.
-fn refuse(area: &mut [i32], table: &[u8], e: Expected) -> bool {
-    if !refuse_short(area, table, e) {
+// Whether starts that are refused under any edition are, each with its number.
+fn refuse_start(area: &mut [i32], table: &[u8], e: Expected) -> bool {
+    if start_short(area, table, e, e.edition) != 9 {
         return false;
     }
-    refuse_nobody(area, table, e.n)
+    refuse_nobody(area, table, e)
+}
+
+// Whether starts under numbers that are no edition are refused with 30 (02, N4).
+fn refuse_numbers(area: &mut [i32], table: &[u8], s: usize) -> bool {
+    for k in 0..editions::NONE.len() {
+        if start(area, table, s, editions::NONE[k]) != 30 {
+            return false;
+        }
+    }
+    true
+}
+
+// "It refuses any other edition with 30, after 8 and before 9": with 8 also at no process, and with 30 also in too few words.
+fn refuse_in_place(area: &mut [i32], table: &[u8], e: Expected) -> bool {
+    if start(area, table, 0, 3) != 8 {
+        return false;
+    }
+    start_short(area, table, e, 0) == 30
+}
+
+// Whether starts under no edition are refused, each with its number.
+fn refuse_edition(area: &mut [i32], table: &[u8], e: Expected) -> bool {
+    if !refuse_numbers(area, table, e.start) {
+        return false;
+    }
+    refuse_in_place(area, table, e)
+}
+
+// Starts that are refused. Gives the difference.
+fn refuse(area: &mut [i32], table: &[u8], e: Expected) -> u32 {
+    if !refuse_start(area, table, e) {
+        return faults::REFUSED_START;
+    }
+    if !refuse_edition(area, table, e) {
+        return faults::REFUSED_EDITION;
+    }
+    0
 }
 
 // In words that hold the mark, the starts that are refused and change none, then the start. Gives the difference.
 pub fn begin(area: &mut [i32], table: &[u8], e: Expected) -> u32 {
     words::fill(area);
-    if !refuse(area, table, e) {
-        return faults::REFUSED_START;
+    let fault = refuse(area, table, e);
+    if fault != 0 {
+        return fault;
     }
     if !words::is_marked(area, 0) {
         return faults::CHANGED;
     }
-    if start(area, table, e.start) != 0 {
+    if start(area, table, e.start, e.edition) != 0 {
         return faults::START;
     }
     0

@@ -1,6 +1,6 @@
 -- What the answers of splitting and of beginning tell, for whoever calls them.
---   Parted bs s e k      == the parts of an input that is not refused
---   split-parted, split-refused   == the answer Parts s e k tells Parted bs s e k, the answer Refused r the number
+--   Parted bs s v e k    == the parts of an input that is not refused
+--   split-parted, split-refused   == the answer Parts s v e k tells Parted bs s v e k, the answer Refused r the number
 --   BegunAt bs w e k     == an input that is begun: where its picks begin, and how many there are
 --   begun-ready, begun-refused    == the answer Ready e k tells BegunAt bs w e k, the answer Refused r that the input is not begun
 -- Assumes nothing.
@@ -11,18 +11,20 @@ use native.Mathlib.Omega.{arith}
 use lib.IntN.{ℤ}
 use Rattle.inputs.specs.declared.Splitting.{Splitting}
 use Rattle.inputs.specs.declared.Begun.{Begun}
-use Rattle.inputs.specs.Input.{startIn, tableEnd, picksIn, inputNumber, splitBy, splitOf, begunNumber, begunBy, begunOf}
+use Rattle.inputs.specs.Input.{startIn, editionIn, tableEnd, picksIn, inputNumber, splitBy, splitOf, begunNumber, begunBy, begunOf}
 
-pub record Parted (bs : List ℕ) (s e k : ℕ) : Type 0 where
+pub record Parted (bs : List ℕ) (s v e k : ℕ) : Type 0 where
   pub number : inputNumber bs ≡ 0
   pub start-is : s ≡ startIn bs
+  pub edition-is : v ≡ editionIn bs
   pub end-is : e ≡ tableEnd bs
   pub picks-is : k ≡ picksIn bs
 
-splitBy-parts : (n : ℕ) (bs : List ℕ) (s e k : ℕ) → splitBy n bs ≡ Splitting.Parts s e k → (n ≡ 0) × (s ≡ startIn bs) × (e ≡ tableEnd bs) × (k ≡ picksIn bs)
+splitBy-parts : (n : ℕ) (bs : List ℕ) (s v e k : ℕ) → splitBy n bs ≡ Splitting.Parts s v e k
+    → (n ≡ 0) × (s ≡ startIn bs) × (v ≡ editionIn bs) × (e ≡ tableEnd bs) × (k ≡ picksIn bs)
 unfolding splitBy
-splitBy-parts zero bs s e k q = (refl, cc, cc, cc)
-splitBy-parts (suc n) bs s e k q = absurd (let z : _≡_ {A = ℕ} 0 1 = cc in omega arith)
+splitBy-parts zero bs s v e k q = (refl, cc, cc, cc, cc)
+splitBy-parts (suc n) bs s v e k q = absurd (let z : _≡_ {A = ℕ} 0 1 = cc in omega arith)
 
 splitBy-refused : (n : ℕ) (bs : List ℕ) (r : ℕ) → splitBy n bs ≡ Splitting.Refused r → (n ≡ r) × (r ≡ 0 → ⊥)
 unfolding splitBy
@@ -30,11 +32,11 @@ splitBy-refused zero bs r q = absurd (let z : _≡_ {A = ℕ} 0 1 = cc in omega 
 splitBy-refused (suc n) bs r q = let here : suc n ≡ r = cc in (here, λ z. omega arith)
 
 module _ (bs : List ℕ) (x : Splitting) (ex : x ≡ splitOf bs) where
-  pub split-parted : (s e k : ℕ) → x ≡ Splitting.Parts s e k → Parted bs s e k
+  pub split-parted : (s v e k : ℕ) → x ≡ Splitting.Parts s v e k → Parted bs s v e k
   unfolding splitOf
-  split-parted s e k q =
-      let told = splitBy-parts (inputNumber bs) bs s e k (sym ex ∙ q) in
-      record { number = told .0; start-is = told .1; end-is = told .2; picks-is = told .3 }
+  split-parted s v e k q =
+      let told = splitBy-parts (inputNumber bs) bs s v e k (sym ex ∙ q) in
+      record { number = told .0; start-is = told .1; edition-is = told .2; end-is = told .3; picks-is = told .4 }
 
   pub split-refused : (r : ℕ) → x ≡ Splitting.Refused r → (inputNumber bs ≡ r) × (r ≡ 0 → ⊥)
   unfolding splitOf

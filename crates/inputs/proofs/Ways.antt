@@ -24,8 +24,8 @@ use Rattle.starting.specs.StartCall.{startNumber, startedBy, startAnswer, start
 use Rattle.inputs.specs.declared.Splitting.{Splitting}
 use Rattle.inputs.specs.declared.Pick.{Pick}
 use Rattle.inputs.specs.declared.Begun.{Begun}
-use Rattle.inputs.specs.Input.{startIn, tableFields, tableEnd, tableIn, picksIn, inputNumber, splitBy, splitOf, pickFrom, pickTo, pickIn}
-use Rattle.inputs.specs.Input.{begunNumber, begunBy, begunOf, begunArea, FirstMet, row-13, row-1, row-2, row-3, row-12, no-row}
+use Rattle.inputs.specs.Input.{startIn, editionIn, beforeTable, tableFields, tableEnd, tableIn, picksIn, inputNumber, splitBy, splitOf}
+use Rattle.inputs.specs.Input.{pickFrom, pickTo, pickIn, begunNumber, begunBy, begunOf, begunArea, FirstMet, row-13, row-1, row-2, row-3, row-12, no-row}
 use Rattle.inputs.specs.InputLaws.{fieldOf-after, none-rest, some-rest, end-least, first-number, parts-fill}
 use Rattle.inputs.proofs.Told.{Parted, split-parted, split-refused}
 
@@ -34,17 +34,17 @@ module _ (bs : List ℕ) where
   unfolding splitOf splitBy
   refused r m = rw (first-number bs (suc r) m)
 
-  parted : FirstMet bs 0 → Splitting.Parts (startIn bs) (tableEnd bs) (picksIn bs) ≡ splitOf bs
+  parted : FirstMet bs 0 → Splitting.Parts (startIn bs) (editionIn bs) (tableEnd bs) (picksIn bs) ≡ splitOf bs
   unfolding splitOf splitBy
   parted m = rw (first-number bs 0 m)
 
   pub split-13 : 20480 < length bs → Splitting.Refused 13 ≡ splitOf bs
   split-13 h = refused 12 (row-13 h)
 
-  pub split-1 : length bs ≤ 20480 → length bs < 6 → Splitting.Refused 1 ≡ splitOf bs
+  pub split-1 : length bs ≤ 20480 → length bs < 8 → Splitting.Refused 1 ≡ splitOf bs
   split-1 l h = refused 0 (row-1 l h)
 
-  module _ (l : length bs ≤ 20480) (u : 6 ≤ length bs) (n m : ℕ) (en : n ≡ fieldOf bs 1) (em : m ≡ fieldOf bs 2) where
+  module _ (l : length bs ≤ 20480) (u : 8 ≤ length bs) (n m : ℕ) (en : n ≡ fieldOf bs 2) (em : m ≡ fieldOf bs 3) where
     n-is : n ≡ tableFields bs 0
     unfolding tableFields
     n-is = en ∙ sym (fieldOf-after bs 0)
@@ -53,7 +53,7 @@ module _ (bs : List ℕ) where
     unfolding tableFields
     m-is = em ∙ sym (fieldOf-after bs 1)
 
-    end-is : 6 + 4 * n + 8 * m ≡ tableEnd bs
+    end-is : 8 + 4 * n + 8 * m ≡ tableEnd bs
     unfolding tableEnd
     end-is = omega (arith, n-is, m-is)
 
@@ -70,24 +70,24 @@ module _ (bs : List ℕ) where
       sizes : Sizes (tableFields bs)
       sizes = (omega (arith, n-is), omega (arith, n-is), omega (arith, m-is))
 
-      pub split-3 : length bs < 6 + 4 * n + 8 * m → Splitting.Refused 3 ≡ splitOf bs
+      pub split-3 : length bs < 8 + 4 * n + 8 * m → Splitting.Refused 3 ≡ splitOf bs
       split-3 f = refused 2 (row-3 l u sizes (omega (arith, end-is)))
 
-      module _ (i : 6 + 4 * n + 8 * m ≤ length bs) where
+      module _ (i : 8 + 4 * n + 8 * m ≤ length bs) where
         inside : tableEnd bs ≤ length bs
         inside = omega (arith, end-is)
 
-        pub split-12 : ((length bs - (6 + 4 * n + 8 * m)) % 4 ≡ 0 → ⊥) → Splitting.Refused 12 ≡ splitOf bs
+        pub split-12 : ((length bs - (8 + 4 * n + 8 * m)) % 4 ≡ 0 → ⊥) → Splitting.Refused 12 ≡ splitOf bs
         unfolding picksIn
         split-12 f =
             let b = some-rest (length bs) (tableEnd bs) inside (λ z. f (rw end-is z)) in
             refused 11 (row-12 l sizes (b .0) (b .1))
 
-        pub split-0 : (s : ℕ) → s ≡ fieldOf bs 0 → (length bs - (6 + 4 * n + 8 * m)) % 4 ≡ 0 → Splitting.Parts s (6 + 4 * n + 8 * m)
-            ((length bs - (6 + 4 * n + 8 * m)) / 4) ≡ splitOf bs
-        unfolding picksIn startIn
-        split-0 s es z =
-            rw (es, end-is)
+        pub split-0 : (s v : ℕ) → s ≡ fieldOf bs 0 → v ≡ fieldOf bs 1 → (length bs - (8 + 4 * n + 8 * m)) % 4 ≡ 0
+            → Splitting.Parts s v (8 + 4 * n + 8 * m) ((length bs - (8 + 4 * n + 8 * m)) / 4) ≡ splitOf bs
+        unfolding picksIn startIn editionIn
+        split-0 s v es ev z =
+            rw (es, ev, end-is)
             (parted (no-row l sizes (none-rest (length bs) (tableEnd bs) inside (rw end-is at z))))
 
 -- the part of an input that begins at an end is the rest of it
@@ -138,36 +138,38 @@ module _ (bs : List ℕ) (w : List ℤ) (x : Splitting) (ex : x ≡ splitOf bs) 
       let z = ne-eqb (inputNumber bs) 0 (λ e. told .1 (sym (told .0) ∙ e)) in
       (begunBy-some (begunNumber bs w) bs r (rw z (told .0)) (told .1), rw z)
 
-  module _ (s e k : ℕ) (q : x ≡ Splitting.Parts s e k) where
-    told : Parted bs s e k
-    told = split-parted bs x ex s e k q
+  module _ (s v e k : ℕ) (q : x ≡ Splitting.Parts s v e k) where
+    told : Parted bs s v e k
+    told = split-parted bs x ex s v e k q
 
-    pub begin-inside : (2 ≤ e) × (e ≤ length bs)
+    pub begin-inside : (beforeTable ≤ e) × (e ≤ length bs)
     begin-inside =
         let f = parts-fill bs (told .number) in
         (omega (arith, told .end-is, end-least bs), omega (arith, told .end-is))
 
-    module _ (a : Started) (l : List ℤ) (both : (a ≡ startAnswer (take (e - 2) (drop 2 bs)) s w) × (l ≡ startArea (take (e - 2) (drop 2 bs)) s w)) where
-      number : begunNumber bs w ≡ startNumber (tableIn bs) (startIn bs) w
-      unfolding begunNumber
-      number = rw (told .number)
+    module _ (a : Started) (l : List ℤ)
+        (both : (a ≡ startAnswer (take (e - beforeTable) (drop beforeTable bs)) s v w) × (l ≡ startArea (take (e - beforeTable) (drop beforeTable bs)) s v w))
+      where
+        number : begunNumber bs w ≡ startNumber (tableIn bs) (startIn bs) (editionIn bs) w
+        unfolding begunNumber
+        number = rw (told .number)
 
-      answer : a ≡ startedBy (startNumber (tableIn bs) (startIn bs) w)
-      unfolding startAnswer tableIn
-      answer = rw (told .end-is, told .start-is) at (both .0)
+        answer : a ≡ startedBy (startNumber (tableIn bs) (startIn bs) (editionIn bs) w)
+        unfolding startAnswer tableIn
+        answer = rw (told .end-is, told .start-is, told .edition-is) at (both .0)
 
-      area : l ≡ begunArea bs w
-      unfolding begunArea tableIn
-      area = rw (told .number) (rw (told .end-is, told .start-is) at (both .1))
+        area : l ≡ begunArea bs w
+        unfolding begunArea tableIn
+        area = rw (told .number) (rw (told .end-is, told .start-is, told .edition-is) at (both .1))
 
-      pub begin-unstarted : (r : ℕ) → a ≡ Started.Refused r → Begins bs w (Begun.Refused r) l
-      unfolding begunOf
-      begin-unstarted r c =
-          let n = started-refused (startNumber (tableIn bs) (startIn bs) w) r (sym answer ∙ c) in
-          (begunBy-some (begunNumber bs w) bs r (number ∙ n .0) (n .1), area)
+        pub begin-unstarted : (r : ℕ) → a ≡ Started.Refused r → Begins bs w (Begun.Refused r) l
+        unfolding begunOf
+        begin-unstarted r c =
+            let n = started-refused (startNumber (tableIn bs) (startIn bs) (editionIn bs) w) r (sym answer ∙ c) in
+            (begunBy-some (begunNumber bs w) bs r (number ∙ n .0) (n .1), area)
 
-      pub begin-started : a ≡ Started.Ready → Begins bs w (Begun.Ready e k) l
-      unfolding begunOf begunBy
-      begin-started c =
-          let n = started-ready (startNumber (tableIn bs) (startIn bs) w) (sym answer ∙ c) in
-          (rw (number ∙ n, told .end-is, told .picks-is), area)
+        pub begin-started : a ≡ Started.Ready → Begins bs w (Begun.Ready e k) l
+        unfolding begunOf begunBy
+        begin-started c =
+            let n = started-ready (startNumber (tableIn bs) (startIn bs) (editionIn bs) w) (sym answer ∙ c) in
+            (rw (number ∙ n, told .end-is, told .picks-is), area)

@@ -1,5 +1,5 @@
-// The check program's input: the start process, the table, and the picks. It is split by its own N and M, refused by the rows 13, 1, 2, 3
-// and 12 of 01, in order, and then its table is started, "then 4 to 8".
+// The check program's input: the start process, the edition (02, N4), the table, and the picks. It is split by its own N and M, refused by the
+// rows 13, 1, 2, 3 and 12 of 01, in order, and then its table is started: "then 4 to 8", and 30.
 use starting::Started;
 ghost use mathlib.Core.Path.{_≡_};
 ghost use Prim.Native.Nat.{_<_};
@@ -8,10 +8,12 @@ ghost use Rattle.inputs.specs.Input.{tableEnd, picksIn, splitOf, pickIn,
 // The most bytes that an input may have: `longest` in specs/. One more is "input over 20,480 bytes".
 pub const LONGEST: usize = 20480;
 
-// The answer of splitting: the start process, where the table ends and the picks begin, and the number of picks; or the number of the refusal.
+// The answer of splitting: the start process, the edition, where the table ends and the picks begin, and the number of picks; or the number of
+// the refusal.
 pub enum Splitting {
     Parts {
         start: usize,
+        edition: usize,
         end: usize,
         picks: usize,
     },
@@ -38,12 +40,13 @@ fn split(input: &[u8]) -> Splitting
     if length > LONGEST {
         return Splitting::Refused(13);
     }
-    if length < 6 {
+    if length < 8 {
         return Splitting::Refused(1);
     }
     let start = table_reader::field(input, 0);
-    let n = table_reader::field(input, 1);
-    let m = table_reader::field(input, 2);
+    let edition = table_reader::field(input, 1);
+    let n = table_reader::field(input, 2);
+    let m = table_reader::field(input, 3);
     if n == 0 {
         return Splitting::Refused(2);
     }
@@ -53,7 +56,7 @@ fn split(input: &[u8]) -> Splitting
     if m > tables::MOST_ARCS {
         return Splitting::Refused(2);
     }
-    let end = 6 + 4 * n + 8 * m;
+    let end = 8 + 4 * n + 8 * m;
     if length < end {
         return Splitting::Refused(3);
     }
@@ -62,7 +65,12 @@ fn split(input: &[u8]) -> Splitting
         return Splitting::Refused(12);
     }
     let picks = rest / 4;
-    Splitting::Parts { start, end, picks }
+    Splitting::Parts {
+        start,
+        edition,
+        end,
+        picks,
+    }
 }
 
 // Pick j, counted from 0, of an input whose table ends at `end`.
@@ -77,15 +85,21 @@ pub fn pick_at(input: &[u8], end: usize, j: usize) -> Pick
     Pick { from, to }
 }
 
-// Splits the input and starts its table in the lent words: "checks 13, 1, 2, 3, 12, then 4 to 8". A refusal changes no word.
+// Splits the input and starts its table in the lent words: "checks 13, 1, 2, 3, 12, then 4 to 8", then 30. A refusal
+// changes no word.
 pub fn begin(input: &[u8], area: &mut [i32]) -> Begun
     ensures answer { λ r. ⌜ r ≡ begunOf (now (input .entry)) (now (area .entry)) ⌝ }
     ensures area { λ _. ⌜ now (area .exit) ≡ begunArea (now (input .entry)) (now (area .entry)) ⌝ }
 {
     match split(input) {
         Splitting::Refused(r) => Begun::Refused(r),
-        Splitting::Parts { start, end, picks } => {
-            let started = starting::start(&input[2..end], start, area);
+        Splitting::Parts {
+            start,
+            edition,
+            end,
+            picks,
+        } => {
+            let started = starting::start(&input[4..end], start, edition, area);
             match started {
                 Started::Refused(r) => Begun::Refused(r),
                 Started::Ready => Begun::Ready { end, picks },

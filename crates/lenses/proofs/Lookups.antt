@@ -1,5 +1,4 @@
 -- What the code of a delivery reads off a tested area: the start, the records, and the messages on a link.
---   start-is, count-is        == what `number` says of the words of the start and of the count
 --   start-right, process-right   == the start is a process, and the record of a process is in range
 --   num-is                    == what `number` says of the word of num in a record
 --   link-none, link-here      == the messages on a link: none between two who are not neighbours, else those of its words
@@ -29,7 +28,7 @@ use Rattle.machine.specs.FormedLaws.{wellFormed-P}
 use Rattle.machine.specs.Among.{Here}
 use Rattle.machine.specs.AmongLaws.{atPlace-here}
 use Rattle.checks.specs.RunLaws.{formed-range}
-use Rattle.areas.specs.Places.{startPlace, countPlace, numPlace, recordStart, areaLength}
+use Rattle.areas.specs.Places.{numPlace, recordStart, areaLength}
 use Rattle.areas.specs.Used.{linkSlots}
 use Rattle.areas.specs.Area.{linkOf, codeOf, fieldsIn, messageOf, messagesAt, runIn}
 use Rattle.areas.specs.CodeLaws.{messageOf-codeOf}
@@ -62,17 +61,6 @@ pub record WordAt (w : List ℤ) (i k : ℕ) (ms : List Message) : Type 0 where
   pub within : i + k - 1 < length w
   pub fits : natAbs (getD w (i + k - 1) (pos 0)) ≤ 65535
   pub says : AtPlace.Message (messageOf (getD w (i + k - 1) (pos 0))) ≡ standing k ms
-
--- what `number` says of a word that was read back
-pub start-is : {r : ℕ} (w : List ℤ) → mag (getD w startPlace (pos 0)) < 2 ^ 31 → r ≡ natAbs (toZ w32 (ofZ w32 (getD w startPlace (pos 0))))
-    → r ≡ runIn w .start
-unfolding runIn
-start-is w h e = rw (signed-back (getD w startPlace (pos 0)) h) at e
-
-pub count-is : {r : ℕ} (w : List ℤ) → mag (getD w countPlace (pos 0)) < 2 ^ 31 → r ≡ natAbs (toZ w32 (ofZ w32 (getD w countPlace (pos 0))))
-    → r ≡ runIn w .count
-unfolding runIn
-count-is w h e = rw (signed-back (getD w countPlace (pos 0)) h) at e
 
 module _ {w : List ℤ} {sq : List ℕ} {n m : ℕ} (y : Ready w sq n m) where
   pub start-right : (1 ≤ runIn w .start) × (runIn w .start ≤ n)

@@ -30,7 +30,7 @@ use Rattle.steps.specs.Step.{countSmall}
 use Rattle.checks.specs.Run.{Run, one}
 use Rattle.areas.specs.Used.{linkSlots}
 use Rattle.areas.specs.Area.{fieldsIn, runIn, keeping}
-use Rattle.areas.specs.Replaced.{putLink}
+use Rattle.areas.specs.Replaced.{withLinks, putLink}
 use Rattle.areas.specs.RunInLaws.{runIn-contained}
 use Rattle.lenses.specs.Ready.{Ready}
 use Rattle.lenses.specs.Changes.{probeOf, spreadTo, spread, HasSlot}
@@ -47,23 +47,16 @@ Room w n c b = (q : ℕ) → 1 ≤ q → q ≤ n → joins c (runIn w .waits) b 
 
 -- b has sent its probe to those whom it goes to, but for those q with e q not 0
 unfoldable pub spreadBut : Chain → Run → ℕ → (ℕ → ℕ) → Run
-spreadBut c r b e =
-    record {
-      waits = r .waits;
-      start = r .start;
-      count = r .count;
-      process = r .process;
-      link = λ x y. choose (eqb x b && eqb (e y) 0) (r .link x y ++ one (joins c (r .waits) b y) (probeOf c)) (r .link x y);
-    }
+spreadBut c r b e = withLinks r (λ x y. choose (eqb x b && eqb (e y) 0) (r .link x y ++ one (joins c (r .waits) b y) (probeOf c)) (r .link x y))
 
 module _ (c : Chain) (r : Run) (b : ℕ) where
   -- runs that differ in their links alone
   but-by : (e : ℕ → ℕ) (l : ℕ → ℕ → List Message) → ((x y : ℕ) → spreadBut c r b e .link x y ≡ l x y)
-      → spreadBut c r b e ≡ record { waits = r .waits; start = r .start; count = r .count; process = r .process; link = l }
+      → spreadBut c r b e ≡ withLinks r l
   unfolding spreadBut
   but-by e l h =
       let f : spreadBut c r b e .link ≡ l = fun-ext (λ x. fun-ext (λ y. h x y)) in
-      λ i. record { waits = r .waits; start = r .start; count = r .count; process = r .process; link = f i }
+      λ i. withLinks r (f i)
 
   but-all : (e : ℕ → ℕ) → ((y : ℕ) → joins c (r .waits) b y ≡ true → 1 ≤ e y) → spreadBut c r b e ≡ r
   unfolding spreadBut

@@ -43,7 +43,7 @@ use Rattle.machine.specs.Among.{Among, Placed, there, not-there, Here}
 use Rattle.machine.specs.AmongLaws.{among-length, among-right, between-among, atPlace-P, atPlace-here}
 use Rattle.checks.specs.Run.{Run, mostDeliveries, knot, fatherRight, countsSmall, one}
 use Rattle.areas.specs.Used.{linkSlots}
-use Rattle.areas.specs.Replaced.{putProcess, putLink, putCount}
+use Rattle.areas.specs.Replaced.{withLinks, putProcess, putLink, putCount}
 use Rattle.areas.specs.ContainedLaws.{contained-joined, contained-process, contained-link, contained-count}
 use Rattle.lenses.specs.Changes.{probeOf, spreadTo, stays, without, answered, spread, off}
 use Rattle.lenses.specs.Storable.{Storable}
@@ -122,6 +122,7 @@ module _ (t : Fields) (r : Run) (f : Storable t r) where
             (record {
               room = refl;
               start-in = g .start-in;
+              edition = g .edition;
               count = u;
               records = g .records;
               short = g .short;
@@ -142,6 +143,7 @@ module _ (t : Fields) (r : Run) (f : Storable t r) where
             (record {
               room = refl;
               start-in = g .start-in;
+              edition = g .edition;
               count = g .count;
               records = λ q v. own q (same? q p) (g .records q v);
               short = g .short;
@@ -169,6 +171,7 @@ module _ (t : Fields) (r : Run) (f : Storable t r) where
             (record {
               room = refl;
               start-in = g .start-in;
+              edition = g .edition;
               count = g .count;
               records = g .records;
               short = λ x y px py. either (λ l. length l ≤ 4) s (eqb x a && eqb y b) (r .link x y) (g .short x y px py);
@@ -226,11 +229,11 @@ module _ (c : Chain) (r : Run) (b : ℕ) where
 
   -- runs that differ in their links alone
   spreadTo-by : (k : ℕ) (l : ℕ → ℕ → List Message) → ((x y : ℕ) → spreadTo c r b k .link x y ≡ l x y)
-      → spreadTo c r b k ≡ record { waits = r .waits; start = r .start; count = r .count; process = r .process; link = l }
+      → spreadTo c r b k ≡ withLinks r l
   unfolding spreadTo
   spreadTo-by k l h =
       let e : spreadTo c r b k .link ≡ l = fun-ext (λ x. fun-ext (λ y. h x y)) in
-      λ i. record { waits = r .waits; start = r .start; count = r .count; process = r .process; link = e i }
+      λ i. withLinks r (e i)
 
   spreadTo-none : Sound (r .waits) → spreadTo c r b 0 ≡ r
   unfolding spreadTo

@@ -28,21 +28,14 @@ use Rattle.steps.specs.declared.Reply.the-variants.{To}
 use Rattle.machine.specs.Calls.{Cut, nowhere, cut, atPlace}
 use Rattle.checks.specs.Run.{Run, one}
 use Rattle.areas.specs.Used.{linkSlots}
-use Rattle.areas.specs.Replaced.{putLink}
+use Rattle.areas.specs.Replaced.{withLinks, putLink}
 
 abbrev pub probeOf : Chain → Message
 probeOf Out = Suc
 probeOf In = Pre
 
 unfoldable pub spreadTo : Chain → Run → ℕ → ℕ → Run
-spreadTo c r b k =
-    record {
-      waits = r .waits;
-      start = r .start;
-      count = r .count;
-      process = r .process;
-      link = λ x y. choose (eqb x b && leb y k) (r .link x y ++ one (joins c (r .waits) b y) (probeOf c)) (r .link x y);
-    }
+spreadTo c r b k = withLinks r (λ x y. choose (eqb x b && leb y k) (r .link x y ++ one (joins c (r .waits) b y) (probeOf c)) (r .link x y))
 
 unfoldable pub answered : Run → ℕ → Reply → Run
 answered r b Reply.Nothing = r

@@ -1,4 +1,4 @@
-// The heading of a tested area: the start, the accepted deliveries, and whether the run is over.
+// The heading of a tested area: the start, the edition, the accepted deliveries, and whether the run is over.
 use areas::places;
 use areas::words;
 ghost use mathlib.Core.Path.{_≡_};
@@ -14,6 +14,14 @@ pub fn start_of(area: &[i32], square: &[u16; tables::SQUARE_SIZE], n: usize, m: 
     ensures { λ r. ⌜ r ≡ runIn (now (area .entry)) .start ⌝ }
 {
     words::number(area[places::START]) as usize
+}
+
+// The edition named at start (02, N4).
+pub fn edition_of(area: &[i32], square: &[u16; tables::SQUARE_SIZE], n: usize, m: usize) -> u32
+    requires { ⌜ Ready (now area) (now square) n m ⌝ }
+    ensures { λ r. ⌜ r ≡ runIn (now (area .entry)) .edition ⌝ }
+{
+    words::number(area[places::EDITION])
 }
 
 // The accepted deliveries.

@@ -155,12 +155,12 @@ module _ {P M : Type 0} {ρ : Rules P M} {quota : Quota P} {w : Waits} {s : ℕ}
 
 -- ---- the start
 
-module _ {P M : Type 0} {ρ : Rules P M} {quota : Quota P} {w : Waits} {s : ℕ} (bg : Begins ρ quota w s) where
+module _ {P M : Type 0} {ρ : Rules P M} {quota : Quota P} {w : Waits} {s : ℕ} (ed : ℕ) (bg : Begins ρ quota w s) where
   -- how many probes the start sends to j
   first : ℕ → ℕ
   first j = weight (probeBit ρ) (ρ .firstTo w s j)
 
-  start-probes : (i j : ℕ) → weight (probeBit ρ) (startRun ρ w s .link i j) ≡ spot s (first j) i
+  start-probes : (i j : ℕ) → weight (probeBit ρ) (startRun ρ w s ed .link i j) ≡ spot s (first j) i
   unfolding startRun spot first weight
   start-probes i j = at (eqb i s)
     where
@@ -168,7 +168,7 @@ module _ {P M : Type 0} {ρ : Rules P M} {quota : Quota P} {w : Waits} {s : ℕ}
       at true = refl
       at false = refl
 
-  start-acks : (i j : ℕ) → weight (ackBit ρ) (startRun ρ w s .link i j) ≡ 0
+  start-acks : (i j : ℕ) → weight (ackBit ρ) (startRun ρ w s ed .link i j) ≡ 0
   unfolding startRun weight
   start-acks i j = at (eqb i s)
     where
@@ -176,7 +176,7 @@ module _ {P M : Type 0} {ρ : Rules P M} {quota : Quota P} {w : Waits} {s : ℕ}
       at true = bg .probes j
       at false = refl
 
-  start-heir : (i j : ℕ) → heirOf ρ (eqb j s) (startRun ρ w s .process j) i ≡ 0
+  start-heir : (i j : ℕ) → heirOf ρ (eqb j s) (startRun ρ w s ed .process j) i ≡ 0
   unfolding startRun
   start-heir i j = at (same? j s)
     where
@@ -184,11 +184,11 @@ module _ {P M : Type 0} {ρ : Rules P M} {quota : Quota P} {w : Waits} {s : ℕ}
       at (same e f) = rw f (heir-start (ρ .num (ρ .first w s)) (ρ .father (ρ .first w s)) i)
       at (apart e f) = rw f (heir-none (ρ .num (ρ .idle)) (ρ .father (ρ .idle)) i (bg .idle))
 
-  start-pending : (i j : ℕ) → pending ρ s (startRun ρ w s) i j ≡ spot s (first j) i
+  start-pending : (i j : ℕ) → pending ρ s (startRun ρ w s ed) i j ≡ spot s (first j) i
   unfolding pending
   start-pending i j = omega (arith, start-probes i j, start-acks j i, start-heir i j)
 
-  start-num : (i : ℕ) → ρ .num (startRun ρ w s .process i) ≡ spot s (sumTo (w .n) first) i
+  start-num : (i : ℕ) → ρ .num (startRun ρ w s ed .process i) ≡ spot s (sumTo (w .n) first) i
   unfolding startRun spot first
   start-num i = at (same? i s)
     where
@@ -196,7 +196,7 @@ module _ {P M : Type 0} {ρ : Rules P M} {quota : Quota P} {w : Waits} {s : ℕ}
       at (same e f) = rw f (bg .num)
       at (apart e f) = rw f (bg .idle)
 
-  start-quota : (i j : ℕ) → spot s (first j) i ≤ quota w i j (startRun ρ w s .process i)
+  start-quota : (i j : ℕ) → spot s (first j) i ≤ quota w i j (startRun ρ w s ed .process i)
   unfolding startRun spot first
   start-quota i j = at (same? i s)
     where
@@ -204,26 +204,26 @@ module _ {P M : Type 0} {ρ : Rules P M} {quota : Quota P} {w : Waits} {s : ℕ}
       at (same e f) = rw (f, e) (bg .pair j)
       at (apart e f) = rw f (omega arith)
 
-  pub diffusing-start : Diffusing ρ quota w s (startRun ρ w s)
+  pub diffusing-start : Diffusing ρ quota w s (startRun ρ w s ed)
   diffusing-start =
       record {
         num = λ i _. start-num i ∙ sym (sumTo-cong (w .n) _ (λ j. spot s (first j) i) (λ j _ _. start-pending i j) ∙ sum-spot (w .n) s first i);
         pair = λ i j _ _. omega (arith, start-pending i j, start-quota i j);
         father-in = λ j _ h u. absurd (omega (arith, start-num j, spot-off s (sumTo (w .n) first) j h));
-        fathers = λ j _. inl (start-at ρ w s (λ x. ρ .father x ≡ 0) (bg .father-first) (bg .father-idle) j);
+        fathers = λ j _. inl (start-at ρ w s ed (λ x. ρ .father x ≡ 0) (bg .father-first) (bg .father-idle) j);
       }
 
   first-is : ρ .num (ρ .first w s) ≡ sumTo (w .n) first
   unfolding first
   first-is = bg .num
 
-  pub work-start : IsProcess (w .n) s → work ρ (w .n) (startRun ρ w s) ≡ 2 * ρ .num (ρ .first w s)
+  pub work-start : IsProcess (w .n) s → work ρ (w .n) (startRun ρ w s ed) ≡ 2 * ρ .num (ρ .first w s)
   unfolding startRun work total sumOf
   work-start ps =
       let d : ℕ = sumTo (w .n) first in
       let whole : sumTo (w .n) (spot s d) ≡ d = sumTo-spot (w .n) s d (ps .0) (ps .1) in
-      let row : (i : ℕ) → sumTo (w .n) (λ j. weight (probeBit ρ) (startRun ρ w s .link i j)) ≡ spot s d i =
+      let row : (i : ℕ) → sumTo (w .n) (λ j. weight (probeBit ρ) (startRun ρ w s ed .link i j)) ≡ spot s d i =
       λ i. sumTo-cong (w .n) _ (λ j. spot s (first j) i) (λ j _ _. start-probes i j) ∙ sum-spot (w .n) s first i in
-      let wait : total (w .n) (probeBit ρ) (startRun ρ w s) ≡ sumTo (w .n) (spot s d) = sumTo-cong (w .n) _ (spot s d) (λ i _ _. row i) in
-      let nums : sumOf (w .n) (ρ .num) (startRun ρ w s) ≡ sumTo (w .n) (spot s d) = sumTo-cong (w .n) _ (spot s d) (λ i _ _. start-num i) in
+      let wait : total (w .n) (probeBit ρ) (startRun ρ w s ed) ≡ sumTo (w .n) (spot s d) = sumTo-cong (w .n) _ (spot s d) (λ i _ _. row i) in
+      let nums : sumOf (w .n) (ρ .num) (startRun ρ w s ed) ≡ sumTo (w .n) (spot s d) = sumTo-cong (w .n) _ (spot s d) (λ i _ _. start-num i) in
       omega (arith, first-is)

@@ -14,6 +14,7 @@ use Rattle.machine.specs.Machine.{Machine, Rules, allRight, after}
 pub record Formed {P M : Type 0} (ρ : Rules P M) (r : Machine P M) : Type 0 where
   pub room : ρ .room r ≡ true
   pub start-in : IsProcess (r .waits .n) (r .start)
+  pub edition : ρ .editionRight (r .edition) ≡ true
   pub count : r .count ≤ ρ .most
   pub records : (p : ℕ) → IsProcess (r .waits .n) p → ρ .recordRight (r .waits) p (r .process p) ≡ true
   pub short : (a b : ℕ) → IsProcess (r .waits .n) a → IsProcess (r .waits .n) b → length (r .link a b) ≤ ρ .capacity

@@ -16,7 +16,7 @@ use borrow.Author.Tests.{leb-true, le-leb, eqb-true}
 use lib.Dec.{eqb, leb}
 use lib.ListN.{length}
 use Rattle.base.specs.Choice.{choose}
-use Rattle.base.specs.ChoiceLaws.{and-left, and-right, and-both, and-three, same?, tested}
+use Rattle.base.specs.ChoiceLaws.{and-left, and-right, and-both, and-three, and-four, same?, tested}
 use Rattle.base.specs.Checks.{Same, same, apart, Tested, passed, failed}
 use Rattle.base.specs.Sums.{allTo}
 use Rattle.base.specs.SumLaws.{allTo-at, allTo-of}
@@ -43,9 +43,6 @@ module _ {M : Type 0} (p : M → Bool) where
   allRight-tail (m ∷ ms) ys e = allRight-tail ms ys (and-right (p m) (allRight p (ms ++ ys)) e)
 
 -- ---- the parts
-
-and-four : (a b c d : Bool) → (a && b && c && d) ≡ true → (a ≡ true) × (b ≡ true) × (c ≡ true) × (d ≡ true)
-and-four a b c d e = let p = and-three a b c (and-left (a && b && c) d e) in (p .0, p .1, p .2, and-right (a && b && c) d e)
 
 some-not-none : {M : Type 0} {m : M} {ms : List M} → m ∷ ms ≡ [] → ⊥
 some-not-none e = let z : _≡_ {A = ℕ} 0 1 = cc in omega arith
@@ -90,13 +87,14 @@ module _ {P M : Type 0} (ρ : Rules P M) (r : Machine P M) where
   wellFormed-parts e =
       let records : ℕ → Bool = λ p. ρ .recordRight (r .waits) p (r .process p) in
       let links : Bool = allTo (r .waits .n) (λ a. allTo (r .waits .n) (λ b. pairRight a b)) in
-      let heads : Bool = ρ .room r && isProcess (r .waits .n) (r .start) && leb (r .count) (ρ .most) in
+      let heads : Bool = ρ .room r && isProcess (r .waits .n) (r .start) && ρ .editionRight (r .edition) && leb (r .count) (ρ .most) in
       let most = and-three heads (allTo (r .waits .n) records) links e in
-      let head = and-three (ρ .room r) (isProcess (r .waits .n) (r .start)) (leb (r .count) (ρ .most)) (most .0) in
+      let head = and-four (ρ .room r) (isProcess (r .waits .n) (r .start)) (ρ .editionRight (r .edition)) (leb (r .count) (ρ .most)) (most .0) in
       record {
         room = head .0;
         start-in = isProcess-P (r .waits .n) (r .start) .0 (head .1);
-        count = leb-true (r .count) (ρ .most) (head .2);
+        edition = head .2;
+        count = leb-true (r .count) (ρ .most) (head .3);
         records = λ p i. allTo-at (r .waits .n) records (most .1) p (i .0) (i .1);
         short = λ a b pa pb. link-parts (most .2) a b pa pb .1;
         joined = λ a b pa pb. link-parts (most .2) a b pa pb .0;
@@ -106,9 +104,10 @@ module _ {P M : Type 0} (ρ : Rules P M) (r : Machine P M) where
   formed-wellFormed : Formed ρ r → wellFormed ρ r ≡ true
   unfolding wellFormed
   formed-wellFormed f =
-      and-both _ _ (and-both _ _ (and-both _ _ (and-both _ _
+      and-both _ _ (and-both _ _ (and-both _ _ (and-both _ _ (and-both _ _
       (f .room)
       (isProcess-P (r .waits .n) (r .start) .1 (f .start-in)))
+      (f .edition))
       (le-leb (r .count) (ρ .most) (f .count)))
       (allTo-of (r .waits .n) _ (λ p l u. f .records p (l, u))))
       (allTo-of (r .waits .n) _ (λ a la ua. allTo-of (r .waits .n) _ (λ b lb ub. right a b (la, ua) (lb, ub))))
@@ -198,6 +197,7 @@ module _ {P M : Type 0} (ρ : Rules P M) (r : Machine P M) (f : Formed ρ r) (a 
       record {
         room = h .room;
         start-in = f .start-in;
+        edition = f .edition;
         count = h .count;
         records = λ p i. own p i (same? p b);
         short = λ x y px py. shorts h x y px py (same? x b);

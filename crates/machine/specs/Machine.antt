@@ -1,12 +1,12 @@
 -- The state of a check and the delivery of one message (01, "Run and links" and "Steps"), over any type P of process records and any type
 -- M of messages: what a check's own rules are is handed in.
---   Machine P M          == the waits, the start, the accepted deliveries, a record for each process, a link for each ordered pair
+--   Machine P M          == the waits, the start, the edition, the accepted deliveries, a record for each process, a link for each ordered pair
 --   Left P M             == what a step leaves: the record, and for each process what is sent to it
 --   Rules P M            == what a check hands in: its records, its messages, its step, and its ranges
 --   over ρ r             == "It is over exactly while num of its start is 0."
 --   allRight p ms, linkRight ρ ms   == every message of a link is well formed; a link holds at most so many of them
 --   wellFormed ρ r       == every value in its range, the start 1 to N, every link at most so many messages, each well formed
---   startRun ρ w s       == "Start at s"
+--   startRun ρ w s ed    == "Start at s", under the edition ed (02, N4)
 --   leftBy ρ r a b m     == the receiver's step: b receives m from a
 --   taken r a b rest     == the links once a message is off the link from a to b, where rest stays
 --   after ρ r a b m rest == the run after the delivery of m from a to b, where rest stays on the link
@@ -25,6 +25,8 @@ use Rattle.tables.specs.{Table.isProcess, Waits.Waits, Waits.neighbours}
 pub record Machine (P M : Type 0) : Type 0 where
   pub waits : Waits
   pub start : ℕ
+  -- "the edition named at start" (02, N4); 0 in a check whose start takes none
+  pub edition : ℕ
   pub count : ℕ
   pub process : ℕ → P
   pub link : ℕ → ℕ → List M
@@ -46,6 +48,8 @@ pub record Rules (P M : Type 0) : Type 0 where
   -- the receiver's step, by waits, start, sender, receiver, message and record; and that it takes no value out of its range
   pub step : Waits → ℕ → ℕ → ℕ → M → P → Left P M
   pub fits : Waits → ℕ → ℕ → ℕ → M → P → Bool
+  -- the editions that a start may name (02, N4)
+  pub editionRight : ℕ → Bool
   -- the ranges of a record, by waits and process, and of a message
   pub recordRight : Waits → ℕ → P → Bool
   pub messageRight : M → Bool
@@ -81,18 +85,19 @@ module _ {P M : Type 0} (ρ : Rules P M) where
   -- has one link", so between others nothing waits
   unfoldable pub wellFormed : Machine P M → Bool
   wellFormed r =
-      ρ .room r && isProcess (r .waits .n) (r .start) && leb (r .count) (ρ .most) &&
+      ρ .room r && isProcess (r .waits .n) (r .start) && ρ .editionRight (r .edition) && leb (r .count) (ρ .most) &&
       allTo (r .waits .n) (λ p. ρ .recordRight (r .waits) p (r .process p)) &&
       allTo (r .waits .n) (λ a. allTo (r .waits .n) (λ b. (neighbours (r .waits) a b || eqb (length (r .link a b)) 0) && linkRight (r .link a b)))
 
   -- ---- start
 
   -- "All values 0", but for the start's; the start has sent its probes
-  unfoldable pub startRun : Waits → ℕ → Machine P M
-  startRun w s =
+  unfoldable pub startRun : Waits → ℕ → ℕ → Machine P M
+  startRun w s ed =
       record {
         waits = w;
         start = s;
+        edition = ed;
         count = 0;
         process = λ p. choose (eqb p s) (ρ .first w s) (ρ .idle);
         link = λ a b. choose (eqb a s) (ρ .firstTo w s b) [];
@@ -111,6 +116,7 @@ module _ {P M : Type 0} (ρ : Rules P M) where
       record {
         waits = r .waits;
         start = r .start;
+        edition = r .edition;
         count = r .count + 1;
         process = λ p. choose (eqb p b) (leftBy r a b m .process) (r .process p);
         link = λ x y. choose (eqb x b) (taken r a b rest x y ++ leftBy r a b m .sent y) (taken r a b rest x y);

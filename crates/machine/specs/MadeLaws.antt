@@ -1,6 +1,6 @@
 -- Picks, running on and lists of calls are accepted deliveries: the one induction over running on, and over lists.
 --   answered-listed     == the numbers that may be answered, in a list
---   made-waits, made-start, made-count   == what deliveries keep, and how they count
+--   made-waits, made-start, made-edition, made-count   == what deliveries keep, and how they count
 --   made-then           == deliveries after deliveries
 --   made-keeps          == what every accepted delivery keeps holds after any number of them
 --   deliver-cut, deliver-oldest   == a delivery by what is found at its place; place 1 is the oldest message
@@ -55,6 +55,12 @@ module _ {P M : Type 0} {ρ : Rules P M} {r : Machine P M} where
   unfolding after
   made-start none = refl
   made-start (more d a b pa pb m rest l e) = made-start d
+
+  -- "Open payments keep the edition they began under." (02, N4)
+  pub made-edition : {k : ℕ} {q : Machine P M} → Made ρ r k q → q .edition ≡ r .edition
+  unfolding after
+  made-edition none = refl
+  made-edition (more d a b pa pb m rest l e) = made-edition d
 
   pub made-count : {k : ℕ} {q : Machine P M} → Made ρ r k q → q .count ≡ r .count + k
   unfolding after

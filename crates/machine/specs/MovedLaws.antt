@@ -77,17 +77,17 @@ module _ {P M : Type 0} (ρ : Rules P M) where
       has : (μ : M → ℕ) → μ m ≤ weight μ (r .link a b)
       has μ = omega (arith, among-weight l μ)
 
-  pub start-at : (w : Waits) (s : ℕ) (Q : P → Type 0) → Q (ρ .first w s) → Q (ρ .idle) → (i : ℕ) → Q (startRun ρ w s .process i)
+  pub start-at : (w : Waits) (s ed : ℕ) (Q : P → Type 0) → Q (ρ .first w s) → Q (ρ .idle) → (i : ℕ) → Q (startRun ρ w s ed .process i)
   unfolding startRun
-  start-at w s Q own rest i = at (same? i s)
+  start-at w s ed Q own rest i = at (same? i s)
     where
       at : Same i s → Q (choose (eqb i s) (ρ .first w s) (ρ .idle))
       at (same _ e) = rw e own
       at (apart _ e) = rw e rest
 
-  pub start-own : (w : Waits) (s : ℕ) → startRun ρ w s .process s ≡ ρ .first w s
+  pub start-own : (w : Waits) (s ed : ℕ) → startRun ρ w s ed .process s ≡ ρ .first w s
   unfolding startRun
-  start-own w s = rw (eq-eqb s s refl)
+  start-own w s ed = rw (eq-eqb s s refl)
 
 -- ---- sums
 

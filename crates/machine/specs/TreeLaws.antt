@@ -34,11 +34,11 @@ module _ {P M : Type 0} {ρ : Rules P M} {quota : Quota P} {w : Waits} {s : ℕ}
 
 -- ---- the start
 
-pub treed-start : {P M : Type 0} {ρ : Rules P M} {quota : Quota P} {w : Waits} {s : ℕ} → Begins ρ quota w s → Treed ρ w s (startRun ρ w s)
+pub treed-start : {P M : Type 0} {ρ : Rules P M} {quota : Quota P} {w : Waits} {s : ℕ} (ed : ℕ) → Begins ρ quota w s → Treed ρ w s (startRun ρ w s ed)
 unfolding startRun
-treed-start {ρ = ρ} {w = w} {s = s} bg = record { leads = λ j _ off busy. at j (same? j s) off busy }
+treed-start {ρ = ρ} {w = w} {s = s} ed bg = record { leads = λ j _ off busy. at j (same? j s) off busy }
   where
-    at : (j : ℕ) → Same j s → (j ≡ s → ⊥) → 1 ≤ ρ .num (choose (eqb j s) (ρ .first w s) (ρ .idle)) → Leads ρ w s (startRun ρ w s) j
+    at : (j : ℕ) → Same j s → (j ≡ s → ⊥) → 1 ≤ ρ .num (choose (eqb j s) (ρ .first w s) (ρ .idle)) → Leads ρ w s (startRun ρ w s ed) j
     at j (same e _) off busy = absurd (off e)
     at j (apart _ f) off busy = let none : 1 ≤ 0 = rw (f, bg .idle) at busy in absurd (omega arith)
 

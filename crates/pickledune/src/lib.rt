@@ -73,13 +73,18 @@ pub extern "C" fn pickledune_next(table: &[u8], chain: u32, arc: usize) -> usize
     table_values::next_arc(table_reader::next(table, table_values::chain_of(chain), arc))
 }
 
-// Starts a check in the lent words. 1 to 9.
+// Starts a check in the lent words, under edition 1 or 2. 1 to 8, 30, 9.
 #[no_mangle]
-pub extern "C" fn pickledune_start(table: &[u8], start: usize, area: &mut [i32]) -> u32
-    ensures number { λ r. ⌜ r ≡ startedNumber (startAnswer (now (table .entry)) start (now (area .entry))) ⌝ }
-    ensures area { λ _. ⌜ now (area .exit) ≡ startArea (now (table .entry)) start (now (area .entry)) ⌝ }
+pub extern "C" fn pickledune_start(
+    table: &[u8],
+    start: usize,
+    edition: usize,
+    area: &mut [i32],
+) -> u32
+    ensures number { λ r. ⌜ r ≡ startedNumber (startAnswer (now (table .entry)) start edition (now (area .entry))) ⌝ }
+    ensures area { λ _. ⌜ now (area .exit) ≡ startArea (now (table .entry)) start edition (now (area .entry)) ⌝ }
 {
-    check_values::started_number(starting::start(table, start, area))
+    check_values::started_number(starting::start(table, start, edition, area))
 }
 
 // Delivers the message at a place of one link, 1 for the oldest: its kind and count. 21, 25, 23, 24, 31, 22.

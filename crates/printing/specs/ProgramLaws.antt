@@ -3,7 +3,7 @@
 --   program-wrong     == an area that is not well formed stays as it is
 --   program-refused, program-begun   == a refused input, and one that is begun
 --   program-over      == "it runs on to the end": the run in the area of a begun input is over at the end
---   program-ended     == .. and it is what 01 says of the end of a check, of the input's table and start process
+--   program-ended     == .. and it is what 01 says of the end of a check, of the input's table, start process and edition
 -- Assumes nothing.
 use Prim.Native.Nat.{ℕ}
 use mathlib.Core.Bool.{true, false}
@@ -22,7 +22,7 @@ use Rattle.area_calls.specs.AreaCalls.{runOnArea, areaPassed}
 use Rattle.area_calls.specs.CallLaws.{passed-then, passed-21}
 use Rattle.area_ending.specs.AreaEnding.{area-ending}
 use Rattle.area_ending.specs.AreaEndingLaws.{area-over-most}
-use Rattle.inputs.specs.Input.{startIn, tableIn, begunNumber, begunArea}
+use Rattle.inputs.specs.Input.{startIn, editionIn, tableIn, begunNumber, begunArea}
 use Rattle.inputs.specs.InputLaws.{begun-started, begun-kept}
 use Rattle.printing.specs.Program.{pickCalls, programCalls, programArea}
 
@@ -44,17 +44,17 @@ module _ (bs : List ℕ) (w : List ℤ) where
 
 module _ (bs : List ℕ) (w : List ℤ) (e : begunNumber bs w ≡ 0) where
   -- the area at the end is what the program's calls leave of the area that the start left
-  started : programArea bs w ≡ areaPassed (programCalls bs) (startArea (tableIn bs) (startIn bs) w) .left
+  started : programArea bs w ≡ areaPassed (programCalls bs) (startArea (tableIn bs) (startIn bs) (editionIn bs) w) .left
   started =
       let b = begun-started bs w e in
       sym (program-begun bs w e refl) ∙ ap (λ (v : List ℤ). areaPassed (programCalls bs) v .left) (b .2)
 
   pub program-over : over (runIn (programArea bs w)) ≡ true
   program-over =
-      rw (started, ← program-then bs (startArea (tableIn bs) (startIn bs) w))
-      (area-over-most (tableIn bs) (startIn bs) w (begun-started bs w e .1) (pickCalls bs))
+      rw (started, ← program-then bs (startArea (tableIn bs) (startIn bs) (editionIn bs) w))
+      (area-over-most (tableIn bs) (startIn bs) (editionIn bs) w (begun-started bs w e .1) (pickCalls bs))
 
-  pub program-ended : Ended (waitsOf (fieldOf (tableIn bs))) (startIn bs) (runIn (programArea bs w))
+  pub program-ended : Ended (waitsOf (fieldOf (tableIn bs))) (startIn bs) (editionIn bs) (runIn (programArea bs w))
   program-ended =
-      let ended = area-ending (tableIn bs) (startIn bs) w (begun-started bs w e .1) (programCalls bs) .promise .ended in
+      let ended = area-ending (tableIn bs) (startIn bs) (editionIn bs) w (begun-started bs w e .1) (programCalls bs) .promise .ended in
       rw started (ended (rw started at program-over))

@@ -1,23 +1,33 @@
 -- A report by its parts.
 --   wayOut-found, wayOut-first, wayOut-none   == a way out was found before; this is the first; there is none yet
 --   escape-first, escape-next, escape-last   == the loop that looks for the escape: before the first process, after one more, after the last
---   report-told                  == the report at the end, made of the start's record, the count and the escape
+--   allowed-first, allowed-second   == what the edition asks, under the first and the second
+--   report-told                  == the report at the end, made of the start's record, the verdict, the count and the escape
 -- Assumes nothing.
 use Prim.Native.Nat.{ℕ, zero, suc, _+_, _-_, _≤_}
-use mathlib.Core.Bool.{true}
+use mathlib.Core.Bool.{Bool, true, not, false≢true}
+use mathlib.Core.Logic.{_↔_}
 use mathlib.Core.List.{List}
 use mathlib.Core.Path.{_≡_, refl, sym, ap, _∙_}
 use native.Mathlib.Omega.{arith}
 use borrow.Author.Tests.{eq-eqb, ne-eqb}
+use lib.Dec.{eqb}
 use lib.IntN.{ℤ}
+use Rattle.base.specs.ChoiceLaws.{tested, same?}
+use Rattle.base.specs.Checks.{Tested, passed, failed, Same, same, apart}
 use Rattle.base.specs.PrefixLaws.{lowestTo-none, lowestTo-more}
+use Rattle.tables.specs.Table.{IsProcess}
+use Rattle.tables.specs.Sound.{Sound}
+use Rattle.tables.specs.Waits.{outDegree}
 use Rattle.steps.specs.declared.Process.{Process}
 use Rattle.checks.specs.Run.{Run, over}
-use Rattle.checks.specs.Calls.{isSubordinate, escapeOf, reported}
+use Rattle.checks.specs.Calls.{isSubordinate, escapeOf, verdictOf, reported}
+use Rattle.checks.specs.Reach.{someByArcs, editionAllows}
+use Rattle.checks.specs.ReachLaws.{someByArcs-waits}
 use Rattle.areas.specs.Area.{runIn, areaRight}
 use Rattle.area_calls.specs.AreaCalls.{reportAnswer}
 use Rattle.area_calls.specs.CallLaws.{report-over}
-use Rattle.reports.specs.Told.{escapeTo, wayOut, toldOf}
+use Rattle.reports.specs.Told.{escapeTo, wayOut, allowedIn, knotBy, toldOf}
 
 -- ---- the escape, process by process
 
@@ -50,9 +60,31 @@ escape-last r n p e is last all =
     let end : p - 1 ≡ r .waits .n = omega arith in
     all ∙ ap (escapeTo r) end
 
+-- ---- the edition
+
+-- 02, N4, by the number of those whom the start waits for
+module _ (r : Run) (ok : Sound (r .waits)) (i : IsProcess (r .waits .n) (r .start)) where
+  pub allowed-first : (r .edition ≡ 2 → ⊥) → true ≡ allowedIn r
+  unfolding editionAllows
+  allowed-first h = rw (ne-eqb (r .edition) 2 h)
+
+  pub allowed-second : (d : ℕ) → r .edition ≡ 2 → d ≡ outDegree (r .waits) (r .start) → not (eqb d 0) ≡ allowedIn r
+  unfolding editionAllows
+  allowed-second d two is = rw (eq-eqb (r .edition) 2 two) (at (tested (someByArcs (r .waits) (r .start))) (same? d 0))
+    where
+      waits : (someByArcs (r .waits) (r .start) ≡ true) ↔ (1 ≤ outDegree (r .waits) (r .start))
+      waits = someByArcs-waits (r .waits) ok (r .start) i
+
+      at : Tested (someByArcs (r .waits) (r .start)) → Same d 0 → not (eqb d 0) ≡ someByArcs (r .waits) (r .start)
+      at (passed e) (same z f) = absurd (omega (arith, waits .0 e, is, z))
+      at (passed e) (apart z f) = rw (e, f)
+      at (failed e) (same z f) = rw (e, f)
+      at (failed e) (apart z f) = absurd (false≢true (sym e ∙ waits .1 (omega arith)))
+
 -- ---- the report at the end
 
-pub report-told : (w : List ℤ) → areaRight w ≡ true → over (runIn w) ≡ true → (x : Process) (d e : ℕ) → x ≡ runIn w .process (runIn w .start)
-    → d ≡ runIn w .count → e ≡ escapeOf (runIn w) → toldOf x d e ≡ reportAnswer w
-unfolding reported
-report-told w right o x d e p q s = rw (p, q, s) (report-over w right o)
+pub report-told : (w : List ℤ) → areaRight w ≡ true → over (runIn w) ≡ true → (x : Process) (a k : Bool) (d e : ℕ)
+    → x ≡ runIn w .process (runIn w .start) → a ≡ allowedIn (runIn w) → k ≡ knotBy x a → d ≡ runIn w .count → e ≡ escapeOf (runIn w)
+    → toldOf x k d e ≡ reportAnswer w
+unfolding reported verdictOf
+report-told w right o x a k d e p v f q s = rw (f, p, v, q, s) (report-over w right o)

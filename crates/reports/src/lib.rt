@@ -2,6 +2,7 @@
 // changes a word.
 use area_tests::testing;
 use area_tests::testing::Sizes;
+use areas::squares;
 use checks::Mark;
 use checks::Reading;
 use checks::Report;
@@ -9,6 +10,7 @@ use checks::Verdict;
 use lenses::heading;
 use lenses::records;
 use steps::Process;
+use tables::Chain;
 use tables::is_process;
 ghost use mathlib.Core.Path.{_≡_};
 ghost use Prim.Native.Nat.{_+_};
@@ -16,7 +18,7 @@ ghost use Rattle.areas.specs.Area.{runIn};
 ghost use Rattle.checks.specs.Calls.{escapeOf};
 ghost use Rattle.lenses.specs.Ready.{Ready};
 ghost use Rattle.area_calls.specs.AreaCalls.{reportAnswer, readAnswer};
-ghost use Rattle.reports.specs.Told.{wayOut, toldOf};
+ghost use Rattle.reports.specs.Told.{wayOut, allowedIn, knotBy, toldOf};
 
 // The way out that was found before, or else process p, if it is one.
 fn way_out(found: u32, x: Process, p: u32) -> u32
@@ -45,12 +47,41 @@ fn escape_of(area: &[i32], square: &[u16; tables::SQUARE_SIZE], n: usize, m: usi
     found
 }
 
-// The report by the start's record.
-fn told(start: Process, deliveries: u32, escape: u32) -> Report
-    ensures { λ r. ⌜ r ≡ toldOf start deliveries escape ⌝ }
+// 02, N4: what the edition asks of a knot in addition: nothing under the first, under the second that the start waits for somebody.
+fn edition_allows(
+    area: &[i32],
+    square: &[u16; tables::SQUARE_SIZE],
+    n: usize,
+    m: usize,
+    s: usize,
+) -> bool
+    requires { ⌜ Ready (now area) (now square) n m ⌝ }
+    requires { ⌜ s ≡ runIn (now area) .start ⌝ }
+    ensures { λ r. ⌜ r ≡ allowedIn (runIn (now (area .entry))) ⌝ }
+{
+    if heading::edition_of(area, square, n, m) != 2 {
+        return true;
+    }
+    squares::degree(square, n, Chain::Out, s) != 0
+}
+
+// The verdict is knot: the start's sum is 0, and the edition allows it.
+fn is_knot(start: Process, allowed: bool) -> bool
+    ensures { λ r. ⌜ r ≡ knotBy start allowed ⌝ }
 {
     let cs = start.cs;
-    if cs == 0 {
+    if cs != 0 {
+        return false;
+    }
+    allowed
+}
+
+// The report by the start's record and the verdict.
+fn told(start: Process, knot: bool, deliveries: u32, escape: u32) -> Report
+    ensures { λ r. ⌜ r ≡ toldOf start knot deliveries escape ⌝ }
+{
+    let cs = start.cs;
+    if knot {
         return Report::Over {
             deliveries,
             verdict: Verdict::Knot,
@@ -82,8 +113,10 @@ pub fn report(area: &[i32]) -> Report
     let escape = escape_of(area, &square, n, m);
     let s = heading::start_of(area, &square, n, m);
     let x = records::process(area, &square, n, m, s);
+    let allowed = edition_allows(area, &square, n, m, s);
+    let knot = is_knot(x, allowed);
     let deliveries = heading::count_of(area, &square, n, m);
-    told(x, deliveries, escape)
+    told(x, knot, deliveries, escape)
 }
 
 // The record of process p: 21, 25.

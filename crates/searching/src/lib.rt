@@ -1,6 +1,7 @@
 // A plain search of a wait graph, written apart from the library that it judges: its own reader of the waits in a table's bytes, its own
-// reachability, and the numbers of "The end of a check" (01; escape: 02, N1) found from them. It stands on no other crate and refuses
-// nothing: past the bytes, or for numbers that are no process, it finds nothing. It promises only that it is safe and ends.
+// reachability, and the numbers of "The end of a check" (01; escape: 02, N1) and the verdict by each edition (02, N4) found from them. It
+// stands on no other crate and refuses nothing: past the bytes, or for numbers that are no process, it finds nothing. It promises only that
+// it is safe and ends.
 //
 // What it finds stands in 131 rows of 129 cells: in row p for whom p waits, in row 129 who is reachable from the start, in row 130 who
 // reaches it.
@@ -188,4 +189,23 @@ pub fn lowest_outsider(found: &[bool; 16899]) -> u32 {
         }
     }
     0
+}
+
+// Whether someone is reached from the start by one arc or more: an arc leads there from one who is reachable.
+fn is_one_reached(found: &[bool; 16899]) -> bool {
+    for k in 0..16641 {
+        if found[k] && cell(found, AFTER, k / 129) {
+            return true;
+        }
+    }
+    false
+}
+
+// Whether the start is in a knot: by the first edition "exactly if all processes reachable from the start reach it"; by the second "in
+// addition, at least one process must be reachable by one arc or more, so a loop is enough" (02, N4).
+pub fn is_knot(found: &[bool; 16899], edition: usize) -> bool {
+    if outsiders(found) > 0 {
+        return false;
+    }
+    edition == 1 || is_one_reached(found)
 }

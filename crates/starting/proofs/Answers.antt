@@ -1,43 +1,49 @@
 -- Laws on the answer of a start, one for each way that the code goes.
 --   start-read       == reading the table refused
---   start-8, start-9 == the table is accepted; s is no process; the area is too short
+--   Met, start-met   == the table is accepted, and what the rows 8, 30 and 9 then say
+--   start-row        == one of these is met
 --   start-ready      == all is accepted
 --   start-few        == N and M of an accepted table are small
 --   startable        == what all the checks leave
 -- Assumes nothing.
-use Prim.Native.Nat.{ℕ, zero, suc, _≤_, _<_}
-use mathlib.Core.Bool.{true, false}
+use Prim.Native.Nat.{ℕ, zero, suc, _≤_}
+use mathlib.Core.Bool.{Bool}
 use mathlib.Core.List.{List}
 use mathlib.Core.Path.{_≡_, refl, sym, _∙_}
-use native.Mathlib.Omega.{arith}
-use borrow.Author.Tests.{ne-eqb, lt-ltb, le-ltb}
+use borrow.Author.Tests.{ne-eqb}
+use lib.Dec.{ltb}
 use lib.ListN.{length}
 use lib.IntN.{ℤ}
-use Rattle.tables.specs.TableLaws.{isProcess-P}
 use Rattle.tables.specs.declared.Reading.{Reading}
 use Rattle.tables.specs.Table.{fieldOf, nOf, mOf, mostProcesses, mostArcs, isProcess}
 use Rattle.tables.specs.Reading.{readNumber, readingOf}
-use Rattle.tables.specs.LayoutLaws.{accepted-P}
 use Rattle.tables.specs.Waits.{waitsOf}
-use Rattle.checks.specs.Run.{startRun}
+use Rattle.checks.specs.Run.{isEdition, startRun}
 use Rattle.areas.specs.Places.{areaLength}
 use Rattle.areas.specs.Area.{stored}
 use Rattle.starting.specs.declared.Started.{Started}
-use Rattle.starting.specs.Starting.{Startable}
+use Rattle.starting.specs.Starting.{rowMet, Startable}
+use Rattle.starting.specs.StartingLaws.{startNumber-startable}
 use Rattle.starting.specs.StartCall.{startNumber, startAnswer, startArea}
 use Rattle.tables.specs.ReadingLaws.{refused-told, accepted-told}
 
 -- the answer a and the area l are those of a start
-abbrev pub Starts : List ℕ → ℕ → List ℤ → Started → List ℤ → Type 0
-Starts bs s w a l = (a ≡ startAnswer bs s w) × (l ≡ startArea bs s w)
+abbrev pub Starts : List ℕ → ℕ → ℕ → List ℤ → Started → List ℤ → Type 0
+Starts bs s ed w a l = (a ≡ startAnswer bs s ed w) × (l ≡ startArea bs s ed w)
 
-module _ (bs : List ℕ) (s : ℕ) (w : List ℤ) where
-  refused : (r : ℕ) → startNumber bs s w ≡ r → (r ≡ 0 → ⊥) → Starts bs s w (Started.Refused r) w
+-- an accepted table with its N and M, and k the first of 8, 30 and 9 that is met
+pub record Met (bs : List ℕ) (s ed : ℕ) (w : List ℤ) (n m k : ℕ) : Type 0 where
+  pub number-is : startNumber bs s ed w ≡ k
+  pub n-is : n ≡ nOf (fieldOf bs)
+  pub m-is : m ≡ mOf (fieldOf bs)
+
+module _ (bs : List ℕ) (s ed : ℕ) (w : List ℤ) where
+  refused : (r : ℕ) → startNumber bs s ed w ≡ r → (r ≡ 0 → ⊥) → Starts bs s ed w (Started.Refused r) w
   unfolding startAnswer startArea
   refused zero e d = absurd (d refl)
   refused (suc r) e d = rw (e, ne-eqb (suc r) 0 d) (refl, refl)
 
-  pub start-read : (x : Reading) → x ≡ readingOf bs → (r : ℕ) → x ≡ Reading.Refused r → Starts bs s w (Started.Refused r) w
+  pub start-read : (x : Reading) → x ≡ readingOf bs → (r : ℕ) → x ≡ Reading.Refused r → Starts bs s ed w (Started.Refused r) w
   unfolding startNumber
   start-read x ex r e =
       let told = refused-told bs r (sym ex ∙ e) in
@@ -56,38 +62,20 @@ module _ (bs : List ℕ) (s : ℕ) (w : List ℤ) where
     pub start-few : (n ≤ mostProcesses) × (m ≤ mostArcs)
     start-few = (accepted-told bs n m (sym ex ∙ e) .few, accepted-told bs n m (sym ex ∙ e) .arcs-few)
 
-    pub start-8 : isProcess n s ≡ false → Starts bs s w (Started.Refused 8) w
+    pub start-met : {process named short : Bool} → process ≡ isProcess n s → named ≡ isEdition ed → short ≡ ltb (length w) (areaLength n m)
+        → {k : ℕ} → k ≡ rowMet process named short → Met bs s ed w n m k
     unfolding startNumber
-    start-8 h =
-        let p : isProcess (nOf (fieldOf bs)) s ≡ false = rw start-n at h in
-        refused 8 (rw (number, p)) (λ z. omega arith)
+    start-met ep ev el ek = record { number-is = rw (number, ← start-n, ← start-m, ek, ep, ev, el) refl; n-is = start-n; m-is = start-m }
 
-    module _ (h : isProcess n s ≡ true) where
-      process : isProcess (nOf (fieldOf bs)) s ≡ true
-      process = rw start-n at h
+module _ {bs : List ℕ} {s ed : ℕ} {w : List ℤ} {n m k : ℕ} (h : Met bs s ed w n m k) where
+  -- 8, 30 or 9
+  pub start-row : (k ≡ 0 → ⊥) → Starts bs s ed w (Started.Refused k) w
+  start-row d = refused bs s ed w k (h .number-is) d
 
-      pub start-9 : length w < areaLength n m → Starts bs s w (Started.Refused 9) w
-      unfolding startNumber
-      start-9 u =
-          refused 9
-          (rw (
-            number,
-            process,
-            lt-ltb (length w) (areaLength (nOf (fieldOf bs)) (mOf (fieldOf bs))) (omega (arith, start-n, start-m)),
-          ))
-          (λ z. omega arith)
+  module _ (z : k ≡ 0) where
+    pub startable : Startable bs n m s ed w
+    startable = rw (h .n-is, h .m-is) (startNumber-startable bs s ed w (h .number-is ∙ z))
 
-      module _ (u : areaLength n m ≤ length w) where
-        pub startable : Startable bs n m s w
-        startable = record { accepted = accepted-P bs .0 number; n-is = start-n; m-is = start-m; start-in = isProcess-P n s .0 h; long = u }
-
-        pub start-ready : (l : List ℤ) → l ≡ stored (fieldOf bs) (startRun (waitsOf (fieldOf bs)) s) w → Starts bs s w Started.Ready l
-        unfolding startNumber startAnswer startArea
-        start-ready l f =
-            let z : startNumber bs s w ≡ 0 =
-            rw (
-              number,
-              process,
-              le-ltb (length w) (areaLength (nOf (fieldOf bs)) (mOf (fieldOf bs))) (omega (arith, start-n, start-m)),
-            ) in
-            rw z (refl, f)
+    pub start-ready : (l : List ℤ) → l ≡ stored (fieldOf bs) (startRun (waitsOf (fieldOf bs)) s ed) w → Starts bs s ed w Started.Ready l
+    unfolding startAnswer startArea
+    start-ready l f = rw (h .number-is ∙ z) (refl, f)

@@ -7,7 +7,7 @@
 use Prim.Native.Nat.{ℕ, _≤_}
 use mathlib.Core.Bool.{true}
 use mathlib.Core.List.{List}
-use mathlib.Core.Path.{_≡_, sym, ap, _∙_, subst}
+use mathlib.Core.Path.{_≡_, sym, ap, ap₂, _∙_, subst}
 use native.Mathlib.Omega.{arith}
 use lib.ListN.{length}
 use lib.IntN.{ℤ}
@@ -18,7 +18,9 @@ use Rattle.tables.specs.Waits.{waitsOf}
 use Rattle.tables.specs.WaitsLaws.{waitsOf-sound}
 use Rattle.steps.specs.declared.Process.{Process}
 use Rattle.steps.specs.Step.{inRange}
-use Rattle.checks.specs.Run.{Run, fatherRight, started, startRun}
+use Rattle.machine.specs.FormedLaws.{wellFormed-P}
+use Rattle.checks.specs.Run.{Run, IsEdition, knot, fatherRight, started, startRun}
+use Rattle.checks.specs.RunLaws.{isEdition-P}
 use Rattle.areas.specs.Area.{stored, fieldsIn, runIn, keeping}
 use Rattle.areas.specs.Replaced.{putProcess}
 use Rattle.areas.specs.StoredLaws.{stored-again}
@@ -29,7 +31,7 @@ use Rattle.areas.specs.Squares.{Square}
 use Rattle.lenses.specs.Changes.{spread}
 use Rattle.lenses.specs.Storable.{Storable}
 use Rattle.lenses.specs.Ready.{Ready}
-use Rattle.lenses.specs.ReadyLaws.{keeping-run, keeping-again, ready-kept}
+use Rattle.lenses.specs.ReadyLaws.{right-storable, keeping-run, keeping-again, ready-kept}
 use Rattle.starting.specs.Starting.{quiet, begun, sucSent, startedFrom, Startable, Unbegun}
 use Rattle.starting.specs.StartingLaws.{quiet-fit, begun-fit, begun-room, sucSent-fit, sucSent-room, startRun-made, started-inRange}
 use Rattle.starting.specs.StartingLaws.{started-father, startedFrom-is, accepted-table}
@@ -61,6 +63,12 @@ module _ {w : List ℤ} {sq : List ℕ} {n m s : ℕ} (k : Unbegun w sq n m s) w
   unfolding waitsOf
   process = rw (k .ready .n-is) at (k .start-in)
 
+  abbrev edition : ℕ
+  edition = runIn w .edition
+
+  named : IsEdition edition
+  named = isEdition-P edition .0 (wellFormed-P knot (runIn w) .0 (right-storable w (k .ready .right) .formed) .edition)
+
   pub few : (n ≤ mostProcesses) × (s ≤ mostProcesses)
   few = omega (arith, k .start-in, k .ready .n-is, table .right .sizes .1)
 
@@ -75,65 +83,73 @@ module _ {w : List ℤ} {sq : List ℕ} {n m s : ℕ} (k : Unbegun w sq n m s) w
     pub record-father : fatherRight (runIn w .waits) s x ≡ true
     record-father = rw record-is (started-father (waitsOf (fieldsIn w)) (runIn w .waits) s)
 
-    pub put-stage : (new : List ℤ) → new ≡ keeping w (putProcess (runIn w) s x) → Stage w sq n m (begun (fieldsIn w) s) new
+    pub put-stage : (new : List ℤ) → new ≡ keeping w (putProcess (runIn w) s x) → Stage w sq n m (begun (fieldsIn w) s edition) new
     unfolding begun
     put-stage new f =
-        stage-of w sq n m (k .ready) (begun (fieldsIn w) s) (begun-fit (fieldsIn w) (table .right) s process) new
+        stage-of w sq n m (k .ready) (begun (fieldsIn w) s edition) (begun-fit (fieldsIn w) (table .right) s process edition named) new
         (f
         ∙ ap (λ (r : Run). keeping w (putProcess r s x)) (k .run)
-        ∙ ap (λ (z : Process). keeping w (putProcess (quiet (fieldsIn w) s) s z)) record-is)
+        ∙ ap (λ (z : Process). keeping w (putProcess (quiet (fieldsIn w) s edition) s z)) record-is)
 
-  module _ {one : List ℤ} (a : Stage w sq n m (begun (fieldsIn w) s) one) where
+  module _ {one : List ℤ} (a : Stage w sq n m (begun (fieldsIn w) s edition) one) where
     pub put-room : (q : ℕ) → length (runIn one .link s q) ≤ 3
-    put-room q = rw (a .run) (begun-room (fieldsIn w) (table .right) s process q)
+    put-room q = rw (a .run) (begun-room (fieldsIn w) (table .right) s process edition named q)
 
-    pub suc-stage : (new : List ℤ) → new ≡ keeping one (spread Out (runIn one) s) → Stage w sq n m (sucSent (fieldsIn w) s) new
+    pub suc-stage : (new : List ℤ) → new ≡ keeping one (spread Out (runIn one) s) → Stage w sq n m (sucSent (fieldsIn w) s edition) new
     unfolding sucSent
     suc-stage new f =
-        stage-of w sq n m (k .ready) (sucSent (fieldsIn w) s) (sucSent-fit (fieldsIn w) (table .right) s process) new
+        stage-of w sq n m (k .ready) (sucSent (fieldsIn w) s edition) (sucSent-fit (fieldsIn w) (table .right) s process edition named) new
         (f ∙ a .next (spread Out (runIn one) s) ∙ ap (λ (r : Run). keeping w (spread Out r s)) (a .run))
 
-  module _ {two : List ℤ} (b : Stage w sq n m (sucSent (fieldsIn w) s) two) where
+  module _ {two : List ℤ} (b : Stage w sq n m (sucSent (fieldsIn w) s edition) two) where
     pub suc-room : (q : ℕ) → length (runIn two .link s q) ≤ 3
-    suc-room q = rw (b .run) (sucSent-room (fieldsIn w) (table .right) s process q)
+    suc-room q = rw (b .run) (sucSent-room (fieldsIn w) (table .right) s process edition named q)
 
-    pub begin-made : (new : List ℤ) → new ≡ keeping two (spread In (runIn two) s) → new ≡ keeping w (startRun (waitsOf (fieldsIn w)) s)
+    pub begin-made : (new : List ℤ) → new ≡ keeping two (spread In (runIn two) s) → new ≡ keeping w (startRun (waitsOf (fieldsIn w)) s (runIn w .edition))
     begin-made new f =
         f
         ∙ b .next (spread In (runIn two) s)
         ∙ ap (λ (r : Run). keeping w (spread In r s)) (b .run)
-        ∙ ap (keeping w) (sym (startRun-made (fieldsIn w) sound s))
+        ∙ ap (keeping w) (sym (startRun-made (fieldsIn w) sound s edition))
 
 -- ---- from the quiet run of a table
 
-module _ {bs : List ℕ} {n m s : ℕ} {w : List ℤ} (k : Startable bs n m s w) (laid : List ℤ) (is : laid ≡ stored (fieldOf bs) (quiet (fieldOf bs) s) w) where
+module _ {bs : List ℕ} {n m s ed : ℕ} {w : List ℤ} (k : Startable bs n m s ed w) (laid : List ℤ)
+    (is : laid ≡ stored (fieldOf bs) (quiet (fieldOf bs) s ed) w) where
   fields : fieldsIn laid ≡ fieldOf bs
-  fields = ap fieldsIn is ∙ fieldsIn-stored (fieldOf bs) (quiet (fieldOf bs) s) w (accepted-table bs (k .accepted) .shut)
+  fields = ap fieldsIn is ∙ fieldsIn-stored (fieldOf bs) (quiet (fieldOf bs) s ed) w (accepted-table bs (k .accepted) .shut)
 
-  fit : Storable (fieldOf bs) (quiet (fieldOf bs) s)
+  fit : Storable (fieldOf bs) (quiet (fieldOf bs) s ed)
   unfolding waitsOf
-  fit = quiet-fit (fieldOf bs) (k .accepted .right) s (rw (k .n-is) at (k .start-in))
+  fit = quiet-fit (fieldOf bs) (k .accepted .right) s (rw (k .n-is) at (k .start-in)) ed (k .edition)
+
+  run-is : runIn laid ≡ quiet (fieldOf bs) s ed
+  run-is =
+      ap runIn is
+      ∙ runIn-stored (fieldOf bs) (quiet (fieldOf bs) s ed) w (k .accepted .right) (accepted-table bs (k .accepted) .shut) (fit .held) (fit .formed)
+
+  edition-is : runIn laid .edition ≡ ed
+  unfolding quiet
+  edition-is = ap (λ (r : Run). r .edition) run-is
 
   pub laid-unbegun : (sq : List ℕ) → Square (fieldOf bs) sq → Unbegun laid sq n m s
   laid-unbegun sq h =
       record {
         ready = record {
-          right = rw is (areaRight-stored (fieldOf bs) (quiet (fieldOf bs) s) w (accepted-table bs (k .accepted)) (fit .held) (fit .formed)
+          right = rw is (areaRight-stored (fieldOf bs) (quiet (fieldOf bs) s ed) w (accepted-table bs (k .accepted)) (fit .held) (fit .formed)
               (omega (arith, k .long, k .n-is, k .m-is)));
           square = subst (λ (t : Fields). Square t sq) (sym fields) h;
           n-is = k .n-is ∙ sym (ap nOf fields);
           m-is = k .m-is ∙ sym (ap mOf fields);
         };
         start-in = k .start-in;
-        run =
-            ap runIn is
-            ∙ runIn-stored (fieldOf bs) (quiet (fieldOf bs) s) w (k .accepted .right) (accepted-table bs (k .accepted) .shut) (fit .held) (fit .formed)
-            ∙ ap (λ (t : Fields). quiet t s) (sym fields);
+        run = run-is ∙ ap₂ (λ (t : Fields) (e : ℕ). quiet t s e) (sym fields) (sym edition-is);
       }
 
-  pub laid-begun : (new : List ℤ) → new ≡ keeping laid (startRun (waitsOf (fieldsIn laid)) s) → new ≡ stored (fieldOf bs) (startRun (waitsOf (fieldOf bs)) s) w
+  pub laid-begun : (new : List ℤ) → new ≡ keeping laid (startRun (waitsOf (fieldsIn laid)) s (runIn laid .edition))
+      → new ≡ stored (fieldOf bs) (startRun (waitsOf (fieldOf bs)) s ed) w
   laid-begun new e =
       e
-      ∙ ap (λ (t : Fields). stored t (startRun (waitsOf t) s) laid) fields
-      ∙ ap (stored (fieldOf bs) (startRun (waitsOf (fieldOf bs)) s)) is
-      ∙ stored-again (fieldOf bs) (startRun (waitsOf (fieldOf bs)) s) (quiet (fieldOf bs) s) w
+      ∙ ap₂ (λ (t : Fields) (v : ℕ). stored t (startRun (waitsOf t) s v) laid) fields edition-is
+      ∙ ap (stored (fieldOf bs) (startRun (waitsOf (fieldOf bs)) s ed)) is
+      ∙ stored-again (fieldOf bs) (startRun (waitsOf (fieldOf bs)) s ed) (quiet (fieldOf bs) s ed) w

@@ -1,7 +1,7 @@
 -- Laws on the area of a start before anything is sent, one for each step of the code.
 --   cleared-none, cleared-more   == no word is cleared, and one word more
 --   copied-none, copied-more     == no field is copied, and one field more
---   quiet-laid   == words cleared, fields copied, the check and the start named: the area of the quiet run
+--   quiet-laid   == words cleared, fields copied, the check, the start and the edition named: the area of the quiet run
 -- Assumes nothing.
 use Prim.Native.Nat.{ℕ, zero, suc, _+_, _≤_, _<_}
 use mathlib.Core.List.{List, []}
@@ -17,7 +17,8 @@ use Rattle.base.specs.ChoiceLaws.{same?}
 use Rattle.base.specs.Checks.{Same, same, apart}
 use Rattle.tables.specs.Table.{Fields}
 use Rattle.steps.specs.Step.{idle}
-use Rattle.areas.specs.Places.{headSize, fieldPlace}
+use Rattle.areas.specs.Places.{startPlace, editionPlace, headSize, fieldPlace}
+use Rattle.areas.specs.Used.{checkPlace}
 use Rattle.areas.specs.Area.{fieldTotalOf, recordPlace, linkPlace, headWord, flagsOf, recordWord, slotWord, linkWord, arcWord, wordOf, stored, areaOf}
 use Rattle.areas.specs.StoredLaws.{stored-of}
 use Rattle.areas.specs.WordLaws.{wordOf-head, wordOf-field, wordOf-record, wordOf-arc, place?}
@@ -65,13 +66,14 @@ copied-more t old new n h c =
 
 -- ---- the words of the quiet run
 
-module _ (t : Fields) (s : ℕ) where
-  quiet-head : (k : ℕ) → 2 ≤ k → headWord (quiet t s) k ≡ pos 0
+module _ (t : Fields) (s ed : ℕ) where
+  quiet-head : (k : ℕ) → 4 ≤ k → headWord (quiet t s ed) k ≡ pos 0
   unfolding quiet
   quiet-head zero h = absurd (omega arith)
   quiet-head (suc zero) h = absurd (omega arith)
-  quiet-head (suc (suc zero)) h = refl
-  quiet-head (suc (suc (suc k))) h = refl
+  quiet-head (suc (suc zero)) h = absurd (omega arith)
+  quiet-head (suc (suc (suc zero))) h = absurd (omega arith)
+  quiet-head (suc (suc (suc (suc k)))) h = refl
 
   idle-word : (j : ℕ) → recordWord idle j ≡ pos 0
   unfolding flagsOf
@@ -81,7 +83,7 @@ module _ (t : Fields) (s : ℕ) where
   idle-word (suc (suc (suc zero))) = refl
   idle-word (suc (suc (suc (suc j)))) = refl
 
-  quiet-record : (p j : ℕ) → recordWord (quiet t s .process p) j ≡ pos 0
+  quiet-record : (p j : ℕ) → recordWord (quiet t s ed .process p) j ≡ pos 0
   unfolding quiet
   quiet-record p j = idle-word j
 
@@ -93,19 +95,41 @@ module _ (t : Fields) (s : ℕ) where
   unfolding linkWord slotWord
   empty-word j = either (ltb j 4)
 
-  quiet-arc : (k j : ℕ) → arcWord t (quiet t s) k j ≡ pos 0
+  quiet-arc : (k j : ℕ) → arcWord t (quiet t s ed) k j ≡ pos 0
   unfolding arcWord quiet
   quiet-arc k j = simp (empty-word, either)
 
   module _ (w a b : List ℤ) (long : areaOf t ≤ length w) (cleared : Cleared w (areaOf t) a) (copied : Copied t a (fieldTotalOf t) b) where
-    laid : List ℤ
-    laid = set (set b 0 (pos 1)) 1 (pos s)
+    one : List ℤ
+    one = set b checkPlace (pos 1)
 
-    others : (k : ℕ) → 2 ≤ k → getD laid k (pos 0) ≡ getD b k (pos 0)
-    unfolding laid
-    others k h =
-        getD-set-other (set b 0 (pos 1)) 1 k (pos s) (pos 0) (λ e. omega arith)
-        ∙ getD-set-other b 0 k (pos 1) (pos 0) (λ e. omega arith)
+    two : List ℤ
+    two = set one startPlace (pos s)
+
+    laid : List ℤ
+    laid = set two editionPlace (pos ed)
+
+    -- the words that are not named stay
+    unnamed : (k : ℕ) → (k ≡ checkPlace → ⊥) → (k ≡ startPlace → ⊥) → (k ≡ editionPlace → ⊥) → getD laid k (pos 0) ≡ getD b k (pos 0)
+    unfolding laid two one
+    unnamed k c d e =
+        getD-set-other two editionPlace k (pos ed) (pos 0) e
+        ∙ getD-set-other one startPlace k (pos s) (pos 0) d
+        ∙ getD-set-other b checkPlace k (pos 1) (pos 0) c
+
+    others : (k : ℕ) → 4 ≤ k → getD laid k (pos 0) ≡ getD b k (pos 0)
+    others k h = unnamed k (λ e. omega arith) (λ e. omega arith) (λ e. omega arith)
+
+    long-b : length b ≡ length w
+    long-b = copied .long ∙ cleared .long
+
+    long-one : length one ≡ length w
+    unfolding one
+    long-one = length-set b checkPlace (pos 1) ∙ long-b
+
+    long-two : length two ≡ length w
+    unfolding two
+    long-two = length-set one startPlace (pos s) ∙ long-one
 
     -- a word past the copied table is 0
     past : (k : ℕ) → 14 + fieldTotalOf t ≤ k → k < areaOf t → getD laid k (pos 0) ≡ pos 0
@@ -113,33 +137,41 @@ module _ (t : Fields) (s : ℕ) where
 
     same-long : length laid ≡ length w
     unfolding laid
-    same-long = length-set (set b 0 (pos 1)) 1 (pos s) ∙ length-set b 0 (pos 1) ∙ copied .long ∙ cleared .long
+    same-long = length-set two editionPlace (pos ed) ∙ long-two
 
-    head : (k : ℕ) → k < 14 → getD laid k (pos 0) ≡ headWord (quiet t s) k
-    unfolding laid quiet
-    head zero h = getD-set-other (set b 0 (pos 1)) 1 0 (pos s) (pos 0) (λ e. omega arith) ∙ getD-set-same b 0 (pos 1) (pos 0)
-        (omega (arith, copied .long, cleared .long))
-    head (suc zero) h = getD-set-same (set b 0 (pos 1)) 1 (pos s) (pos 0) (omega (arith, length-set b 0 (pos 1), copied .long, cleared .long))
-    head (suc (suc k)) h = others (suc (suc k)) (omega arith) ∙ copied .before (suc (suc k)) h ∙ cleared .zeros (suc (suc k)) (omega arith) ∙ sym
-        (quiet-head (suc (suc k)) (omega arith))
+    head : (k : ℕ) → k < 14 → getD laid k (pos 0) ≡ headWord (quiet t s ed) k
+    unfolding laid two one quiet
+    head zero h =
+        getD-set-other two editionPlace checkPlace (pos ed) (pos 0) (λ e. omega arith)
+        ∙ getD-set-other one startPlace checkPlace (pos s) (pos 0) (λ e. omega arith)
+        ∙ getD-set-same b checkPlace (pos 1) (pos 0) (omega (arith, long-b))
+    head (suc zero) h =
+        getD-set-other two editionPlace startPlace (pos ed) (pos 0) (λ e. omega arith)
+        ∙ getD-set-same one startPlace (pos s) (pos 0) (omega (arith, long-one))
+    head (suc (suc zero)) h =
+        unnamed 2 (λ e. omega arith) (λ e. omega arith) (λ e. omega arith) ∙ copied .before 2 h ∙ cleared .zeros 2 (omega arith)
+    head (suc (suc (suc zero))) h = getD-set-same two editionPlace (pos ed) (pos 0) (omega (arith, long-two))
+    head (suc (suc (suc (suc k)))) h =
+        let j : ℕ = suc (suc (suc (suc k))) in
+        others j (omega arith) ∙ copied .before j h ∙ cleared .zeros j (omega arith) ∙ sym (quiet-head j (omega arith))
 
-    word : (k : ℕ) → k < areaOf t → Place t k → getD laid k (pos 0) ≡ wordOf t (quiet t s) k
+    word : (k : ℕ) → k < areaOf t → Place t k → getD laid k (pos 0) ≡ wordOf t (quiet t s ed) k
     unfolding recordPlace linkPlace
-    word k h (in-head u) = head k u ∙ sym (wordOf-head t (quiet t s) k u)
-    word k h (in-table j u e) = rw e (others (fieldPlace j) (omega arith) ∙ copied .fields j u ∙ sym (wordOf-field t (quiet t s) j u))
+    word k h (in-head u) = head k u ∙ sym (wordOf-head t (quiet t s ed) k u)
+    word k h (in-table j u e) = rw e (others (fieldPlace j) (omega arith) ∙ copied .fields j u ∙ sym (wordOf-field t (quiet t s ed) j u))
     word k h (in-record p j l u v e) =
         past k (omega arith) h
         ∙ sym (quiet-record p j)
-        ∙ sym (wordOf-record t (quiet t s) p j l u v)
-        ∙ ap (wordOf t (quiet t s)) (sym e)
+        ∙ sym (wordOf-record t (quiet t s ed) p j l u v)
+        ∙ ap (wordOf t (quiet t s ed)) (sym e)
     word k h (in-links x j l u v e) =
         past k (omega arith) h
         ∙ sym (quiet-arc x j)
-        ∙ sym (wordOf-arc t (quiet t s) x j l v)
-        ∙ ap (wordOf t (quiet t s)) (sym e)
+        ∙ sym (wordOf-arc t (quiet t s ed) x j l v)
+        ∙ ap (wordOf t (quiet t s ed)) (sym e)
 
-    pub quiet-laid : set (set b 0 (pos 1)) 1 (pos s) ≡ stored t (quiet t s) w
-    unfolding laid
+    pub quiet-laid : set (set (set b checkPlace (pos 1)) startPlace (pos s)) editionPlace (pos ed) ≡ stored t (quiet t s ed) w
+    unfolding laid two one
     quiet-laid =
-        stored-of t (quiet t s) w laid (pos 0) long same-long (λ k h. word k h (place? t k h))
+        stored-of t (quiet t s ed) w laid (pos 0) long same-long (λ k h. word k h (place? t k h))
         (λ k h. others k (omega arith) ∙ copied .behind k (omega arith) ∙ cleared .kept k h)

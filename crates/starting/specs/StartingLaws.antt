@@ -9,7 +9,7 @@
 use Prim.Native.Nat.{ℕ, _+_, _*_, _≤_}
 use mathlib.Core.Bool.{Bool, true, false, not, _&&_}
 use mathlib.Core.List.{List, [], _++_}
-use mathlib.Core.Path.{_≡_, refl, fun-ext}
+use mathlib.Core.Path.{_≡_, refl, ap, fun-ext}
 use native.Mathlib.Omega.{arith}
 use borrow.Author.Tests.{ltb-false, leb-false, le-leb}
 use lib.Dec.{eqb, ltb, leb}
@@ -31,12 +31,14 @@ use Rattle.tables.specs.Waits.{Waits, waitsOf, outDegree, inDegree}
 use Rattle.tables.specs.Sound.{Sound}
 use Rattle.tables.specs.WaitsLaws.{waitsOf-sound}
 use Rattle.tables.specs.Chains.{joins}
+use Rattle.steps.specs.declared.Message.{Message}
 use Rattle.steps.specs.declared.Message.the-variants.{Suc, Pre}
-use Rattle.steps.specs.Step.{mostNum, inRange, small, idle}
-use Rattle.checks.specs.Run.{knot, fatherRight, one, started, startRun}
+use Rattle.steps.specs.Step.{mostNum, inRange, small}
+use Rattle.checks.specs.Run.{IsEdition, isEdition, knot, fatherRight, one, started, startRun}
+use Rattle.checks.specs.RunLaws.{isEdition-P}
 use Rattle.areas.specs.Places.{areaLength}
 use Rattle.areas.specs.Contained.{Shut}
-use Rattle.areas.specs.Replaced.{putProcess}
+use Rattle.areas.specs.Replaced.{withLinks, putProcess}
 use Rattle.areas.specs.AreaFacts.{RightTable}
 use Rattle.areas.specs.Squares.{Square}
 use Rattle.areas.specs.SquareLaws.{degreeBy-is}
@@ -84,26 +86,25 @@ made w d s b true = at (tested (leb b (w .n))) (tested (w .waits s b)) (tested (
     at (failed e) (failed f) (failed g) = rw (e, f, g)
 
 -- "All values 0; s gets succeeding and preceding. s sends suc to each successor, then pre to each predecessor"
-pub startRun-made : (t : Fields) → Sound (waitsOf t) → (s : ℕ) → startRun (waitsOf t) s ≡ spread In (sucSent t s) s
+pub startRun-made : (t : Fields) → Sound (waitsOf t) → (s ed : ℕ) → startRun (waitsOf t) s ed ≡ spread In (sucSent t s ed) s
 unfolding Machines.startRun sucSent begun quiet putProcess spread spreadTo
-startRun-made t d s =
-    let w : Waits = waitsOf t in
-    let e : startRun (waitsOf t) s .link ≡ spread In (sucSent t s) s .link = fun-ext (λ a. fun-ext (λ b. made (waitsOf t) d s b (eqb a s))) in
-    λ i. record { waits = w; start = s; count = 0; process = λ p. choose (eqb p s) (started w s) idle; link = e i }
+startRun-made t d s ed =
+    ap (λ (l : ℕ → ℕ → List Message). withLinks (startRun (waitsOf t) s ed) l) (fun-ext (λ a. fun-ext (λ b. made (waitsOf t) d s b (eqb a s))))
 
 -- ---- each run on the way
 
-module _ (t : Fields) (right : Right t) (s : ℕ) (process : IsProcess (waitsOf t .n) s) where
-  pub quiet-fit : Storable t (quiet t s)
+module _ (t : Fields) (right : Right t) (s : ℕ) (process : IsProcess (waitsOf t .n) s) (ed : ℕ) (named : IsEdition ed) where
+  pub quiet-fit : Storable t (quiet t s ed)
   unfolding quiet inRange small fatherRight Machines.allRight
   quiet-fit =
       record {
         held = record { waits = refl; processes = λ p h. refl; links = λ a b h. refl };
         formed =
-            wellFormed-P knot (quiet t s) .1
+            wellFormed-P knot (quiet t s ed) .1
             (record {
               room = refl;
               start-in = process;
+              edition = isEdition-P ed .1 named;
               count = omega arith;
               records = λ p _. refl;
               short = λ a b _ _. omega arith;
@@ -120,22 +121,22 @@ module _ (t : Fields) (right : Right t) (s : ℕ) (process : IsProcess (waitsOf 
   unfolding waitsOf
   high = process .1
 
-  pub begun-fit : Storable t (begun t s)
+  pub begun-fit : Storable t (begun t s ed)
   unfolding begun quiet
-  begun-fit = storable-process t (quiet t s) quiet-fit s (started (waitsOf t) s) low high (started-inRange (waitsOf t) (waitsOf-sound t right) s)
+  begun-fit = storable-process t (quiet t s ed) quiet-fit s (started (waitsOf t) s) low high (started-inRange (waitsOf t) (waitsOf-sound t right) s)
       (started-father (waitsOf t) (waitsOf t) s)
 
   -- no message waits
-  pub begun-room : (q : ℕ) → length (begun t s .link s q) ≤ 3
+  pub begun-room : (q : ℕ) → length (begun t s ed .link s q) ≤ 3
   unfolding begun quiet putProcess
   begun-room q = omega arith
 
-  pub sucSent-fit : Storable t (sucSent t s)
+  pub sucSent-fit : Storable t (sucSent t s ed)
   unfolding sucSent
-  sucSent-fit = storable-spread Out (begun t s) s t begun-fit (λ q l u j. begun-room q)
+  sucSent-fit = storable-spread Out (begun t s ed) s t begun-fit (λ q l u j. begun-room q)
 
   -- at most one message waits
-  pub sucSent-room : (q : ℕ) → length (sucSent t s .link s q) ≤ 3
+  pub sucSent-room : (q : ℕ) → length (sucSent t s ed .link s q) ≤ 3
   unfolding sucSent begun quiet putProcess spread spreadTo
   sucSent-room q = at (eqb s s && leb q (waitsOf t .n)) (waitsOf t .waits s q)
     where
@@ -144,8 +145,8 @@ module _ (t : Fields) (right : Right t) (s : ℕ) (process : IsProcess (waitsOf 
       at true false = omega arith
       at false c = omega arith
 
-  pub start-fit : Storable t (startRun (waitsOf t) s)
-  start-fit = rw (startRun-made t (waitsOf-sound t right) s) (storable-spread In (sucSent t s) s t sucSent-fit (λ q l u j. sucSent-room q))
+  pub start-fit : Storable t (startRun (waitsOf t) s ed)
+  start-fit = rw (startRun-made t (waitsOf-sound t right) s ed) (storable-spread In (sucSent t s ed) s t sucSent-fit (λ q l u j. sucSent-room q))
 
 -- ---- the table of accepted bytes
 
@@ -163,10 +164,11 @@ accepted-table bs h = record { right = h .right; shut = fieldOf-shut bs h }
 
 -- ---- an accepted start
 
-pub startNumber-startable : (bs : List ℕ) (s : ℕ) (w : List ℤ) → startNumber bs s w ≡ 0 → Startable bs (nOf (fieldOf bs)) (mOf (fieldOf bs)) s w
+pub startNumber-startable : (bs : List ℕ) (s ed : ℕ) (w : List ℤ) → startNumber bs s ed w ≡ 0
+    → Startable bs (nOf (fieldOf bs)) (mOf (fieldOf bs)) s ed w
 unfolding startNumber
-startNumber-startable bs s w e =
-    at (same? (readNumber bs) 0) (tested (isProcess n s)) (tested (ltb (length w) (areaLength n m))) e
+startNumber-startable bs s ed w e =
+    at (same? (readNumber bs) 0) (tested (isProcess n s)) (tested (isEdition ed)) (tested (ltb (length w) (areaLength n m))) e
   where
     n : ℕ
     n = nOf (fieldOf bs)
@@ -178,17 +180,20 @@ startNumber-startable bs s w e =
     not-zero : (r : ℕ) → 1 ≤ r → r ≡ 0 → ⊥
     not-zero r h z = omega arith
 
-    at : Same (readNumber bs) 0 → Tested (isProcess n s) → Tested (ltb (length w) (areaLength n m))
-        → choose (not (eqb (readNumber bs) 0)) (readNumber bs) (choose (not (isProcess n s)) 8 (choose (ltb (length w) (areaLength n m)) 9 0)) ≡ 0
-        → Startable bs n m s w
-    at (apart d f) p l q = absurd (d (rw f at q))
-    at (same d f) (failed p) l q = absurd (not-zero 8 (omega arith) (rw (f, p) at q))
-    at (same d f) (passed p) (passed l) q = absurd (not-zero 9 (omega arith) (rw (f, p, l) at q))
-    at (same d f) (passed p) (failed l) q =
+    at : Same (readNumber bs) 0 → Tested (isProcess n s) → Tested (isEdition ed) → Tested (ltb (length w) (areaLength n m))
+        → choose (not (eqb (readNumber bs) 0)) (readNumber bs)
+        (choose (not (isProcess n s)) 8 (choose (not (isEdition ed)) 30 (choose (ltb (length w) (areaLength n m)) 9 0))) ≡ 0
+        → Startable bs n m s ed w
+    at (apart d f) p v l q = absurd (d (rw f at q))
+    at (same d f) (failed p) v l q = absurd (not-zero 8 (omega arith) (rw (f, p) at q))
+    at (same d f) (passed p) (failed v) l q = absurd (not-zero 30 (omega arith) (rw (f, p, v) at q))
+    at (same d f) (passed p) (passed v) (passed l) q = absurd (not-zero 9 (omega arith) (rw (f, p, v, l) at q))
+    at (same d f) (passed p) (passed v) (failed l) q =
         record {
           accepted = accepted-P bs .0 d;
           n-is = refl;
           m-is = refl;
           start-in = isProcess-P n s .0 p;
+          edition = isEdition-P ed .0 v;
           long = ltb-false (length w) (areaLength n m) l;
         }

@@ -1,5 +1,5 @@
-// Start: reads the table on any bytes, and makes the run area of a check in lent words, whatever they hold. It refuses by the rows 1 to 9
-// of 01, in order, and then leaves every word as it was.
+// Start: reads the table on any bytes, and makes the run area of a check in lent words, whatever they hold. It refuses by the rows 1 to 8
+// of 01, then by 30 (02, N4) and 9, and then leaves every word as it was.
 use areas::places;
 use areas::squares;
 use lenses::records;
@@ -12,11 +12,9 @@ ghost use mathlib.Core.Path.{_≡_};
 ghost use Prim.Native.Nat.{_+_, _*_, _≤_};
 ghost use lib.ListN.{length};
 ghost use Rattle.tables.specs.Table.{fieldOf, mostProcesses};
-ghost use Rattle.tables.specs.Waits.{waitsOf};
-ghost use Rattle.checks.specs.Run.{startRun};
 ghost use Rattle.areas.specs.Places.{headSize};
-ghost use Rattle.areas.specs.Area.{stored, fieldsIn, keeping};
-ghost use Rattle.starting.specs.Starting.{Startable, Unbegun, Cleared, Copied, quiet, startedFrom};
+ghost use Rattle.areas.specs.Area.{stored, keeping};
+ghost use Rattle.starting.specs.Starting.{Startable, Unbegun, Cleared, Copied, quiet, startOf, begunIn, startedFrom, rowMet};
 ghost use Rattle.starting.specs.StartCall.{startAnswer, startArea};
 
 // The answer of a start: the run area is ready, or the number of the refusal.
@@ -47,10 +45,10 @@ fn copy_fields(table: &[u8], count: usize, area: &mut [i32])
     }
 }
 
-// Lays out the area of a run that has not begun: the table copied, the start named, all values 0.
-fn lay_out(table: &[u8], n: usize, m: usize, s: usize, area: &mut [i32])
-    requires { ⌜ Startable (now table) n m s (now area) ⌝ }
-    ensures { λ _. ⌜ now (area .exit) ≡ stored (fieldOf (now (table .entry))) (quiet (fieldOf (now (table .entry))) s) (now (area .entry)) ⌝ }
+// Lays out the area of a run that has not begun: the table copied, the start and the edition named, all values 0.
+fn lay_out(table: &[u8], n: usize, m: usize, s: usize, edition: usize, area: &mut [i32])
+    requires { ⌜ Startable (now table) n m s edition (now area) ⌝ }
+    ensures { λ _. ⌜ now (area .exit) ≡ stored (fieldOf (now (table .entry))) (quiet (fieldOf (now (table .entry))) s edition) (now (area .entry)) ⌝ }
 {
     let words = places::area_length(n, m);
     clear(area, words);
@@ -59,6 +57,8 @@ fn lay_out(table: &[u8], n: usize, m: usize, s: usize, area: &mut [i32])
     area[places::CHECK] = places::KNOT_CHECK;
     let start = s as i32;
     area[places::START] = start;
+    let named = edition as i32;
+    area[places::EDITION] = named;
 }
 
 // The start's record: both flags, and the number of probes that it sends.
@@ -81,7 +81,7 @@ fn first_record(square: &[u16; tables::SQUARE_SIZE], n: usize, s: usize) -> Proc
 // Begins the run: the start's record, then suc to each successor, then pre to each predecessor.
 fn begin(area: &mut [i32], square: &[u16; tables::SQUARE_SIZE], n: usize, m: usize, s: usize)
     requires { ⌜ Unbegun (now area) (now square) n m s ⌝ }
-    ensures { λ _. ⌜ now (area .exit) ≡ keeping (now (area .entry)) (startRun (waitsOf (fieldsIn (now (area .entry)))) s) ⌝ }
+    ensures { λ _. ⌜ now (area .exit) ≡ keeping (now (area .entry)) (begunIn (now (area .entry)) s) ⌝ }
 {
     let first = first_record(square, n, s);
     records::put_process(area, square, n, m, s, first);
@@ -90,31 +90,48 @@ fn begin(area: &mut [i32], square: &[u16; tables::SQUARE_SIZE], n: usize, m: usi
 }
 
 // Makes the area of a begun run, for an accepted table and enough words.
-fn set_up(table: &[u8], n: usize, m: usize, s: usize, area: &mut [i32])
-    requires { ⌜ Startable (now table) n m s (now area) ⌝ }
-    ensures { λ _. ⌜ now (area .exit) ≡ stored (fieldOf (now (table .entry))) (startRun (waitsOf (fieldOf (now (table .entry)))) s) (now (area .entry)) ⌝ }
+fn set_up(table: &[u8], n: usize, m: usize, s: usize, edition: usize, area: &mut [i32])
+    requires { ⌜ Startable (now table) n m s edition (now area) ⌝ }
+    ensures { λ _. ⌜ now (area .exit) ≡ stored (fieldOf (now (table .entry))) (startOf (fieldOf (now (table .entry))) s edition) (now (area .entry)) ⌝ }
 {
     let mut square = [0u16; tables::SQUARE_SIZE];
     squares::fill(table, n, m, &mut square);
-    lay_out(table, n, m, s, area);
+    lay_out(table, n, m, s, edition, area);
     begin(area, &square, n, m, s);
 }
 
-// Starts a check at process s: checks 1 to 9, in order, on any bytes and any words.
-pub fn start(table: &[u8], s: usize, area: &mut [i32]) -> Started
-    ensures answer { λ r. ⌜ r ≡ startAnswer (now (table .entry)) s (now (area .entry)) ⌝ }
-    ensures area { λ _. ⌜ now (area .exit) ≡ startArea (now (table .entry)) s (now (area .entry)) ⌝ }
+// The first of the rows 8, 30 and 9 that is met, 0 if none is.
+fn row_met(process: bool, named: bool, short: bool) -> u32
+    ensures { λ r. ⌜ r ≡ rowMet process named short ⌝ }
+{
+    if !process {
+        return 8;
+    }
+    if !named {
+        return 30;
+    }
+    if short {
+        return 9;
+    }
+    0
+}
+
+// Starts a check at process s under an edition: checks 1 to 8, 30, 9, in order, on any bytes and any words.
+pub fn start(table: &[u8], s: usize, edition: usize, area: &mut [i32]) -> Started
+    ensures answer { λ r. ⌜ r ≡ startAnswer (now (table .entry)) s edition (now (area .entry)) ⌝ }
+    ensures area { λ _. ⌜ now (area .exit) ≡ startArea (now (table .entry)) s edition (now (area .entry)) ⌝ }
 {
     match table_reader::read(table) {
         Reading::Refused(r) => Started::Refused(r),
         Reading::Accepted { n, m } => {
-            if !is_process(s, n) {
-                return Started::Refused(8);
+            let process = is_process(s, n);
+            let named = checks::is_edition(edition);
+            let short = area.len() < places::area_length(n, m);
+            let number = row_met(process, named, short);
+            if number != 0 {
+                return Started::Refused(number);
             }
-            if area.len() < places::area_length(n, m) {
-                return Started::Refused(9);
-            }
-            set_up(table, n, m, s, area);
+            set_up(table, n, m, s, edition, area);
             Started::Ready
         }
     }

@@ -1,4 +1,5 @@
-// One case: a wait graph and a start. Its table is written by the library, searched by the bytes, and run in many orders.
+// One case: a wait graph and a start. Its table is written by the library, searched by the bytes, and run in many orders, under
+// both editions.
 use comparing::written;
 use drawing::families::Case;
 use drawing::numbers;
@@ -8,12 +9,13 @@ use expecting::starts;
 use ordering::Course;
 use table_writer::Writing;
 
-// What a family adds up to: its cases, how many of them the search finds to be knots, the runs, their deliveries and how many of these
-// overtook; the last random number. The case at hand: N, the start and how many runs it is to have; order, A, D and difference of the
-// last run.
+// What a family adds up to: its cases, how many of them the search finds to be knots by the first edition and by the second, the runs, their
+// deliveries and how many of these overtook; the last random number. The case at hand: N, the start and how many runs it is to have;
+// edition, order, A, D and difference of the last run.
 pub struct Tally {
     pub cases: u64,
-    pub knots: u64,
+    pub first: u64,
+    pub second: u64,
     pub runs: u64,
     pub deliveries: u64,
     pub overtaking: u64,
@@ -21,6 +23,7 @@ pub struct Tally {
     pub n: usize,
     pub start: usize,
     pub count: usize,
+    pub edition: usize,
     pub order: usize,
     pub made: u32,
     pub due: u32,
@@ -30,7 +33,8 @@ pub struct Tally {
 pub fn begun(seed: usize) -> Tally {
     Tally {
         cases: 0,
-        knots: 0,
+        first: 0,
+        second: 0,
         runs: 0,
         deliveries: 0,
         overtaking: 0,
@@ -38,6 +42,7 @@ pub fn begun(seed: usize) -> Tally {
         n: 0,
         start: 0,
         count: 0,
+        edition: 0,
         order: 0,
         made: 0,
         due: 0,
@@ -51,22 +56,30 @@ fn faulty(t: Tally, fault: u32) -> Tally {
     u
 }
 
-// One more knot, if that is what the search expects.
-fn searched(t: Tally, outside: i32) -> Tally {
-    let mut u = t;
-    if outside == 0 {
-        u.knots = numbers::total(t.knots, 1);
+// One more, if it is a knot.
+fn counted(knots: u64, knot: bool) -> u64 {
+    if knot {
+        return numbers::total(knots, 1);
     }
+    knots
+}
+
+// The knots with those that the search expects.
+fn searched(t: Tally, e: Expected) -> Tally {
+    let mut u = t;
+    u.first = counted(t.first, e.first);
+    u.second = counted(t.second, e.second);
     u
 }
 
 // One more run.
-fn added(t: Tally, order: usize, c: Course) -> Tally {
+fn added(t: Tally, edition: usize, order: usize, c: Course) -> Tally {
     let mut u = t;
     u.runs = numbers::total(t.runs, 1);
     u.deliveries = numbers::total(t.deliveries, c.made as u64);
     u.overtaking = numbers::total(t.overtaking, c.overtaking as u64);
     u.seed = numbers::next(t.seed);
+    u.edition = edition;
     u.order = order;
     u.made = c.made;
     u.due = c.due;
@@ -87,6 +100,12 @@ fn order_of(k: usize, t: Tally) -> usize {
     order
 }
 
+// The edition of run k + 1 of a case: the two in turn, so that every case has both; which is first changes after eight cases, so that every
+// order has both.
+fn edition_of(k: usize, t: Tally) -> usize {
+    1 + (k % 2 + (t.cases / 8 % 2) as usize) % 2
+}
+
 // Run k + 1 of a case.
 fn one_run(
     area: &mut [i32],
@@ -97,11 +116,14 @@ fn one_run(
     k: usize,
     t: Tally,
 ) -> Tally {
+    let edition = edition_of(k, t);
     let order = order_of(k, t);
+    let under = starts::under(e, edition);
     added(
         t,
+        edition,
         order,
-        comparing::run(area, table, list, found, e, order, t.seed),
+        comparing::run(area, table, list, found, under, order, t.seed),
     )
 }
 
@@ -141,7 +163,7 @@ fn search(table: &[u8], list: &[u16], t: Tally) -> Tally {
     searching::spread(&mut found, searching::AFTER, t.start);
     searching::spread(&mut found, searching::BEFORE, t.start);
     let e = starts::found_of(table, &found, t.start);
-    lend_area(table, list, &found, e, searched(t, e.outside))
+    lend_area(table, list, &found, e, searched(t, e))
 }
 
 // The case of a written table.

@@ -5,10 +5,13 @@
 // order and in many other orders by picks (the crate `comparing`), with refused picks, readings and runnings on by nothing among them.
 // The last run of each case overtakes: its picks take younger messages first wherever two wait on a link (02, N5), and the line of a family
 // says how many deliveries did. In small areas the messages on a link are looked at, in a copy, before and after some picks.
+// The runs of a case name the two editions in turn (02, N4), and the line of a family says how many cases are knots by each; all else is
+// expected to be the same under both.
 // Before each run the starts that are to be refused are. After every delivery a report is refused exactly while fewer than D were made. At
 // the end the report and every record are compared with the search; then come fixed and drawn calls past the end, which are refused or
-// make nothing, and the end is compared again. No call that delivers nothing changes a word or what a report says (looked at after each
-// call in small areas and past the end, and now and then in large ones), and no call changes a surplus word.
+// make nothing, and in small areas other words for the edition, and the end is compared again. No call that delivers nothing changes a word
+// or what a report says (looked at after each call in small areas and past the end, and now and then in large ones), and no call changes a
+// surplus word.
 //
 // It prints a line for each family of cases, and a last line that names the first difference or says that there is none. It stops at the
 // first difference. Random numbers come from fixed seeds, so a difference is found again. It promises only that it is safe and ends.
@@ -31,20 +34,26 @@ fn print_number(text: &[u8], n: u64) {
 fn print_tally(f: Family, t: Tally) {
     print_number(b"up to ", f.n as u64);
     print_number(b" processes: cases ", t.cases);
-    print_number(b", knots ", t.knots);
+    print_number(b", knots ", t.first);
+    print_number(b", by the second edition ", t.second);
     print_number(b", runs ", t.runs);
     print_number(b", deliveries ", t.deliveries);
     print_number(b", overtaking ", t.overtaking);
     print(b"\n");
 }
 
+fn print_count(text: &[u8], n: u32) {
+    print_number(text, n as u64);
+}
+
 // Names the first difference, in the last run of the family whose line stands above.
 fn print_difference(t: Tally) {
     print_number(b"first difference: start ", t.start as u64);
+    print_number(b", edition ", t.edition as u64);
     print_number(b", order ", t.order as u64);
-    print_number(b", delivery ", t.made as u64);
-    print_number(b" of ", t.due as u64);
-    print_number(b", number in expecting::faults ", t.fault as u64);
+    print_count(b", delivery ", t.made);
+    print_count(b" of ", t.due);
+    print_count(b", number in expecting::faults ", t.fault);
     print(b"\n");
 }
 

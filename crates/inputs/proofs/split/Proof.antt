@@ -15,44 +15,45 @@ returns-2 c = split-1 _ (c .before .if1 .left) (c .if2 .taken)
 returns-3 : tie.Need-returns-3
 returns-3 c =
     let f = c .before in
-    let u = f .before .before .before in
-    split-2-none _ (u .before .if1 .left) (u .if2 .left) _ _ (f .before .field2 .ensures) (f .field3 .ensures) (c .if3 .taken)
+    let u = f .before .before .before .before in
+    split-2-none _ (u .before .if1 .left) (u .if2 .left) _ _ (f .before .field3 .ensures) (f .field4 .ensures) (c .if3 .taken)
 
 returns-4 : tie.Need-returns-4
 returns-4 c =
     let f = c .before .before in
-    let u = f .before .before .before in
-    split-2-many _ (u .before .if1 .left) (u .if2 .left) _ _ (f .before .field2 .ensures) (f .field3 .ensures) (c .if4 .taken)
+    let u = f .before .before .before .before in
+    split-2-many _ (u .before .if1 .left) (u .if2 .left) _ _ (f .before .field3 .ensures) (f .field4 .ensures) (c .if4 .taken)
 
 returns-5 : tie.Need-returns-5
 returns-5 c =
     let f = c .before .before .before in
-    let u = f .before .before .before in
-    split-2-arcs _ (u .before .if1 .left) (u .if2 .left) _ _ (f .before .field2 .ensures) (f .field3 .ensures) (c .if5 .taken)
+    let u = f .before .before .before .before in
+    split-2-arcs _ (u .before .if1 .left) (u .if2 .left) _ _ (f .before .field3 .ensures) (f .field4 .ensures) (c .if5 .taken)
 
 returns-6 : tie.Need-returns-6
 returns-6 c =
     let d = c .before in
     let f = d .before .before .before in
-    let u = f .before .before .before in
-    split-3 _ (u .before .if1 .left) (u .if2 .left) _ _ (f .before .field2 .ensures) (f .field3 .ensures)
+    let u = f .before .before .before .before in
+    split-3 _ (u .before .if1 .left) (u .if2 .left) _ _ (f .before .field3 .ensures) (f .field4 .ensures)
     (d .before .before .if3 .left) (d .before .if4 .left) (d .if5 .left) (c .if6 .taken)
 
 returns-7 : tie.Need-returns-7
 returns-7 c =
     let d = c .before .before in
     let f = d .before .before .before in
-    let u = f .before .before .before in
-    split-12 _ (u .before .if1 .left) (u .if2 .left) _ _ (f .before .field2 .ensures) (f .field3 .ensures)
+    let u = f .before .before .before .before in
+    split-12 _ (u .before .if1 .left) (u .if2 .left) _ _ (f .before .field3 .ensures) (f .field4 .ensures)
     (d .before .before .if3 .left) (d .before .if4 .left) (d .if5 .left) (c .before .if6 .left) (c .if7 .taken)
 
 returns-8 : tie.Need-returns-8
 returns-8 c =
     let d = c .before .before in
     let f = d .before .before .before in
-    let u = f .before .before .before in
-    split-0 _ (u .before .if1 .left) (u .if2 .left) _ _ (f .before .field2 .ensures) (f .field3 .ensures)
-    (d .before .before .if3 .left) (d .before .if4 .left) (d .if5 .left) (c .before .if6 .left) _ (f .before .before .field .ensures) (c .if7 .left)
+    let u = f .before .before .before .before in
+    split-0 _ (u .before .if1 .left) (u .if2 .left) _ _ (f .before .field3 .ensures) (f .field4 .ensures)
+    (d .before .before .if3 .left) (d .before .if4 .left) (d .if5 .left) (c .before .if6 .left)
+    _ _ (f .before .before .before .field .ensures) (f .before .before .field2 .ensures) (c .if7 .left)
 
 pub split-spec : {M : Type 1} → statement M
 split-spec =
@@ -60,6 +61,7 @@ split-spec =
     (tie.spec
     returns
     returns-2
+    (λ c κs. search needs)
     (λ c κs. search needs)
     (λ c κs. search needs)
     (λ c κs. search needs)

@@ -54,21 +54,29 @@ process-requires c κs =
     let p = wellFormed-P knot _ .0 (right-storable _ (y .right) .formed) in
     rw (c .before .start-of .ensures) (y, (p .start-in .0, omega (arith, p .start-in, ready-n y)))
 
+edition-allows-requires : tie.Need-edition-allows-requires
+edition-allows-requires c κs =
+    (ready (c .before .before .before .before .before .before .before .before .before), c .before .before .before .start-of .ensures)
+
 count-of-requires : tie.Need-count-of-requires
-count-of-requires c κs = ready (c .before .before .before .before .before .before .before .before .before)
+count-of-requires c κs = ready (c .before .before .before .before .before .before .before .before .before .before .before .before)
 
 returns-3 : tie.Need-returns-3
 returns-3 c =
     let count = c .before in
-    let process = count .before .before in
+    let knot = count .before .before in
+    let allowed = knot .before in
+    let process = allowed .before .before in
     let start = process .before .before in
     let escape = start .before .before in
     let over = escape .before .before .before in
     let w = over .before .before .before .before .before .before .before .args .area .now in
     let y = ready (over .before) in
     rw (c .told .ensures)
-    (report-told _ (y .right) (sym (over .is-over .ensures) ∙ not-false _ (escape .before .before .if1 .left)) _ _ _
+    (report-told _ (y .right) (sym (over .is-over .ensures) ∙ not-false _ (escape .before .before .if1 .left)) _ _ _ _ _
     (process .process .ensures ∙ ap (λ (s : ℕ). runIn w .process s) (start .start-of .ensures))
+    (allowed .edition-allows .ensures)
+    (knot .is-knot .ensures)
     (count .count-of .ensures)
     (escape .escape-of .ensures))
 
@@ -85,6 +93,8 @@ report-spec =
     escape-of-requires
     start-of-requires
     process-requires
+    edition-allows-requires
+    (λ c κs. search needs)
     count-of-requires
     (λ c κs. search needs)
     returns-3)

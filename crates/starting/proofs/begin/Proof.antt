@@ -1,7 +1,7 @@
 -- `starting::begin` meets its contract: after each call the area holds the run of the next stage, which has room for the probes to come.
 -- Assumes nothing.
 use borrow.Author.Needs.{needs}
-use Rattle.areas.specs.Area.{fieldsIn}
+use Rattle.areas.specs.Area.{fieldsIn, runIn}
 use Rattle.starting.specs.Starting.{begun, sucSent}
 use Rattle.starting.proofs.Beginning.{Stage, few, record-inRange, record-father, put-stage, put-room, suc-stage, suc-room, begin-made}
 use Rattle.starting.proofs.begin.Statement.{statement}
@@ -18,7 +18,7 @@ put-process-requires c κs =
 
 -- the area once the start's record is put
 first-stage : (c : tie.After-put-process) → let a = c .before .before .before .args in Stage (a .area .now) (a .square .now) (a .n) (a .m)
-    (begun (fieldsIn (a .area .now)) (a .s)) (c .put-process .last .0)
+    (begun (fieldsIn (a .area .now)) (a .s) (runIn (a .area .now) .edition)) (c .put-process .last .0)
 first-stage c =
     let x = c .before .before .first-record in
     put-stage (c .before .before .before .pre) (x .result) (x .ensures) (c .put-process .last .0) (c .put-process .ensures)
@@ -31,7 +31,7 @@ broadcast-requires c κs =
 
 -- the area once its suc probes are sent
 second-stage : (c : tie.After-broadcast) → let a = c .before .before .before .before .before .before .args in Stage (a .area .now) (a .square .now) (a .n)
-    (a .m) (sucSent (fieldsIn (a .area .now)) (a .s)) (c .broadcast .last .0)
+    (a .m) (sucSent (fieldsIn (a .area .now)) (a .s) (runIn (a .area .now) .edition)) (c .broadcast .last .0)
 second-stage c =
     suc-stage (c .before .before .before .before .before .before .pre) (first-stage (c .before .before .before)) (c .broadcast .last .0)
     (c .broadcast .ensures)

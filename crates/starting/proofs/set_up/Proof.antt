@@ -27,13 +27,13 @@ begin-requires c κs =
     let k = c .before .before .before .before .before .before .before .before .pre in
     let fill = c .before .before .before .before .before .fill in
     let lay = c .before .before .before .lay-out in
-    laid-unbegun k (lay .last .1 .1 .1 .1 .0) (lay .ensures) (fill .last .1 .1 .1 .0) (fill .ensures)
+    laid-unbegun k (lay .last .1 .1 .1 .1 .1 .0) (lay .ensures) (fill .last .1 .1 .1 .0) (fill .ensures)
 
 returns : tie.Need-returns
 returns c =
     let k = c .before .before .before .before .before .before .before .before .before .before .pre in
     let lay = c .before .before .before .before .before .lay-out in
-    laid-begun k (lay .last .1 .1 .1 .1 .0) (lay .ensures) (c .before .begin .last .0) (c .before .begin .ensures)
+    laid-begun k (lay .last .1 .1 .1 .1 .1 .0) (lay .ensures) (c .before .begin .last .0) (c .before .begin .ensures)
 
 pub set-up-spec : {M : Type 1} → statement M
 set-up-spec = tie.close (tie.spec fill-requires (λ c κs. search needs) begin-requires (λ c. search needs) returns)

@@ -42,7 +42,7 @@ impl Input {
         plain::write_table(n, &list, &mut table).expect("the list is right");
         let words = 8 * size.n + 20 * size.m + 16;
         let mut started = vec![0; words];
-        plain::start(&table, 1, &mut started).expect("the table is right");
+        plain::start(&table, 1, 1, &mut started).expect("the table is right");
         let picks = own_picks(&table);
         assert_eq!(picks.len(), 4 * size.m, "D of a strongly connected graph");
         Input { size, table, words, started, picks }
@@ -52,7 +52,7 @@ impl Input {
 /// The deliveries that the check program makes by itself.
 fn own_picks(table: &[u8]) -> Vec<(usize, usize)> {
     let mut printed = Vec::new();
-    plain::check_program(&[&[1, 0], table].concat(), &mut printed);
+    plain::check_program(&programs::input_of(table), &mut printed);
     let printed = String::from_utf8(printed).expect("it prints ASCII");
     let own = printed.lines().filter_map(|line| line.strip_prefix("own "));
     let numbers = own.map(|line| {
@@ -107,7 +107,7 @@ fn read(input: &Input) -> Timed<'_> {
 fn start(input: &Input) -> Timed<'_> {
     timed(START, input, vec![0; input.words], 16, |library, table, area| {
         for _ in 0..16 {
-            expect(library.start(table, 1, area).number);
+            expect(library.start(table, 1, 1, area).number);
         }
     })
 }

@@ -109,9 +109,16 @@ impl Calls for Proved {
         Answer::new(0, [arc as i64])
     }
 
-    fn start(&self, table: &mut [u8], start: usize, area: &mut [i32]) -> Answer {
+    fn start(&self, table: &mut [u8], start: usize, edition: usize, area: &mut [i32]) -> Answer {
         let number = unsafe {
-            pickledune_start(table.as_mut_ptr(), table.len(), start, area.as_mut_ptr(), area.len())
+            pickledune_start(
+                table.as_mut_ptr(),
+                table.len(),
+                start,
+                edition,
+                area.as_mut_ptr(),
+                area.len(),
+            )
         };
         Answer::new(number, [])
     }

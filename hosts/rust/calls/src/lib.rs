@@ -59,7 +59,7 @@ pub trait Calls {
     fn open(&self, table: &mut [u8], chain: u32, process: usize) -> Answer;
     /// arc; the number is always 0
     fn next(&self, table: &mut [u8], chain: u32, arc: usize) -> Answer;
-    fn start(&self, table: &mut [u8], start: usize, area: &mut [i32]) -> Answer;
+    fn start(&self, table: &mut [u8], start: usize, edition: usize, area: &mut [i32]) -> Answer;
     /// kind, count
     fn pick(&self, area: &mut [i32], from: usize, to: usize, place: usize) -> Answer;
     /// over, made

@@ -52,8 +52,8 @@ impl Calls for Plain {
         Answer::new(0, [plain::next(table, chain_of(chain), arc) as i64])
     }
 
-    fn start(&self, table: &mut [u8], start: usize, area: &mut [i32]) -> Answer {
-        answer(plain::start(table, start, area), |()| [])
+    fn start(&self, table: &mut [u8], start: usize, edition: usize, area: &mut [i32]) -> Answer {
+        answer(plain::start(table, start, edition, area), |()| [])
     }
 
     fn pick(&self, area: &mut [i32], from: usize, to: usize, place: usize) -> Answer {

@@ -67,11 +67,12 @@ unsafe extern "C" fn pickledune_start(
     table: *const u8,
     len: usize,
     start: usize,
+    edition: usize,
     area: *mut i32,
     area_len: usize,
 ) -> u32 {
     let area = from_raw_parts_mut(area, area_len);
-    Plain.start(&mut copied(table, len), start, area).number
+    Plain.start(&mut copied(table, len), start, edition, area).number
 }
 
 #[no_mangle]

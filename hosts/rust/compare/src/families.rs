@@ -3,14 +3,14 @@
 
 use crate::driver::{Call, Driver, Lent, Outcome};
 use crate::graphs::{Graph, Scale, WaysOut, MOST_ARCS, MOST_PROCESSES};
-use crate::layout::{draw_area, draw_count, draw_num, links, Link, MOST_WAITING};
+use crate::layout::{draw_area, draw_count, draw_num, links, Link, EDITION, MOST_WAITING};
 use crate::rng::Rng;
 use calls::{Calls, LentRecord, Received};
 
 type Family<L> = fn(&mut Driver<L>, &mut Rng, u64) -> Outcome<()>;
 
 /// Every family with its name and the least number of calls in a whole comparison.
-pub fn families<L: Calls>() -> [(&'static str, u64, Family<L>); 13] {
+pub fn families<L: Calls>() -> [(&'static str, u64, Family<L>); 14] {
     [
         ("valid tables", 150_000, valid_tables),
         ("damaged tables", 200_000, damaged_tables),
@@ -25,6 +25,7 @@ pub fn families<L: Calls>() -> [(&'static str, u64, Family<L>); 13] {
         ("one process's step", 200_000, steps),
         ("ways out, the lowest reached last", 50_000, ways_out),
         ("every place on a link", 150_000, places),
+        ("editions", 150_000, editions),
     ]
 }
 
@@ -44,6 +45,14 @@ fn any_number(rng: &mut Rng, high: usize) -> usize {
         2 => 65_536 + rng.below(high + 2),
         3 => (1 << 32) + rng.below(high + 2),
         _ => rng.below(high + 2),
+    }
+}
+
+/// An edition: mostly 1 or 2 (02, N4).
+fn any_edition(rng: &mut Rng) -> usize {
+    match rng.one_in(4) {
+        true => any_number(rng, 3),
+        false => rng.choose(&EDITIONS),
     }
 }
 
@@ -179,7 +188,8 @@ fn damaged_tables<L: Calls>(driver: &mut Driver<L>, rng: &mut Rng, least: u64) -
             if rng.one_in(4) {
                 let length = graph.words_needed() + rng.below(30);
                 lent.area = noise_words(rng, length);
-                driver.make(Call::Start { start: any_number(rng, graph.n) }, &mut lent)?;
+                let (start, edition) = (any_number(rng, graph.n), any_edition(rng));
+                driver.make(Call::Start { start, edition }, &mut lent)?;
             }
         }
         let length = rng.below(60);
@@ -250,12 +260,18 @@ fn starts<L: Calls>(driver: &mut Driver<L>, rng: &mut Rng, least: u64) -> Outcom
                 _ => needed + rng.choose(&[0, 1, 7, 40]),
             };
             lent.area = noise[..length].to_vec();
-            driver.make(Call::Start { start: any_number(rng, graph.n) }, &mut lent)?;
+            let (start, edition) = (any_number(rng, graph.n), any_edition(rng));
+            driver.make(Call::Start { start, edition }, &mut lent)?;
         }
         // Into an area that a start already filled.
-        driver.make(Call::Start { start: rng.within(1, graph.n) }, &mut lent)?;
+        driver.make(draw_start(rng, &graph), &mut lent)?;
     }
     Ok(())
+}
+
+/// A start that is accepted if the area is long enough.
+fn draw_start(rng: &mut Rng, graph: &Graph) -> Call {
+    Call::Start { start: rng.within(1, graph.n), edition: rng.choose(&EDITIONS) }
 }
 
 /// A table, its links, and the area that an accepted start left, with surplus words.
@@ -263,12 +279,12 @@ fn begin<L: Calls>(
     driver: &mut Driver<L>,
     rng: &mut Rng,
     graph: &Graph,
-    start: usize,
+    start: Call,
 ) -> Outcome<(Lent, Vec<Link>)> {
     let surplus = rng.choose(&[0, 0, 0, 1, 3, 20]);
     let area = noise_words(rng, graph.words_needed() + surplus);
     let mut lent = Lent { table: graph.table(rng), area, ..Lent::default() };
-    driver.make(Call::Start { start }, &mut lent)?;
+    driver.make(start, &mut lent)?;
     Ok((lent, links(graph)))
 }
 
@@ -364,7 +380,8 @@ fn valid_areas<L: Calls>(driver: &mut Driver<L>, rng: &mut Rng, least: u64) -> O
     while driver.calls_in_family() < least {
         let graph = Graph::any(rng);
         let start = rng.within(1, graph.n);
-        check_whole(driver, rng, &graph, start, &[])?;
+        let edition = rng.choose(&EDITIONS);
+        check_whole(driver, rng, &graph, start, edition, &[])?;
     }
     Ok(())
 }
@@ -373,7 +390,8 @@ fn valid_areas<L: Calls>(driver: &mut Driver<L>, rng: &mut Rng, least: u64) -> O
 fn ways_out<L: Calls>(driver: &mut Driver<L>, rng: &mut Rng, least: u64) -> Outcome<()> {
     while driver.calls_in_family() < least {
         let WaysOut { graph, start, picks } = Graph::with_ways_out(rng);
-        check_whole(driver, rng, &graph, start, &picks)?;
+        let edition = rng.choose(&EDITIONS);
+        check_whole(driver, rng, &graph, start, edition, &picks)?;
     }
     Ok(())
 }
@@ -386,9 +404,10 @@ fn check_whole<L: Calls>(
     rng: &mut Rng,
     graph: &Graph,
     start: usize,
+    edition: usize,
     picks: &[(usize, usize)],
 ) -> Outcome<()> {
-    let (mut lent, links) = begin(driver, rng, graph, start)?;
+    let (mut lent, links) = begin(driver, rng, graph, Call::Start { start, edition })?;
     for &(from, to) in picks {
         driver.make(Call::Pick { from, to, place: 1 }, &mut lent)?;
     }
@@ -408,26 +427,32 @@ fn check_whole<L: Calls>(
     if !links.is_empty() {
         driver.make(pick(rng.choose(&links), any_place(rng)), &mut lent)?;
     }
-    hold_against_search(driver, graph, start, &mut lent)
+    hold_against_search(driver, graph, start, edition, &mut lent)
 }
 
 fn hold_against_search<L: Calls>(
     driver: &mut Driver<L>,
     graph: &Graph,
     start: usize,
+    edition: usize,
     lent: &mut Lent,
 ) -> Outcome<()> {
     let end = graph.end(start);
     let outside = end.outside.len() as i64;
-    let knot = i64::from(outside == 0);
     // 02, N1: the lowest of those with subordinate 1, who at the end are those outside.
     let escape = end.outside.first().map_or(0, |&process| process as i64);
-    let report = driver.make(Call::Report, lent)?;
-    let expected = [end.deliveries as i64, knot, outside, escape, knot];
-    if report.number != 0 || report.values[..5] != expected {
-        let (number, found) = (report.number, &report.values[..5]);
-        let what = format!("both report {number}, {found:?}, the graph search has 0, {expected:?}");
-        return Err(driver.found(Call::Report, lent, what));
+    // 02, N4: judged by the edition that the area holds, and by the other one put in its place.
+    for edition in [edition, 3 - edition] {
+        let knot = i64::from(end.is_knot(edition));
+        let report = driver.make(Call::Report, lent)?;
+        let expected = [end.deliveries as i64, knot, outside, escape, knot];
+        if report.number != 0 || report.values[..5] != expected {
+            let (number, found) = (report.number, &report.values[..5]);
+            let what =
+                format!("both report {number}, {found:?}, the graph search has 0, {expected:?}");
+            return Err(driver.found(Call::Report, lent, what));
+        }
+        lent.area[EDITION] = 3 - edition as i32;
     }
     for process in 1..=graph.n {
         let call = Call::ReadRecord { process };
@@ -462,7 +487,8 @@ fn largest_checks<L: Calls>(driver: &mut Driver<L>, rng: &mut Rng, least: u64) -
             _ => Graph::draw(rng, Scale::Large),
         };
         let start = rng.within(1, graph.n);
-        check_whole(driver, rng, &graph, start, &[])?;
+        let edition = rng.choose(&EDITIONS);
+        check_whole(driver, rng, &graph, start, edition, &[])?;
     }
     Ok(())
 }
@@ -519,7 +545,7 @@ fn area_of_a_run<L: Calls>(
     rng: &mut Rng,
     graph: &Graph,
 ) -> Outcome<(Lent, Vec<Link>)> {
-    let start = rng.within(1, graph.n);
+    let start = draw_start(rng, graph);
     let (mut lent, links) = begin(driver, rng, graph, start)?;
     let order = any_order(rng);
     for _ in 0..rng.choose(&[0, 1, 3, 8, 20]) {
@@ -554,7 +580,7 @@ fn damaged_areas<L: Calls>(driver: &mut Driver<L>, rng: &mut Rng, least: u64) ->
         // A start does not mind what the area held.
         let place = rng.below(length);
         lent.area[place] = rng.word();
-        driver.make(Call::Start { start: rng.within(1, graph.n) }, &mut lent)?;
+        driver.make(draw_start(rng, &graph), &mut lent)?;
     }
     Ok(())
 }
@@ -633,6 +659,76 @@ fn places<L: Calls>(driver: &mut Driver<L>, rng: &mut Rng, least: u64) -> Outcom
     Ok(())
 }
 
+pub const EDITIONS: [usize; 2] = [1, 2];
+
+/// Other editions (02, N4); some of the last are 1 or 2 to whoever takes a part of their bits.
+pub const OTHER_EDITIONS: [usize; 12] = [
+    0,
+    3,
+    4,
+    (1 << 8) + 1,
+    (1 << 16) - 1,
+    1 << 16,
+    (1 << 16) + 2,
+    1 << 32,
+    (1 << 32) + 1,
+    (1 << 32) + 2,
+    usize::MAX - 1,
+    usize::MAX,
+];
+
+/// Words of an area that name no edition.
+pub const OTHER_EDITION_WORDS: [i32; 10] =
+    [0, 3, 4, -1, -2, (1 << 8) + 1, (1 << 16) - 1, (1 << 16) + 1, i32::MIN, i32::MAX];
+
+/// Starts under every edition, with and without 8 and 9; whole checks of one start under both; and
+/// every word for the edition in an area.
+fn editions<L: Calls>(driver: &mut Driver<L>, rng: &mut Rng, least: u64) -> Outcome<()> {
+    while driver.calls_in_family() < least {
+        let (graph, start) = match rng.one_in(2) {
+            true => (Graph::of_a_row(rng), 1),
+            false => {
+                let graph = Graph::any(rng);
+                let start = rng.within(1, graph.n);
+                (graph, start)
+            }
+        };
+        start_under_every_edition(driver, rng, &graph, start)?;
+        for edition in EDITIONS {
+            check_whole(driver, rng, &graph, start, edition, &[])?;
+        }
+        let (mut lent, links) = match rng.one_in(2) {
+            true => area_of_a_run(driver, rng, &graph)?,
+            false => unreached_area(rng, &graph),
+        };
+        for word in OTHER_EDITION_WORDS.into_iter().chain(EDITIONS.map(|edition| edition as i32)) {
+            lent.area[EDITION] = word;
+            every_call(driver, rng, graph.n, &links, &mut lent)?;
+        }
+    }
+    Ok(())
+}
+
+fn start_under_every_edition<L: Calls>(
+    driver: &mut Driver<L>,
+    rng: &mut Rng,
+    graph: &Graph,
+    start: usize,
+) -> Outcome<()> {
+    let needed = graph.words_needed();
+    let noise = noise_words(rng, needed);
+    let mut lent = Lent { table: graph.table(rng), ..Lent::default() };
+    for edition in OTHER_EDITIONS.into_iter().chain(EDITIONS) {
+        for start in [start, rng.choose(&[0, graph.n + 1])] {
+            for length in [needed, rng.below(needed)] {
+                lent.area = noise[..length].to_vec();
+                driver.make(Call::Start { start, edition }, &mut lent)?;
+            }
+        }
+    }
+    Ok(())
+}
+
 fn surplus_areas<L: Calls>(driver: &mut Driver<L>, rng: &mut Rng, least: u64) -> Outcome<()> {
     while driver.calls_in_family() < least {
         let graph = Graph::any(rng);
@@ -670,6 +766,7 @@ fn any_words<L: Calls>(driver: &mut Driver<L>, rng: &mut Rng, least: u64) -> Out
             n = rng.within(1, 4);
             lent.area[..14].fill(0);
             (lent.area[0], lent.area[1]) = (1, 1);
+            lent.area[EDITION] = rng.within(1, 2) as i32;
             (lent.area[14], lent.area[15]) = (n as i32, rng.below(3) as i32);
         }
         every_call(driver, rng, n, &[], &mut lent)?;

@@ -68,6 +68,22 @@ impl Graph {
         }
     }
 
+    /// One of 01's rows ("Checks at the start from process 1").
+    pub fn of_a_row(rng: &mut Rng) -> Graph {
+        let rows: [(usize, &[(usize, usize)]); 8] = [
+            (1, &[]),
+            (1, &[(1, 1)]),
+            (2, &[(1, 2)]),
+            (2, &[(2, 1)]),
+            (2, &[(1, 2), (2, 1)]),
+            (3, &[(1, 2), (2, 3), (3, 1)]),
+            (3, &[(1, 2), (2, 1), (2, 3)]),
+            (3, &[(1, 2), (2, 3), (3, 2)]),
+        ];
+        let (n, waits) = rng.choose(&rows);
+        Graph { n, waits: waits.to_vec() }
+    }
+
     fn random(rng: &mut Rng, n: usize, m: usize) -> Graph {
         let mut taken = vec![false; n * n];
         let mut waits = Vec::new();
@@ -187,7 +203,9 @@ impl Graph {
         let once = self.waits.iter().filter(|&&(from, _)| reachable[from]).count()
             + self.waits.iter().filter(|&&(_, to)| reaching[to]).count();
         let outside = (1..=self.n).filter(|&p| reachable[p] && !reaching[p]).collect();
-        End { reachable, reaching, deliveries: 2 * once, outside }
+        // Where such an arc leads is reachable by one arc or more.
+        let by_an_arc = self.waits.iter().any(|&(from, _)| reachable[from]);
+        End { reachable, reaching, deliveries: 2 * once, outside, by_an_arc }
     }
 
     /// Which processes the search meets from `start` along the arcs as turned; place 0 is empty.
@@ -212,12 +230,21 @@ impl Graph {
 }
 
 /// The end of a check: by process from 1, who is reachable from the start and who reaches it;
-/// the number D; the processes outside, lowest first.
+/// the number D; the processes outside, lowest first; whether any process is reachable by one arc
+/// or more.
 pub struct End {
     pub reachable: Vec<bool>,
     pub reaching: Vec<bool>,
     pub deliveries: usize,
     pub outside: Vec<usize>,
+    by_an_arc: bool,
+}
+
+impl End {
+    /// Whether the start is in a knot by an edition (02, N4).
+    pub fn is_knot(&self, edition: usize) -> bool {
+        self.outside.is_empty() && (edition == 1 || self.by_an_arc)
+    }
 }
 
 #[test]

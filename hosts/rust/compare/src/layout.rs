@@ -4,6 +4,8 @@
 use crate::graphs::Graph;
 use crate::rng::Rng;
 
+/// The word that names the edition.
+pub const EDITION: usize = 3;
 const HEADING: usize = 14;
 
 /// The most messages on a link.
@@ -64,6 +66,7 @@ pub fn draw_area(rng: &mut Rng, graph: &Graph, table: &[u8], links: &[Link]) -> 
         2 => rng.within(2030, 2048) as i32,
         _ => rng.below(2049) as i32,
     };
+    area[EDITION] = rng.within(1, 2) as i32;
     for (word, field) in area[HEADING..].iter_mut().zip(table.chunks_exact(2)) {
         *word = i32::from(u16::from_le_bytes([field[0], field[1]]));
     }

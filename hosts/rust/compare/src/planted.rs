@@ -2,9 +2,9 @@
 //! a call can have, is told apart from the plain Rust, and the call is named.
 
 use crate::driver::Driver;
-use crate::families::PLACES;
+use crate::families::{EDITIONS, OTHER_EDITIONS, OTHER_EDITION_WORDS, PLACES};
 use crate::graphs::Graph;
-use crate::layout::{links, Link, MOST_WAITING};
+use crate::layout::{links, Link, EDITION, MOST_WAITING};
 use crate::{compare, Options};
 use calls::{Answer, Calls, LentRecord, Plain, Received};
 use std::cell::RefCell;
@@ -24,6 +24,14 @@ enum Fault {
     StartTouchesASurplusWord,
     StartLeavesOutPreceding,
     StartRefusesAll,
+    StartTakes30BeforeTheTable,
+    StartTakes30Before8,
+    StartTakes30After9,
+    StartTakesOtherEditionsForTheSecond,
+    StartCutsEditionsTo16Bits,
+    StartCutsEditionsTo32Bits,
+    StartAlwaysKeepsTheFirstEdition,
+    StartWritesWhenTheEditionIsRefused,
     PickTakes24Before23,
     PickWritesWhenRefused,
     PickGivesCountsUnsigned,
@@ -42,6 +50,8 @@ enum Fault {
     PickCutsPlacesTo32Bits,
     PickWritesWhenThePlaceIsRefused,
     PickGivesAKindWhenThePlaceIsRefused,
+    PickForgetsTheEdition,
+    RunForgetsTheEdition,
     RunTakesTheNewest,
     RunTakesOnlyItsFirstStep,
     RunForgetsMadeWhenRefused,
@@ -55,8 +65,18 @@ enum Fault {
     ReportNamesTheLowestSucceeding,
     ReportCountsOneMore,
     ReportWritesIntoTheArea,
+    ReportJudgesTheFirstEditionAsTheSecond,
+    ReportJudgesTheSecondEditionAsTheFirst,
+    ReportCountsTheStartAsReached,
+    ReportLeavesOutLoops,
+    ReportCountsAPredecessorAsReached,
+    ReportJudgesByTheWaitsOfProcess1,
+    ReportMakesOutside1WithoutAKnot,
+    ReportMarksByTheSumAlone,
     RecordHasNoFather,
     RecordTakes25First,
+    AreaEditionsAreNotTested,
+    AreaEdition0IsTheFirst,
     FreeWordsAreNotTested,
     SurplusWordsAreTested,
     StepNamesNoProbesAtDegree0,
@@ -75,25 +95,54 @@ fn first_with(flag: usize, area: &mut [i32], mut processes: impl Iterator<Item =
     first.map_or(0, |process| process as i64)
 }
 
-/// The links of a well-formed area.
-fn links_in(area: &[i32]) -> Vec<Link> {
+/// The waits of a well-formed area.
+fn graph_in(area: &[i32]) -> Graph {
     let (n, m) = (area[14] as usize, area[15] as usize);
     let arcs = area[16 + 2 * n..].chunks_exact(4).take(m);
-    let waits = arcs.map(|arc| (arc[0] as usize, arc[1] as usize)).collect();
-    links(&Graph { n, waits })
+    Graph { n, waits: arcs.map(|arc| (arc[0] as usize, arc[1] as usize)).collect() }
+}
+
+/// The links of a well-formed area.
+fn links_in(area: &[i32]) -> Vec<Link> {
+    links(&graph_in(area))
+}
+
+fn is_edition(number: usize) -> bool {
+    EDITIONS.contains(&number)
+}
+
+fn names_edition(word: i32) -> bool {
+    is_edition(word as usize)
+}
+
+/// An accepted report: the edition, N, the waits, the start, and the values.
+type Judged = (i32, usize, Vec<(usize, usize)>, i32, [i64; 5]);
+
+/// What was called. Noted by the sound one only.
+#[derive(Default)]
+struct Noted {
+    /// Of starts on a table that is accepted: the edition, whether the start is a process, whether
+    /// the area is long enough, and the number that was given.
+    starts: BTreeSet<(usize, bool, bool, u32)>,
+    /// Of picks that were not refused with 21, 25 or 23: how many messages waited on the link, the
+    /// place, and the number that was given.
+    picks: BTreeSet<(usize, usize, u32)>,
+    /// On areas of one or two processes.
+    reports: BTreeSet<Judged>,
+    /// Of calls on an area that would be well formed with an edition: the call, the word in the
+    /// edition's place, and whether it was refused with 21.
+    editions: BTreeSet<(&'static str, i32, bool)>,
 }
 
 /// The plain Rust with a fault.
 struct Planted {
     fault: Fault,
-    /// Of picks that were not refused with 21, 25 or 23: how many messages waited on the link, the
-    /// place, and the number that was given. Noted by the sound one only.
-    picks: RefCell<BTreeSet<(usize, usize, u32)>>,
+    noted: RefCell<Noted>,
 }
 
 impl Planted {
     fn new(fault: Fault) -> Planted {
-        Planted { fault, picks: RefCell::default() }
+        Planted { fault, noted: RefCell::default() }
     }
 
     fn has(&self, fault: Fault) -> bool {
@@ -146,13 +195,28 @@ impl Planted {
         }
     }
 
+    /// A word that a faulty test of areas takes for another one.
+    fn mistaken_word(&self, area: &[i32]) -> Option<(usize, i32)> {
+        let edition = *area.get(EDITION)?;
+        match self.fault {
+            FreeWordsAreNotTested if area.len() > 13 => Some((13, 0)),
+            AreaEditionsAreNotTested if !names_edition(edition) => Some((EDITION, 1)),
+            AreaEdition0IsTheFirst if edition == 0 => Some((EDITION, 1)),
+            _ => None,
+        }
+    }
+
     /// The area as a library with a faulty test of areas would see it.
-    fn seen(&self, area: &mut [i32], call: impl Fn(&mut [i32]) -> Answer) -> Answer {
-        if self.has(FreeWordsAreNotTested) && area.len() > 13 {
-            let free = area[13];
-            area[13] = 0;
+    fn seen(
+        &self,
+        name: &'static str,
+        area: &mut [i32],
+        call: impl Fn(&mut [i32]) -> Answer,
+    ) -> Answer {
+        if let Some((place, word)) = self.mistaken_word(area) {
+            let held = std::mem::replace(&mut area[place], word);
             let answer = call(area);
-            area[13] = free;
+            area[place] = held;
             return answer;
         }
         if self.has(SurplusWordsAreTested) && area.len() > 16 {
@@ -161,7 +225,38 @@ impl Planted {
                 return Answer::new(21, []);
             }
         }
-        call(area)
+        let answer = call(area);
+        if self.has(Sound) {
+            self.note_edition(name, area, answer.number == 21);
+        }
+        answer
+    }
+
+    fn note_edition(&self, name: &'static str, area: &[i32], refused: bool) {
+        let mut area = area.to_vec();
+        let Some(held) = area.get_mut(EDITION) else { return };
+        let word = std::mem::replace(held, 1);
+        if Plain.report(&mut area).number != 21 {
+            self.noted.borrow_mut().editions.insert((name, word, refused));
+        }
+    }
+
+    /// Whether a process is reachable from the start by one arc or more, by a fault that mistakes it.
+    fn by_an_arc(&self, area: &mut [i32]) -> Option<bool> {
+        let Graph { n, waits } = graph_in(area);
+        let start = area[1] as usize;
+        let any = |is: &dyn Fn(usize, usize) -> bool| waits.iter().any(|&(from, to)| is(from, to));
+        match (self.fault, area[EDITION]) {
+            (ReportJudgesTheFirstEditionAsTheSecond, 1) => Some(any(&|from, _| from == start)),
+            (ReportJudgesTheSecondEditionAsTheFirst, 2) => Some(true),
+            (ReportCountsTheStartAsReached, 2) => Some(first_with(SUCCEEDING, area, 1..=n) != 0),
+            (ReportLeavesOutLoops, 2) => Some(any(&|from, to| from == start && to != start)),
+            (ReportCountsAPredecessorAsReached, 2) => {
+                Some(any(&|from, to| from == start || to == start))
+            }
+            (ReportJudgesByTheWaitsOfProcess1, 2) => Some(any(&|from, _| from == 1)),
+            _ => None,
+        }
     }
 }
 
@@ -209,36 +304,50 @@ impl Calls for Planted {
         Plain.next(table, chain, arc)
     }
 
-    fn start(&self, table: &mut [u8], start: usize, area: &mut [i32]) -> Answer {
+    fn start(&self, table: &mut [u8], start: usize, edition: usize, area: &mut [i32]) -> Answer {
         if self.has(StartRefusesAll) {
             return Answer::new(8, []);
         }
-        let answer = Plain.start(table, start, area);
-        let (n, m) = match Plain.read_table(table).values {
+        let taken = match self.fault {
+            StartTakesOtherEditionsForTheSecond if edition != 1 => 2,
+            StartCutsEditionsTo16Bits => usize::from(edition as u16),
+            StartCutsEditionsTo32Bits => edition as u32 as usize,
+            _ => edition,
+        };
+        let mut answer = Plain.start(table, start, taken, area);
+        let read = Plain.read_table(table);
+        let (n, m) = match read.values {
             [n, m, ..] => (n as usize, m as usize),
         };
-        if answer.number == 0 {
-            let needed = 8 * n + 20 * m + 16;
-            if self.has(StartTouchesASurplusWord) && area.len() > needed {
-                area[needed] = 0;
-            }
-            if self.has(StartLeavesOutPreceding) {
-                area[16 + 2 * n + 4 * m + 6 * (start - 1)] = 1;
-            }
+        let needed = 8 * n + 20 * m + 16;
+        if self.has(Sound) && read.number == 0 {
+            let [is_process, is_long] = [(1..=n).contains(&start), area.len() >= needed];
+            let started = (edition, is_process, is_long, answer.number);
+            self.noted.borrow_mut().starts.insert(started);
+        }
+        match (self.fault, answer.number) {
+            (StartTouchesASurplusWord, 0) if area.len() > needed => area[needed] = 0,
+            (StartLeavesOutPreceding, 0) => area[16 + 2 * n + 4 * m + 6 * (start - 1)] = 1,
+            (StartAlwaysKeepsTheFirstEdition, 0) => area[EDITION] = 1,
+            (StartTakes30BeforeTheTable, 1..=7) if !is_edition(edition) => answer.number = 30,
+            (StartTakes30Before8, 8) if !is_edition(edition) => answer.number = 30,
+            (StartTakes30After9, 30) if area.len() < needed => answer.number = 9,
+            (StartWritesWhenTheEditionIsRefused, 30) => area.fill(0),
+            _ => {}
         }
         answer
     }
 
     fn pick(&self, area: &mut [i32], from: usize, to: usize, place: usize) -> Answer {
         let before = area.to_vec();
-        let mut answer = self.seen(area, |area| Plain.pick(area, from, to, place));
+        let mut answer = self.seen("pick", area, |area| Plain.pick(area, from, to, place));
         if ![21, 25, 23].contains(&answer.number) {
             let link =
                 links_in(&before).into_iter().find(|link| (link.from, link.to) == (from, to));
             let link = link.expect("there is one, or else 25");
             if self.has(Sound) {
                 let picked = (link.load(&before), place, answer.number);
-                self.picks.borrow_mut().insert(picked);
+                self.noted.borrow_mut().picks.insert(picked);
             }
             answer = self.pick_on_link(answer, &before, area, link, place);
         }
@@ -249,6 +358,7 @@ impl Calls for Planted {
             PickWritesWhenRefused if answer.number == 22 => area[2] += 1,
             PickGivesCountsUnsigned => answer.values[1] = answer.values[1].abs(),
             PickLeavesTheRunUntouched => area.copy_from_slice(&before),
+            PickForgetsTheEdition if answer.number == 0 => area[EDITION] = 1,
             _ => {}
         }
         answer
@@ -264,8 +374,9 @@ impl Calls for Planted {
                 area[link.place..link.place + load].rotate_right(1);
             }
         }
-        let mut answer = self.seen(area, |area| Plain.run_on(area, k));
+        let mut answer = self.seen("run_on", area, |area| Plain.run_on(area, k));
         match self.fault {
+            RunForgetsTheEdition if answer.values[1] > 0 => area[EDITION] = 1,
             RunTakesTheNewest if answer.values[1] == 0 => area.copy_from_slice(&before),
             RunForgetsMadeWhenRefused if answer.number != 0 => answer.values[1] = 0,
             RunSaysOverForSpent if answer.number == 0 => answer.values[0] = 1,
@@ -278,9 +389,19 @@ impl Calls for Planted {
     }
 
     fn report(&self, area: &mut [i32]) -> Answer {
-        let mut answer = self.seen(area, |area| Plain.report(area));
+        let mut answer = self.seen("report", area, |area| Plain.report(area));
         if answer.number == 0 {
             let processes = area[14] as usize;
+            if self.has(Sound) && processes <= 2 {
+                let Graph { n, waits } = graph_in(area);
+                let values = answer.values[..5].try_into().expect("five values");
+                let report = (area[EDITION], n, waits, area[1], values);
+                self.noted.borrow_mut().reports.insert(report);
+            }
+            if let Some(by_an_arc) = self.by_an_arc(area) {
+                let knot = i64::from(answer.values[2] == 0 && by_an_arc);
+                (answer.values[1], answer.values[4]) = (knot, knot);
+            }
             match self.fault {
                 ReportHasAFixedVerdict => answer.values[1] = 1,
                 ReportNamesTheStartAsEscape => answer.values[3] = area[1].into(),
@@ -298,6 +419,10 @@ impl Calls for Planted {
                 }
                 ReportCountsOneMore => answer.values[0] += 1,
                 ReportWritesIntoTheArea => area[2] ^= 1,
+                ReportMakesOutside1WithoutAKnot if answer.values[1..3] == [0, 0] => {
+                    answer.values[2] = 1
+                }
+                ReportMarksByTheSumAlone => answer.values[4] = i64::from(answer.values[2] == 0),
                 _ => {}
             }
         }
@@ -308,7 +433,7 @@ impl Calls for Planted {
         if self.has(RecordTakes25First) && process == 0 {
             return Answer::new(25, []);
         }
-        let mut answer = self.seen(area, |area| Plain.read_record(area, process));
+        let mut answer = self.seen("read_record", area, |area| Plain.read_record(area, process));
         if self.has(RecordHasNoFather) {
             answer.values[5] = 0;
         }
@@ -363,6 +488,14 @@ fn every_planted_fault_is_found_and_its_call_named() {
         (StartTouchesASurplusWord, "Start"),
         (StartLeavesOutPreceding, "Start"),
         (StartRefusesAll, "Start"),
+        (StartTakes30BeforeTheTable, "Start"),
+        (StartTakes30Before8, "Start"),
+        (StartTakes30After9, "Start"),
+        (StartTakesOtherEditionsForTheSecond, "Start"),
+        (StartCutsEditionsTo16Bits, "Start"),
+        (StartCutsEditionsTo32Bits, "Start"),
+        (StartAlwaysKeepsTheFirstEdition, "Start"),
+        (StartWritesWhenTheEditionIsRefused, "Start"),
         (PickTakes24Before23, "Pick"),
         (PickWritesWhenRefused, "Pick"),
         (PickGivesCountsUnsigned, "Pick"),
@@ -381,6 +514,8 @@ fn every_planted_fault_is_found_and_its_call_named() {
         (PickCutsPlacesTo32Bits, "Pick"),
         (PickWritesWhenThePlaceIsRefused, "Pick"),
         (PickGivesAKindWhenThePlaceIsRefused, "Pick"),
+        (PickForgetsTheEdition, "Pick"),
+        (RunForgetsTheEdition, "RunOn"),
         (RunTakesTheNewest, "RunOn"),
         (RunTakesOnlyItsFirstStep, "RunOn"),
         (RunForgetsMadeWhenRefused, "RunOn"),
@@ -394,8 +529,18 @@ fn every_planted_fault_is_found_and_its_call_named() {
         (ReportNamesTheLowestSucceeding, "Report"),
         (ReportCountsOneMore, "Report"),
         (ReportWritesIntoTheArea, "Report"),
+        (ReportJudgesTheFirstEditionAsTheSecond, "Report"),
+        (ReportJudgesTheSecondEditionAsTheFirst, "Report"),
+        (ReportCountsTheStartAsReached, "Report"),
+        (ReportLeavesOutLoops, "Report"),
+        (ReportCountsAPredecessorAsReached, "Report"),
+        (ReportJudgesByTheWaitsOfProcess1, "Report"),
+        (ReportMakesOutside1WithoutAKnot, "Report"),
+        (ReportMarksByTheSumAlone, "Report"),
         (RecordHasNoFather, "ReadRecord"),
         (RecordTakes25First, "ReadRecord"),
+        (AreaEditionsAreNotTested, ""),
+        (AreaEdition0IsTheFirst, ""),
         (FreeWordsAreNotTested, ""),
         (SurplusWordsAreTested, ""),
         (StepNamesNoProbesAtDegree0, "Step"),
@@ -408,19 +553,19 @@ fn every_planted_fault_is_found_and_its_call_named() {
     }
 }
 
-/// The picks of one family: how many messages waited on the link, the place, and the number given.
-fn picks_of(family: &str, per_mille: u64) -> BTreeSet<(usize, usize, u32)> {
+/// What one family calls.
+fn noted_in(family: &str, per_mille: u64) -> Noted {
     let options = Options { seed: 7, family: Some(family.into()), program: None };
     let library = Planted::new(Sound);
     let mut driver = Driver::new(&library, options.seed);
     compare(&mut driver, &options, per_mille).expect("no fault is planted");
-    library.picks.into_inner()
+    library.noted.into_inner()
 }
 
 /// 02, N5: on links with 0 to 4 messages.
 #[test]
 fn every_place_is_tried_with_every_number_of_messages() {
-    let picks = picks_of("every place on a link", 100);
+    let Noted { picks, .. } = noted_in("every place on a link", 100);
     for load in 0..=MOST_WAITING {
         for place in PLACES {
             let numbers: &[u32] = match place {
@@ -441,12 +586,58 @@ fn every_place_is_tried_with_every_number_of_messages() {
 #[test]
 fn messages_overtake_each_other_in_whole_checks() {
     for (family, most) in [("valid areas, orders drawn", MOST_WAITING), ("the largest checks", 2)] {
-        let picks = picks_of(family, 200);
+        let Noted { picks, .. } = noted_in(family, 200);
         for load in 2..=most {
             for place in 1..=load {
                 let pick = (load, place, 0);
                 assert!(picks.contains(&pick), "{family}: {pick:?} is missing");
             }
+        }
+    }
+}
+
+/// 02, N4: with a start that is a process and one that is not, in areas long enough and too short.
+#[test]
+fn every_edition_is_tried_with_and_without_8_and_9() {
+    let Noted { starts, .. } = noted_in("editions", 100);
+    for edition in EDITIONS.into_iter().chain(OTHER_EDITIONS) {
+        for (is_process, is_long) in [(true, true), (true, false), (false, true), (false, false)] {
+            let number = match (is_process, is_edition(edition), is_long) {
+                (false, ..) => 8,
+                (_, false, _) => 30,
+                (.., false) => 9,
+                _ => 0,
+            };
+            let started = (edition, is_process, is_long, number);
+            assert!(starts.contains(&started), "{started:?} is missing");
+        }
+    }
+}
+
+/// 02, N4: 21 from every call, unless the word names an edition.
+#[test]
+fn every_call_is_made_on_every_edition_in_an_area() {
+    let Noted { editions, .. } = noted_in("editions", 100);
+    for call in ["pick", "run_on", "report", "read_record"] {
+        for word in OTHER_EDITION_WORDS.into_iter().chain([1, 2]) {
+            let called = (call, word, !names_edition(word));
+            assert!(editions.contains(&called), "{called:?} is missing");
+        }
+    }
+}
+
+/// A row of 01 with outside 0: N, the waits, D, and the verdict under editions 1 and 2.
+type Row = (usize, &'static [(usize, usize)], i64, [i64; 2]);
+
+#[test]
+fn the_rows_that_n4_names_are_judged_under_both_editions() {
+    let rows: [Row; 3] =
+        [(1, &[], 0, [1, 0]), (1, &[(1, 1)], 4, [1, 1]), (2, &[(2, 1)], 2, [1, 0])];
+    let Noted { reports, .. } = noted_in("editions", 100);
+    for (n, waits, deliveries, knots) in rows {
+        for (edition, knot) in (1..).zip(knots) {
+            let report = (edition, n, waits.to_vec(), 1, [deliveries, knot, 0, 0, knot]);
+            assert!(reports.contains(&report), "{report:?} is missing");
         }
     }
 }
@@ -465,7 +656,7 @@ fn every_refusal_of_every_call_occurs() {
         ("read_table", &[0, 1, 2, 3, 4, 5, 6, 7]),
         ("report", &[0, 21, 26]),
         ("run_on", &[0, 21, 22, 24]),
-        ("start", &[0, 1, 2, 3, 4, 5, 6, 7, 8, 9]),
+        ("start", &[0, 1, 2, 3, 4, 5, 6, 7, 8, 9, 30]),
         ("step", &[0, 21, 22, 25]),
         ("write_table", &[0, 2, 4, 7, 10, 11]),
     ];

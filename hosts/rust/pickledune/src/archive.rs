@@ -37,12 +37,13 @@ pub fn next(table: &[u8], chain: u32, arc: usize) -> usize {
     unsafe { pickledune_next(table.as_ptr(), table.len(), chain, arc) }
 }
 
-pub fn start(table: &[u8], start: usize, area: &mut [i32]) -> u32 {
+pub fn start(table: &[u8], start: usize, edition: usize, area: &mut [i32]) -> u32 {
     unsafe {
         pickledune_start(
             table.as_ptr(),
             table.len(),
             start,
+            edition,
             area.as_mut_ptr(),
             area.len(),
         )

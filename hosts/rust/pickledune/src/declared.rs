@@ -26,6 +26,7 @@ extern "C" {
         table: *const u8,
         table_bytes: usize,
         start: usize,
+        edition: usize,
         area: *mut i32,
         words: usize,
     ) -> u32;

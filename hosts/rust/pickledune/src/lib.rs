@@ -10,7 +10,7 @@
 //! let mut table = [0u8; pickledune::table_bytes(2, 1)];
 //! pickledune::write_table(2, &[1, 2], &mut table)?; // 1 waits for 2
 //! let mut area = [0i32; pickledune::area_words(2, 1)];
-//! pickledune::start(&table, 1, &mut area)?;
+//! pickledune::start(&table, 1, 1, &mut area)?; // at process 1, under edition 1
 //! assert_eq!(pickledune::run_on(&mut area, 2048), Ran::Over(2));
 //! assert_eq!(pickledune::report(&area)?.verdict, Verdict::Free);
 //! # Ok::<(), pickledune::Refusal>(())
@@ -78,7 +78,7 @@ pub enum Ran {
     Refused { refusal: Refusal, made: u32 },
 }
 
-/// Whether the start is in a knot; 01 calls `Free` "none".
+/// Whether the start is in a knot by the run's edition; 01 calls `Free` "none".
 #[derive(Clone, Copy, Debug, PartialEq, Eq, Hash)]
 pub enum Verdict {
     Knot,
@@ -98,7 +98,7 @@ pub struct Report {
     /// The deliveries that the run took.
     pub deliveries: u32,
     pub verdict: Verdict,
-    /// How many processes that the start waits for, at any remove, do not wait for it.
+    /// How many processes that the start waits for, at any remove, do not wait for it (0 also if it waits for nobody).
     pub outside: i32,
     /// The lowest-numbered of those (the lowest-numbered process with subordinate 1), if there is any (02, N1).
     pub escape: Option<u32>,
@@ -172,9 +172,10 @@ pub fn next(table: &[u8], chain: Chain, arc: usize) -> Option<usize> {
     some(archive::next(table, chain_number(chain), arc))
 }
 
-/// Starts a check at process `start`. The area needs [`area_words`] words, and may hold anything. 1, 2, 3, 4, 5, 6, 7, 8, 9.
-pub fn start(table: &[u8], start: usize, area: &mut [i32]) -> Result<(), Refusal> {
-    accepted(archive::start(table, start, area))
+/// Starts a check at process `start` under edition 1 or 2 of the rulebook (02, N4), which the area then holds. It needs [`area_words`]
+/// words, and may hold anything before. 1, 2, 3, 4, 5, 6, 7, 8, 30, 9.
+pub fn start(table: &[u8], start: usize, edition: usize, area: &mut [i32]) -> Result<(), Refusal> {
+    accepted(archive::start(table, start, edition, area))
 }
 
 /// Delivers the message at `place` of the link from one process to another, 1 for the oldest, and gives it; the others keep their order.

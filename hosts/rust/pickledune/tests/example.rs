@@ -16,11 +16,15 @@ fn written(n: usize, list: &[u16]) -> Vec<u8> {
     table
 }
 
-fn started(table: &[u8], start: usize) -> Vec<i32> {
+fn started_under(edition: usize, table: &[u8], start: usize) -> Vec<i32> {
     let sizes = pickledune::read_table(table).unwrap();
     let mut area = vec![0; area_words(sizes.processes, sizes.arcs)];
-    assert_eq!(pickledune::start(table, start, &mut area), Ok(()));
+    assert_eq!(pickledune::start(table, start, edition, &mut area), Ok(()));
     area
+}
+
+fn started(table: &[u8], start: usize) -> Vec<i32> {
+    started_under(1, table, start)
 }
 
 fn process(
@@ -109,31 +113,63 @@ fn running_on_does_what_the_picks_do() {
     assert_eq!(area, picked);
 }
 
-/// A row P of 01, from process 1: N, the waits, D, the verdict, outside; and escape by 02, N1.
-type Row = (usize, &'static [u16], u32, Verdict, i32, Option<u32>);
+/// The verdict under editions 1 and 2 (02, N4).
+type Verdicts = [Verdict; 2];
+const KNOT: Verdicts = [Verdict::Knot, Verdict::Knot];
+const KNOT_BY_THE_FIRST: Verdicts = [Verdict::Knot, Verdict::Free];
+const FREE: Verdicts = [Verdict::Free, Verdict::Free];
+
+/// A row P of 01, from process 1: N, the waits, D, the verdicts, outside; and escape by 02, N1.
+type Row = (usize, &'static [u16], u32, Verdicts, i32, Option<u32>);
 
 #[test]
 fn the_known_verdicts() {
     let rows: [Row; 8] = [
-        (1, &[], 0, Verdict::Knot, 0, None),
-        (1, &[1, 1], 4, Verdict::Knot, 0, None),
-        (2, &[1, 2], 2, Verdict::Free, 1, Some(2)),
-        (2, &[2, 1], 2, Verdict::Knot, 0, None),
-        (2, &[1, 2, 2, 1], 8, Verdict::Knot, 0, None),
-        (3, &[1, 2, 2, 3, 3, 1], 12, Verdict::Knot, 0, None),
-        (3, &[1, 2, 2, 1, 2, 3], 10, Verdict::Free, 1, Some(3)),
-        (3, &[1, 2, 2, 3, 3, 2], 6, Verdict::Free, 2, Some(2)),
+        (1, &[], 0, KNOT_BY_THE_FIRST, 0, None),
+        (1, &[1, 1], 4, KNOT, 0, None),
+        (2, &[1, 2], 2, FREE, 1, Some(2)),
+        (2, &[2, 1], 2, KNOT_BY_THE_FIRST, 0, None),
+        (2, &[1, 2, 2, 1], 8, KNOT, 0, None),
+        (3, &[1, 2, 2, 3, 3, 1], 12, KNOT, 0, None),
+        (3, &[1, 2, 2, 1, 2, 3], 10, FREE, 1, Some(3)),
+        (3, &[1, 2, 2, 3, 3, 2], 6, FREE, 2, Some(2)),
     ];
-    for (n, list, d, verdict, outside, escape) in rows {
-        let mut area = started(&written(n, list), 1);
-        assert_eq!(pickledune::run_on(&mut area, 2048), Ran::Over(d));
-        let report = pickledune::report(&area).unwrap();
-        assert_eq!(
-            (report.deliveries, report.verdict, report.outside, report.escape),
-            (d, verdict, outside, escape)
-        );
-        assert_eq!(report.mark == Mark::Returned, verdict == Verdict::Knot);
+    for (n, list, d, verdicts, outside, escape) in rows {
+        for (edition, verdict) in (1..).zip(verdicts) {
+            let mut area = started_under(edition, &written(n, list), 1);
+            assert_eq!(pickledune::run_on(&mut area, 2048), Ran::Over(d));
+            let report = pickledune::report(&area).unwrap();
+            assert_eq!(
+                (report.deliveries, report.verdict, report.outside, report.escape),
+                (d, verdict, outside, escape)
+            );
+            assert_eq!(report.mark == Mark::Returned, verdict == Verdict::Knot);
+        }
     }
+}
+
+/// 02, N4: 30 comes after 8 and before 9; an area that holds another edition gives 21.
+#[test]
+fn other_editions() {
+    let mut area = started(&TABLE, 1);
+    let before = area.clone();
+    for edition in [0, 3, 65_535, usize::MAX] {
+        assert_eq!(
+            pickledune::start(&TABLE, 3, edition, &mut area),
+            Err(Refusal(8))
+        );
+        assert_eq!(
+            pickledune::start(&TABLE, 1, edition, &mut area),
+            Err(Refusal(30))
+        );
+        assert_eq!(
+            pickledune::start(&TABLE, 1, edition, &mut area[1..]),
+            Err(Refusal(30))
+        );
+    }
+    assert_eq!(area, before);
+    area[3] = 0;
+    assert_eq!(pickledune::report(&area), Err(Refusal(21)));
 }
 
 /// 02, N1: 5 waits for the four others; 1 waits for 5 in turn, and 2, 3 and 4 for nobody. The lowest of these three is named, whichever is
@@ -212,7 +248,7 @@ fn refusals_change_nothing() {
 
     let mut words = [5i32; area_words(2, 1)];
     assert_eq!(
-        pickledune::start(&TABLE, 1, &mut words[1..]),
+        pickledune::start(&TABLE, 1, 1, &mut words[1..]),
         Err(Refusal(9))
     );
     assert_eq!(pickledune::pick(&mut words, 1, 2, 1), Err(Refusal(21)));

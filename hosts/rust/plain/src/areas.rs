@@ -9,7 +9,8 @@ pub(crate) const KNOT_CHECK: i32 = 1;
 pub(crate) const CHECK: usize = 0;
 pub(crate) const START: usize = 1;
 pub(crate) const DELIVERIES: usize = 2;
-const FREE: std::ops::Range<usize> = 3..14;
+pub(crate) const EDITION: usize = 3;
+const FREE: std::ops::Range<usize> = 4..14;
 /// The words before the table.
 pub(crate) const HEADING: usize = 14;
 
@@ -20,6 +21,19 @@ pub(crate) type RecordWords = [i32; 6];
 pub(crate) type Link = [i32; 8];
 /// The most messages on a link.
 pub(crate) const MOST_WAITING: usize = 4;
+
+/// The rulebook's editions (02, N4), by their numbers.
+#[derive(Clone, Copy, PartialEq, Eq)]
+pub(crate) enum Edition {
+    First = 1,
+    Second = 2,
+}
+
+impl Edition {
+    pub(crate) fn numbered(number: usize) -> Option<Edition> {
+        [Edition::First, Edition::Second].into_iter().find(|&edition| edition as usize == number)
+    }
+}
 
 /// The words that a start needs.
 pub fn words_needed(sizes: Sizes) -> usize {
@@ -92,6 +106,11 @@ pub(crate) fn words_of(record: &Record) -> RecordWords {
     [flags as i32, record.cs, record.num as i32, record.father as i32, 0, 0]
 }
 
+/// The edition that a heading names, as every heading that was tested does.
+pub(crate) fn edition_in(heading: &[i32]) -> Option<Edition> {
+    Edition::numbered(usize::try_from(heading[EDITION]).ok()?)
+}
+
 /// An area in its parts, for reading.
 pub(crate) struct Area<'a> {
     pub(crate) heading: &'a [i32],
@@ -134,6 +153,7 @@ impl<'a> Area<'a> {
         self.heading[CHECK] == KNOT_CHECK
             && (1..=self.records.len() as i32).contains(&self.heading[START])
             && (0..=MOST_DELIVERIES).contains(&self.heading[DELIVERIES])
+            && edition_in(self.heading).is_some()
             && all_zero(&self.heading[FREE])
     }
 

@@ -68,6 +68,8 @@ pub enum Refusal {
     NoLink = 25,
     /// Report before the run is over.
     NotOver = 26,
+    /// 02, N4: an edition other than 1 and 2.
+    NoEdition = 30,
     /// 02, N5: the place is 0 or beyond the messages waiting.
     NoPlace = 31,
 }

@@ -1,8 +1,8 @@
 //! The check program of 01: bytes of standard input to bytes of standard output.
 
 use crate::areas::words_needed;
-use crate::runs::{Delivered, Indexed, Run};
-use crate::tables::{accept, leading_sizes, Table};
+use crate::runs::{Beginning, Delivered, Indexed, Run};
+use crate::tables::leading_sizes;
 use crate::{Message, Refusal};
 
 /// The longest input, in bytes.
@@ -15,18 +15,27 @@ pub fn check_program(input: &[u8], out: &mut Vec<u8>) {
     }
 }
 
-/// The parts of an input: start process, table, picks. Checks 13, 1, 2, 3, 12.
-fn split(input: &[u8]) -> Result<(usize, &[u8], &[u8]), Refusal> {
+/// The parts of an input.
+struct Input<'a> {
+    start: usize,
+    edition: usize,
+    table: &'a [u8],
+    picks: &'a [u8],
+}
+
+/// Checks 13, 1, 2, 3, 12.
+fn split(input: &[u8]) -> Result<Input<'_>, Refusal> {
     if input.len() > LARGEST_INPUT {
         return Err(Refusal::InputLong);
     }
-    let (start, rest) = input.split_at_checked(2).ok_or(Refusal::NoSizes)?;
+    // 02, N4: "a 16-bit field after the start process, so 1 is met under 4 bytes before the table".
+    let (heading, rest) = input.split_at_checked(4).ok_or(Refusal::NoSizes)?;
     let length = 2 * leading_sizes(rest)?.fields();
     let (table, picks) = rest.split_at_checked(length).ok_or(Refusal::Length)?;
     if picks.len() % 4 != 0 {
         return Err(Refusal::PickCut);
     }
-    Ok((number(start), table, picks))
+    Ok(Input { start: number(&heading[..2]), edition: number(&heading[2..]), table, picks })
 }
 
 fn number(field: &[u8]) -> usize {
@@ -34,14 +43,10 @@ fn number(field: &[u8]) -> usize {
 }
 
 fn check(input: &[u8], out: &mut Vec<u8>) -> Result<(), Refusal> {
-    let (start, table, picks) = split(input)?;
-    let (bytes, waits) = accept(table)?;
-    let sizes = bytes.sizes();
-    if !(1..=sizes.n).contains(&start) {
-        return Err(Refusal::Start);
-    }
-    let mut words = vec![0; words_needed(sizes)];
-    let mut run = Run::begin(&mut words, table, sizes, waits, start);
+    let Input { start, edition, table, picks } = split(input)?;
+    let beginning = Beginning::accept(table, start, edition)?;
+    let mut words = vec![0; words_needed(beginning.sizes)];
+    let mut run = Run::begin(&mut words, beginning);
     let mut links = Indexed::new(&run);
     for pick in picks.chunks_exact(4) {
         let (from, to) = (number(&pick[..2]), number(&pick[2..]));

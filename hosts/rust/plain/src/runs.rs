@@ -1,8 +1,9 @@
 //! The calls on a run area: start, pick, running on, the report, reading a record.
 
 use crate::areas::{
-    code_of, first_link, load, message_of, record_of, second_link, without, words_needed, words_of,
-    Area, Link, RecordWords, CHECK, DELIVERIES, HEADING, KNOT_CHECK, MOST_WAITING, START,
+    code_of, edition_in, first_link, load, message_of, record_of, second_link, without,
+    words_needed, words_of, Area, Edition, Link, RecordWords, CHECK, DELIVERIES, EDITION, HEADING,
+    KNOT_CHECK, MOST_WAITING, START,
 };
 use crate::steps::{advance, advance_start, Message, Probe, Record, Sent};
 use crate::tables::{accept, Arc, Chain, Sizes, Table, Waits, Words};
@@ -19,7 +20,7 @@ pub enum Stopped {
 #[derive(Clone, Copy, Debug, PartialEq, Eq)]
 pub struct Report {
     pub deliveries: u32,
-    /// The verdict: a knot, or none.
+    /// The verdict: a knot, or none. "Verdicts are judged by the edition named at start" (02, N4).
     pub knot: bool,
     pub outside: i32,
     /// 02, N1: "escape is the lowest-numbered process with subordinate 1, and 0 only where there is
@@ -125,6 +126,32 @@ impl Indexed {
     }
 }
 
+/// What a check begins with.
+pub(crate) struct Beginning<'a> {
+    table: &'a [u8],
+    pub(crate) sizes: Sizes,
+    waits: Waits,
+    start: usize,
+    edition: Edition,
+}
+
+impl<'a> Beginning<'a> {
+    /// Checks 1 to 8, then 30.
+    pub(crate) fn accept(
+        table: &'a [u8],
+        start: usize,
+        edition: usize,
+    ) -> Result<Beginning<'a>, Refusal> {
+        let (bytes, waits) = accept(table)?;
+        let sizes = bytes.sizes();
+        if !(1..=sizes.n).contains(&start) {
+            return Err(Refusal::Start);
+        }
+        let edition = Edition::numbered(edition).ok_or(Refusal::NoEdition)?;
+        Ok(Beginning { table, sizes, waits, start, edition })
+    }
+}
+
 /// A well-formed area in its parts.
 pub(crate) struct Run<'a> {
     heading: &'a mut [i32],
@@ -155,17 +182,13 @@ impl<'a> Run<'a> {
         Ok(Run::new(&mut words[..words_needed(sizes)], sizes, waits))
     }
 
-    /// Starts a check in the needed words, for an accepted table and start process.
-    pub(crate) fn begin(
-        words: &'a mut [i32],
-        table: &[u8],
-        sizes: Sizes,
-        waits: Waits,
-        start: usize,
-    ) -> Run<'a> {
+    /// Starts a check in the needed words.
+    pub(crate) fn begin(words: &'a mut [i32], beginning: Beginning) -> Run<'a> {
+        let Beginning { table, sizes, waits, start, edition } = beginning;
         words.fill(0);
         words[CHECK] = KNOT_CHECK;
         words[START] = start as i32;
+        words[EDITION] = edition as i32;
         for (word, &field) in words[HEADING..].iter_mut().zip(table.as_chunks().0) {
             *word = i32::from(u16::from_le_bytes(field));
         }
@@ -333,7 +356,7 @@ impl<'a> Run<'a> {
     }
 
     pub(crate) fn report(&self) -> Result<Report, Refusal> {
-        report_of(self.heading, self.records)
+        report_of(self.heading, self.records, &self.waits)
     }
 }
 
@@ -345,31 +368,31 @@ fn chain_of(probe: Probe) -> Chain {
     }
 }
 
-fn report_of(heading: &[i32], records: &[RecordWords]) -> Result<Report, Refusal> {
-    let start = record_of(&records[heading[START] as usize - 1]);
-    if start.num != 0 {
+fn report_of(heading: &[i32], records: &[RecordWords], waits: &Waits) -> Result<Report, Refusal> {
+    let start = heading[START] as usize;
+    let Record { cs, num, .. } = record_of(&records[start - 1]);
+    if num != 0 {
         return Err(Refusal::NotOver);
     }
     let escape = records.iter().position(|words| record_of(words).subordinate == 1);
-    let knot = start.cs == 0;
+    // 02, N4: under the second edition, "in addition, at least one process must be reachable by one
+    // arc or more". The way there begins with an arc that leaves the start; "a loop is enough".
+    let by_an_arc = waits.has_successor(start);
+    let knot = cs == 0 && (edition_in(heading) == Some(Edition::First) || by_an_arc);
     Ok(Report {
         deliveries: heading[DELIVERIES] as u32,
         knot,
-        outside: start.cs,
+        outside: cs,
         escape: escape.map_or(0, |place| place + 1),
         returned: knot,
     })
 }
 
-/// Starts a check in the front words of `area`: 1 to 9.
-pub fn start(table: &[u8], start: usize, area: &mut [i32]) -> Result<(), Refusal> {
-    let (bytes, waits) = accept(table)?;
-    let sizes = bytes.sizes();
-    if !(1..=sizes.n).contains(&start) {
-        return Err(Refusal::Start);
-    }
-    let words = area.get_mut(..words_needed(sizes)).ok_or(Refusal::AreaShort)?;
-    Run::begin(words, table, sizes, waits, start);
+/// Starts a check in the front words of `area`, under edition 1 or 2: 1 to 8, 30, 9.
+pub fn start(table: &[u8], start: usize, edition: usize, area: &mut [i32]) -> Result<(), Refusal> {
+    let beginning = Beginning::accept(table, start, edition)?;
+    let words = area.get_mut(..words_needed(beginning.sizes)).ok_or(Refusal::AreaShort)?;
+    Run::begin(words, beginning);
     Ok(())
 }
 
@@ -409,8 +432,8 @@ pub fn run_on(area: &mut [i32], k: u32) -> (Stopped, u32) {
 
 /// The report of a run that is over: 21, 26.
 pub fn report(area: &[i32]) -> Result<Report, Refusal> {
-    let (area, _) = Area::test(area)?;
-    report_of(area.heading, area.records)
+    let (area, waits) = Area::test(area)?;
+    report_of(area.heading, area.records, &waits)
 }
 
 /// The record of one process: 21, 25.

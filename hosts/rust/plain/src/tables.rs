@@ -166,6 +166,11 @@ impl Waits {
         self.waits(a, b) || self.waits(b, a)
     }
 
+    #[inline(always)]
+    pub(crate) fn has_successor(&self, process: usize) -> bool {
+        self.0[process - 1] != 0
+    }
+
     /// Notes the wait and says whether it is new.
     #[inline(always)]
     fn add(&mut self, from: usize, to: usize) -> bool {

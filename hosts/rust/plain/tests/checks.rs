@@ -1,5 +1,5 @@
 //! 01's own examples, its table of checks, and the refusals of each call; 02's rules for the escape
-//! (N1) and for places (N5).
+//! (N1), for editions (N4) and for places (N5).
 
 use plain::*;
 use std::collections::HashSet;
@@ -11,11 +11,15 @@ fn table(n: usize, list: &[u16]) -> Vec<u8> {
     out
 }
 
-fn started(n: usize, list: &[u16], first: usize) -> Vec<i32> {
+fn started_under(edition: usize, n: usize, list: &[u16], first: usize) -> Vec<i32> {
     let table = table(n, list);
     let mut area = vec![0; words_needed(read_table(&table).unwrap())];
-    start(&table, first, &mut area).unwrap();
+    start(&table, first, edition, &mut area).unwrap();
     area
+}
+
+fn started(n: usize, list: &[u16], first: usize) -> Vec<i32> {
+    started_under(1, n, list, first)
 }
 
 fn printed(input: &[u8]) -> String {
@@ -30,33 +34,107 @@ fn field(bytes: &mut [u8], place: usize, value: u16) {
 
 #[test]
 fn the_example_of_01() {
-    let input = [1, 0, 2, 0, 1, 0, 1, 0, 0, 0, 0, 0, 1, 0, 1, 0, 2, 0, 0, 0, 0, 0, 1, 0, 2, 0];
+    // 02, N4: "01's input gains `01 00`" after the start process.
+    let input =
+        [1, 0, 1, 0, 2, 0, 1, 0, 1, 0, 0, 0, 0, 0, 1, 0, 1, 0, 2, 0, 0, 0, 0, 0, 1, 0, 2, 0];
     let expected = "pick 1 2 suc\nown 2 1 ack 1\nprocess 1 1 1 0 1 0\nprocess 2 1 0 1 0 0\n\
                     over 2\nverdict none\noutside 1\nescape 2\nmark held\n";
     assert_eq!(printed(&input), expected);
-    assert_eq!(table(2, &[1, 2]), input[2..22]);
+    assert_eq!(table(2, &[1, 2]), input[4..24]);
+}
+
+/// A knot by both editions, by the first alone (02, N4), or by none.
+#[derive(Clone, Copy, PartialEq)]
+enum Knot {
+    Both,
+    First,
+    None,
+}
+
+impl Knot {
+    fn under(self, edition: usize) -> bool {
+        self == Knot::Both || self == Knot::First && edition == 1
+    }
 }
 
 /// N, the waits, D, knot, outside; and escape by 02, N1.
-type Row = (usize, &'static [u16], u32, bool, i32, usize);
+type Row = (usize, &'static [u16], u32, Knot, i32, usize);
 
 #[test]
 fn the_rows_to_be_proved() {
     let rows: [Row; 8] = [
-        (1, &[], 0, true, 0, 0),
-        (1, &[1, 1], 4, true, 0, 0),
-        (2, &[1, 2], 2, false, 1, 2),
-        (2, &[2, 1], 2, true, 0, 0),
-        (2, &[1, 2, 2, 1], 8, true, 0, 0),
-        (3, &[1, 2, 2, 3, 3, 1], 12, true, 0, 0),
-        (3, &[1, 2, 2, 1, 2, 3], 10, false, 1, 3),
-        (3, &[1, 2, 2, 3, 3, 2], 6, false, 2, 2),
+        (1, &[], 0, Knot::First, 0, 0),
+        (1, &[1, 1], 4, Knot::Both, 0, 0),
+        (2, &[1, 2], 2, Knot::None, 1, 2),
+        (2, &[2, 1], 2, Knot::First, 0, 0),
+        (2, &[1, 2, 2, 1], 8, Knot::Both, 0, 0),
+        (3, &[1, 2, 2, 3, 3, 1], 12, Knot::Both, 0, 0),
+        (3, &[1, 2, 2, 1, 2, 3], 10, Knot::None, 1, 3),
+        (3, &[1, 2, 2, 3, 3, 2], 6, Knot::None, 2, 2),
     ];
     for (n, list, deliveries, knot, outside, escape) in rows {
-        let mut area = started(n, list, 1);
-        assert_eq!(run_on(&mut area, deliveries), (Stopped::Over, deliveries), "{list:?}");
-        let expected = Report { deliveries, knot, outside, escape, returned: knot };
-        assert_eq!(report(&area), Ok(expected), "{list:?}");
+        for edition in [1, 2] {
+            let mut area = started_under(edition, n, list, 1);
+            assert_eq!(run_on(&mut area, deliveries), (Stopped::Over, deliveries), "{list:?}");
+            let knot = knot.under(edition);
+            let expected = Report { deliveries, knot, outside, escape, returned: knot };
+            assert_eq!(report(&area), Ok(expected), "{list:?} under {edition}");
+        }
+    }
+}
+
+/// By row and column, whether arcs lead from one process to another, one arc or more.
+fn ways(n: usize, list: &[u16]) -> Vec<Vec<bool>> {
+    let mut ways = vec![vec![false; n]; n];
+    for arc in list.chunks(2) {
+        ways[usize::from(arc[0]) - 1][usize::from(arc[1]) - 1] = true;
+    }
+    for middle in 0..n {
+        for from in 0..n {
+            for to in 0..n {
+                ways[from][to] |= ways[from][middle] && ways[middle][to];
+            }
+        }
+    }
+    ways
+}
+
+/// Every set of waits of up to three processes, from every start and under both editions: the two
+/// runs differ in the word that names the edition alone.
+#[test]
+fn small_checks_are_judged_by_their_edition() {
+    let sets = (1..=3).flat_map(|n| (0..1 << (n * n)).map(move |set: u16| (n, set)));
+    for (n, set) in sets {
+        let chosen = (0..n * n).filter(|pair| set >> pair & 1 == 1);
+        let list: Vec<_> = chosen.flat_map(|pair| [pair / n + 1, pair % n + 1]).collect();
+        let n = usize::from(n);
+        let ways = ways(n, &list);
+        for first in 0..n {
+            let reaches = |from: usize, to: usize| from == to || ways[from][to];
+            let outside = (0..n).filter(|&other| reaches(first, other) && !reaches(other, first));
+            let outside: Vec<_> = outside.collect();
+            let by_an_arc = ways[first].contains(&true);
+            let [mut area, mut by_the_second] =
+                [1, 2].map(|edition| started_under(edition, n, &list, first + 1));
+            loop {
+                assert_eq!((area[3], by_the_second[3]), (1, 2));
+                assert_eq!(area[..3], by_the_second[..3]);
+                assert_eq!(area[4..], by_the_second[4..]);
+                let stopped = run_on(&mut area, 1);
+                assert_eq!(run_on(&mut by_the_second, 1), stopped);
+                if stopped == (Stopped::Over, 0) {
+                    break;
+                }
+            }
+            let knot = outside.is_empty();
+            let found = report(&area).unwrap();
+            let escape = outside.first().map_or(0, |other| other + 1);
+            assert_eq!((found.outside, found.escape), (outside.len() as i32, escape), "{list:?}");
+            assert_eq!((found.knot, found.returned), (knot, knot), "{list:?}");
+            let knot = knot && by_an_arc;
+            let expected = Report { knot, returned: knot, ..found };
+            assert_eq!(report(&by_the_second), Ok(expected), "{list:?} from {}", first + 1);
+        }
     }
 }
 
@@ -81,24 +159,28 @@ fn waiting(area: &[i32], link: usize) -> Vec<i32> {
 }
 
 /// 02, N5: "All that is said of the end of a check, D included, is wanted for these picks too,
-/// without links that keep order." Every area that picks can make, at every place, is tried once.
+/// without links that keep order." Every area that picks can make, at every place, is tried once,
+/// under both editions (N4: "the end state is still one for all orders").
 #[test]
 fn the_end_is_the_same_at_every_place() {
     // N, the waits, the most messages on a link, D, knot, outside, escape.
-    type Check = (usize, &'static [u16], usize, u32, bool, i32, usize);
+    type Check = (usize, &'static [u16], usize, u32, Knot, i32, usize);
     let checks: [Check; 8] = [
-        (1, &[1, 1], 2, 4, true, 0, 0),
-        (2, &[1, 2], 1, 2, false, 1, 2),
-        (2, &[2, 1], 1, 2, true, 0, 0),
-        (2, &[1, 2, 2, 1], 3, 8, true, 0, 0),
-        (2, &[1, 2, 2, 1, 2, 2], 3, 12, true, 0, 0),
-        (3, &[1, 2, 2, 3, 3, 1], 2, 12, true, 0, 0),
-        (3, &[1, 2, 2, 1, 2, 3], 3, 10, false, 1, 3),
-        (3, &[1, 2, 1, 3, 2, 1, 2, 3, 3, 2], 4, 20, true, 0, 0),
+        (1, &[1, 1], 2, 4, Knot::Both, 0, 0),
+        (2, &[1, 2], 1, 2, Knot::None, 1, 2),
+        (2, &[2, 1], 1, 2, Knot::First, 0, 0),
+        (2, &[1, 2, 2, 1], 3, 8, Knot::Both, 0, 0),
+        (2, &[1, 2, 2, 1, 2, 2], 3, 12, Knot::Both, 0, 0),
+        (3, &[1, 2, 2, 3, 3, 1], 2, 12, Knot::Both, 0, 0),
+        (3, &[1, 2, 2, 1, 2, 3], 3, 10, Knot::None, 1, 3),
+        (3, &[1, 2, 1, 3, 2, 1, 2, 3, 3, 2], 4, 20, Knot::Both, 0, 0),
     ];
-    for (n, list, most, deliveries, knot, outside, escape) in checks {
+    for ((n, list, most, deliveries, knot, outside, escape), edition) in
+        checks.into_iter().flat_map(|check| [(check, 1), (check, 2)])
+    {
         let links = links(n, list);
-        let mut open = vec![started(n, list, 1)];
+        let knot = knot.under(edition);
+        let mut open = vec![started_under(edition, n, list, 1)];
         let mut met: HashSet<Vec<i32>> = open.iter().cloned().collect();
         let mut ends = HashSet::new();
         let mut found = 0;
@@ -278,20 +360,80 @@ fn walks_keep_to_their_chain() {
 fn start_refuses_in_order_and_touches_only_its_words() {
     let bytes = table(2, &[1, 2]);
     let mut area = [9; 60];
-    assert_eq!(start(&bytes[..19], 0, &mut area), Err(Refusal::Length));
-    assert_eq!(start(&bytes, 0, &mut area[..3]), Err(Refusal::Start));
-    assert_eq!(start(&bytes, 3, &mut area), Err(Refusal::Start));
-    assert_eq!(start(&bytes, 1, &mut area[..51]), Err(Refusal::AreaShort));
+    for edition in [1, 2] {
+        assert_eq!(start(&bytes[..19], 0, edition, &mut area), Err(Refusal::Length));
+        assert_eq!(start(&bytes, 0, edition, &mut area[..3]), Err(Refusal::Start));
+        assert_eq!(start(&bytes, 3, edition, &mut area), Err(Refusal::Start));
+        assert_eq!(start(&bytes, 1, edition, &mut area[..51]), Err(Refusal::AreaShort));
+    }
+    // 02, N4: "It refuses any other edition with 30, after 8 and before 9."
+    for edition in NO_EDITIONS {
+        assert_eq!(start(&bytes[..19], 1, edition, &mut area), Err(Refusal::Length));
+        assert_eq!(start(&bytes, 0, edition, &mut area), Err(Refusal::Start));
+        assert_eq!(start(&bytes, 3, edition, &mut area[..51]), Err(Refusal::Start));
+        assert_eq!(start(&bytes, 1, edition, &mut area), Err(Refusal::NoEdition), "{edition}");
+        assert_eq!(start(&bytes, 2, edition, &mut area[..51]), Err(Refusal::NoEdition));
+        assert_eq!(start(&bytes, 2, edition, &mut []), Err(Refusal::NoEdition));
+    }
     assert_eq!(area, [9; 60]);
-    assert_eq!(start(&bytes, 1, &mut area), Ok(()));
-    let expected = [
-        1, 1, 0, 0, 0, 0, 0, 0, 0, 0, 0, 0, 0, 0, // heading
-        2, 1, 1, 0, 0, 1, 1, 2, 0, 0, // table
-        3, 0, 1, 0, 0, 0, 0, 0, 0, 0, 0, 0, // records
-        1, 0, 0, 0, 0, 0, 0, 0, 0, 0, 0, 0, 0, 0, 0, 0, // links
-        9, 9, 9, 9, 9, 9, 9, 9, // surplus
-    ];
-    assert_eq!(area, expected);
+    for edition in [1, 2] {
+        assert_eq!(start(&bytes, 1, edition as usize, &mut area), Ok(()));
+        let expected = [
+            1, 1, 0, edition, 0, 0, 0, 0, 0, 0, 0, 0, 0, 0, // heading
+            2, 1, 1, 0, 0, 1, 1, 2, 0, 0, // table
+            3, 0, 1, 0, 0, 0, 0, 0, 0, 0, 0, 0, // records
+            1, 0, 0, 0, 0, 0, 0, 0, 0, 0, 0, 0, 0, 0, 0, 0, // links
+            9, 9, 9, 9, 9, 9, 9, 9, // surplus
+        ];
+        assert_eq!(area, expected);
+    }
+}
+
+/// Some are 1 or 2 to whoever takes a part of their bits.
+const NO_EDITIONS: [usize; 10] =
+    [0, 3, 4, 257, 65_535, 65_536, 1 << 32, (1 << 32) + 1, (1 << 32) + 2, usize::MAX];
+
+/// 02, N4: "In an area it gives 21", and "open payments keep the edition they began under".
+#[test]
+fn an_area_is_judged_by_the_edition_that_it_holds() {
+    // 2 waits for 1, which waits for nobody.
+    for (made, edition) in [(0, 1), (0, 2), (1, 1), (1, 2), (2, 1), (2, 2)] {
+        let mut area = started_under(edition, 2, &[2, 1], 1);
+        assert_eq!(run_on(&mut area, made).1, made);
+        assert_eq!(area[3], edition as i32);
+        for word in [0, 3, 4, -1, -2, 257, 65_535, 65_537, i32::MIN, i32::MAX] {
+            let mut damaged = area.clone();
+            damaged[3] = word;
+            let before = damaged.clone();
+            assert_eq!(pick(&mut damaged, 1, 2, 1), Err(Refusal::Malformed), "{word}");
+            assert_eq!(run_on(&mut damaged, 9), (Stopped::Refused(Refusal::Malformed), 0));
+            assert_eq!(report(&damaged), Err(Refusal::Malformed));
+            assert_eq!(read_record(&damaged, 1), Err(Refusal::Malformed));
+            assert_eq!(damaged, before);
+        }
+        area[3] = 3 - area[3];
+        assert_eq!(run_on(&mut area, 9), (Stopped::Over, 2 - made));
+        assert_eq!(report(&area).unwrap().knot, edition == 2);
+    }
+}
+
+/// Who is reachable is a matter of arcs: in an area that no run leaves, the verdict by the second
+/// edition goes by them and the sum, whatever the flags.
+#[test]
+fn reachable_is_who_the_arcs_lead_to() {
+    // The start's flags, cs and num are at 24, and the flags of 2 at 30.
+    for (list, knot) in [([1, 2], true), ([2, 1], false)] {
+        let mut area = started_under(2, 2, &list, 1);
+        for flags in 0..64 {
+            (area[24], area[26], area[30]) = (flags % 8, 0, flags / 8);
+            for sum in [0, 1, -1] {
+                area[25] = sum;
+                let found = report(&area).unwrap();
+                assert_eq!((found.knot, found.outside), (knot && sum == 0, sum), "{list:?}");
+                assert_eq!(found.returned, found.knot);
+            }
+        }
+    }
 }
 
 #[test]
@@ -443,7 +585,7 @@ fn places_are_refused_after_24_and_before_22() {
     let mut over = empty.clone();
     over[30] = 0;
     let mut malformed = empty.clone();
-    malformed[3] = 1;
+    malformed[4] = 1;
     for place in outside(0) {
         refused(&empty, 1, 2, place, Refusal::Nothing);
         refused(&over, 1, 2, place, Refusal::Over);
@@ -472,9 +614,9 @@ fn the_step_is_that_of_the_message_taken() {
 #[test]
 fn the_program_and_running_on_take_the_oldest() {
     let picks = [1, 0, 2, 0, 1, 0, 2, 0];
-    let input = [&[1, 0], &table(2, &[1, 2, 2, 1])[..], &picks].concat();
+    let input = [&[1, 0, 1, 0], &table(2, &[1, 2, 2, 1])[..], &picks].concat();
     assert!(printed(&input).starts_with("pick 1 2 suc\npick 1 2 pre\n"));
-    let own = printed(&[&[1, 0], &table(2, &[1, 2, 2, 1])[..]].concat());
+    let own = printed(&[&[1, 0, 1, 0], &table(2, &[1, 2, 2, 1])[..]].concat());
     assert!(own.starts_with("own 1 2 suc\nown 1 2 pre\n"), "{own}");
     let mut area = four_on_each_link();
     area[59] = 0;
@@ -569,18 +711,48 @@ fn running_on_keeps_its_deliveries_when_it_is_refused() {
 #[test]
 fn the_program_refuses_in_order() {
     let bytes = table(2, &[1, 2]);
-    let input = |start: u16, rest: &[u8]| [&start.to_le_bytes(), &bytes[..], rest].concat();
+    let input = |start: u16, edition: u16, rest: &[u8]| {
+        [&start.to_le_bytes(), &edition.to_le_bytes(), &bytes[..], rest].concat()
+    };
     assert_eq!(printed(&vec![0; 20_481]), "refused 13\n");
-    assert_eq!(printed(&[]), "refused 1\n");
-    assert_eq!(printed(&input(1, &[])[..5]), "refused 1\n");
-    assert_eq!(printed(&[1, 0, 0, 0, 1, 0]), "refused 2\n");
-    assert_eq!(printed(&input(1, &[])[..21]), "refused 3\n");
-    assert_eq!(printed(&input(0, &[1, 0, 2])), "refused 12\n");
-    let mut damaged = input(0, &[]);
-    damaged[14] = 3;
-    assert_eq!(printed(&damaged), "refused 4\n");
-    assert_eq!(printed(&input(3, &[])), "refused 8\n");
-    assert_eq!(printed(&input(0, &[])), "refused 8\n");
+    for edition in [0, 1, 2, 3, 65_535] {
+        for length in 0..8 {
+            assert_eq!(printed(&input(1, edition, &[])[..length]), "refused 1\n");
+        }
+        assert_eq!(printed(&[1, 0, edition as u8, 0, 0, 0, 1, 0]), "refused 2\n");
+        for length in 8..24 {
+            assert_eq!(printed(&input(1, edition, &[])[..length]), "refused 3\n");
+        }
+        for length in 1..4 {
+            assert_eq!(printed(&input(0, edition, &[1, 0, 2][..length])), "refused 12\n");
+        }
+        let mut damaged = input(0, edition, &[]);
+        damaged[16] = 3;
+        assert_eq!(printed(&damaged), "refused 4\n");
+        assert_eq!(printed(&input(3, edition, &[])), "refused 8\n");
+        assert_eq!(printed(&input(0, edition, &[])), "refused 8\n");
+    }
+    // 02, N4.
+    for edition in [0, 3, 256, 257, 65_535] {
+        assert_eq!(printed(&input(1, edition, &[1, 0, 2, 0])), "refused 30\n");
+    }
+}
+
+/// The rows of which 02, N4 speaks.
+#[test]
+fn the_program_judges_by_the_edition() {
+    let [knot, none] = [
+        "verdict knot\noutside 0\nescape 0\nmark returned\n",
+        "verdict none\noutside 0\nescape 0\nmark held\n",
+    ];
+    let rows: [(usize, &[u16], [&str; 2]); 3] =
+        [(1, &[], [knot, none]), (1, &[1, 1], [knot, knot]), (2, &[2, 1], [knot, none])];
+    for (n, list, ends) in rows {
+        for (edition, end) in (1..).zip(ends) {
+            let printed = printed(&[&[1, 0, edition, 0], &table(n, list)[..]].concat());
+            assert!(printed.ends_with(end), "{list:?} under {edition}: {printed}");
+        }
+    }
 }
 
 #[test]
@@ -590,5 +762,5 @@ fn refused_picks_print_their_number_and_the_program_goes_on() {
     let expected = "pick 2 1 refused 24\npick 9 1 refused 25\npick 1 2 suc\npick 2 1 ack 1\n\
                     pick 2 1 refused 23\nprocess 1 1 1 0 1 0\nprocess 2 1 0 1 0 0\n\
                     over 2\nverdict none\noutside 1\nescape 2\nmark held\n";
-    assert_eq!(printed(&[&[1, 0], &bytes[..], &picks].concat()), expected);
+    assert_eq!(printed(&[&[1, 0, 1, 0], &bytes[..], &picks].concat()), expected);
 }

@@ -89,20 +89,28 @@ returns-5 c =
 
 returns-6 : tie.Need-returns-6
 returns-6 c =
-    let n2 = c .before .before in
+    let n2 = c .before .before .before in
+    let a = n2 .before .before .before .before .before .before .before .before .before .before .before .before .before .before .before in
+    sym (tells-no (headTest-parts (a .args .area .now)) (λ s. failing (c .before .is-edition-word .ensures) (c .if6 .taken) (s .edition)))
+
+returns-7 : tie.Need-returns-7
+returns-7 c =
+    let e = c .before .before in
+    let n2 = e .before .before in
     let i2 = n2 .before .before .before in
     let p = i2 .before .before .before in
     let n1 = p .before in
     let i1 = n1 .before .before .before in
     let s1 = i1 .before .before .before in
     let a = s1 .before .before in
-    tells-last (headTest-parts (a .args .area .now)) (λ e. record {
+    tells-last (headTest-parts (a .args .area .now)) (λ f. record {
       check = sym (check s1) ∙ not-false (s1 .is-same .result) (i1 .before .before .if1 .left);
       start = sym (start-sign i1) ∙ not-false (i1 .is-number .result) (n1 .before .before .if2 .left);
       start-in = sym (start-in p) ∙ not-false (p .is-process .result) (i2 .before .before .if3 .left);
       count = sym (count-sign i2) ∙ not-false (i2 .is-number2 .result) (n2 .before .before .if4 .left);
-      few = omega (arith, count n2, c .before .if5 .left);
-      free = sym (c .is-free .ensures) ∙ e;
+      few = omega (arith, count n2, e .before .if5 .left);
+      edition = sym (e .is-edition-word .ensures) ∙ not-false (e .is-edition-word .result) (c .before .if6 .left);
+      free = sym (c .is-free .ensures) ∙ f;
     }) (λ s. c .is-free .ensures ∙ s .free)
 
 pub is-head-spec : {M : Type 1} → statement M
@@ -127,4 +135,6 @@ is-head-spec =
     (λ c κs. search needs)
     returns-5
     (λ c κs. search needs)
-    returns-6)
+    returns-6
+    (λ c κs. search needs)
+    returns-7)

@@ -2,8 +2,12 @@
 -- Assumes nothing.
 use native.Mathlib.Omega.{arith}
 use borrow.Author.Needs.{needs}
+use lib.IntN.{pos, natAbs}
+use lib.ListN.{getD}
+use Rattle.areas.specs.Places.{startPlace}
+use Rattle.areas.specs.Area.{runIn}
+use Rattle.areas.proofs.Signs.{word-read}
 use Rattle.lenses.proofs.Stores.{long}
-use Rattle.lenses.proofs.Lookups.{start-is}
 use Rattle.lenses.proofs.heading.start_of.Statement.{statement}
 use Rattle.lenses.proofs.heading.start_of.Tie as tie
 
@@ -11,7 +15,8 @@ shared-slice-copy-out-number : tie.Need-shared-slice-copy-out-number
 shared-slice-copy-out-number c = omega (arith, long (c .pre))
 
 returns : tie.Need-returns
-returns c = start-is (c .before .before .args .area .now) (c .before .number-arg .given) (c .number .ensures)
+unfolding runIn
+returns c = word-read natAbs (getD (c .before .before .args .area .now) startPlace (pos 0)) (c .before .number-arg .given) (c .number .ensures)
 
 pub start-of-spec : {M : Type 1} → statement M
 start-of-spec = tie.close (tie.spec shared-slice-copy-out-number (λ c κs. search needs) (λ c. search needs) returns)

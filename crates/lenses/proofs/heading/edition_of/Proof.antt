@@ -1,0 +1,22 @@
+-- `lenses::heading::edition_of` meets its contract: the word is that of the heading.
+-- Assumes nothing.
+use native.Mathlib.Omega.{arith}
+use borrow.Author.Needs.{needs}
+use lib.IntN.{pos, natAbs}
+use lib.ListN.{getD}
+use Rattle.areas.specs.Places.{editionPlace}
+use Rattle.areas.specs.Area.{runIn}
+use Rattle.areas.proofs.Signs.{word-read}
+use Rattle.lenses.proofs.Stores.{long}
+use Rattle.lenses.proofs.heading.edition_of.Statement.{statement}
+use Rattle.lenses.proofs.heading.edition_of.Tie as tie
+
+shared-slice-copy-out-number : tie.Need-shared-slice-copy-out-number
+shared-slice-copy-out-number c = omega (arith, long (c .pre))
+
+returns : tie.Need-returns
+unfolding runIn
+returns c = word-read natAbs (getD (c .before .before .args .area .now) editionPlace (pos 0)) (c .before .number-arg .given) (c .number .ensures)
+
+pub edition-of-spec : {M : Type 1} → statement M
+edition-of-spec = tie.close (tie.spec shared-slice-copy-out-number (λ c κs. search needs) returns)
