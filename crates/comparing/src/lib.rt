@@ -143,7 +143,7 @@ pub fn run(
     order: usize,
     x: usize,
 ) -> Course {
-    let begun = starts::course(e, x, starts::begin(area, table, e));
+    let begun = starts::course(e, x, starts::begin(area, table, e, x));
     let way = ordering::way_of(list, e.n, order, x);
     end(area, list, found, e, way, probe(area, begun))
 }

@@ -1,6 +1,8 @@
 // The answers of the calls on a run, each compared with what the search expects.
 use crate::Expected;
+use crate::editions;
 use crate::faults;
+use crate::starts;
 use crate::words;
 use checks::Delivery;
 use checks::Mark;
@@ -294,10 +296,26 @@ pub fn last_reported(report: Report, e: Expected, c: Course) -> Course {
     expect(told, is_judged(report, e), faults::VERDICT)
 }
 
-// After the report of the end in an area whose edition was exchanged for the other.
-pub fn other_reported(report: Report, e: Expected, c: Course) -> Course {
-    let right = is_last_report(report, e, c.due) && is_judged(report, e);
-    expect(c, right, faults::OTHER_EDITION)
+// Whether a report refuses an area as not well formed.
+fn is_not_formed(report: Report) -> bool {
+    match report {
+        Report::Over {
+            deliveries: _,
+            verdict: _,
+            outside: _,
+            escape: _,
+            mark: _,
+        } => false,
+        Report::Refused(number) => number == 21,
+    }
+}
+
+// After a report in an area with a word that is no edition, and one with the other edition.
+pub fn exchanged(none: Report, other: Report, e: Expected, c: Course) -> Course {
+    let f = starts::under(e, editions::other(e.edition));
+    let right = is_last_report(other, f, c.due) && is_judged(other, f);
+    let refused = expect(c, is_not_formed(none), faults::NO_EDITION);
+    expect(refused, right, faults::OTHER_EDITION)
 }
 
 // "cs 0, but the start's cs is outside"

@@ -37,7 +37,7 @@ pub const PLACE: u32 = 16;
 pub const REFUSED_EDITION: u32 = 17;
 // The verdict or the mark of the end is not that of the edition which the start named.
 pub const VERDICT: u32 = 18;
-// A call in an area whose edition is neither 1 nor 2 is not refused with 21.
-pub const EDITION_WORD: u32 = 19;
+// A report in an area whose edition is neither 1 nor 2 is not refused with 21.
+pub const NO_EDITION: u32 = 19;
 // The report of the end in an area whose edition was exchanged for the other is not that of the other.
 pub const OTHER_EDITION: u32 = 20;

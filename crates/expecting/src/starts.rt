@@ -70,72 +70,72 @@ fn start(area: &mut [i32], table: &[u8], s: usize, edition: usize) -> u32 {
     }
 }
 
-// The number of a start in one word too few, 0 if the area has not even those.
-fn start_short(area: &mut [i32], table: &[u8], e: Expected, edition: usize) -> u32 {
-    let end = 8 * (e.n % 65536) + 20 * (e.m % 65536) + 15;
+// A start that is to be refused: where, under which edition, in how many words, and with which number.
+struct WrongStart {
+    start: usize,
+    edition: usize,
+    words: usize,
+    number: u32,
+}
+
+fn wrong(start: usize, edition: usize, words: usize, number: u32) -> WrongStart {
+    WrongStart {
+        start,
+        edition,
+        words,
+        number,
+    }
+}
+
+const WRONG: usize = 6;
+// From this one on they are under a number that is no edition.
+const UNDER_NONE: usize = 3;
+
+// Start k + 1 that is to be refused, in an area of so many words: at no process, in one word too few, and under a number that is no edition,
+// which is refused "with 30, after 8 and before 9" (02, N4).
+fn wrong_start(e: Expected, none: usize, all: usize, k: usize) -> WrongStart {
+    let short = 8 * (e.n % 65536) + 20 * (e.m % 65536) + 15;
+    match k {
+        0 => wrong(0, e.edition, all, 8),
+        1 => wrong(numbers::more(e.n), e.edition, all, 8),
+        2 => wrong(e.start, e.edition, short, 9),
+        3 => wrong(0, none, all, 8),
+        4 => wrong(e.start, none, all, 30),
+        _ => wrong(e.start, none, short, 30),
+    }
+}
+
+// Whether a start is refused as it is to be.
+fn is_refused(area: &mut [i32], table: &[u8], w: WrongStart) -> bool {
+    let end = w.words;
     if end > area.len() {
-        return 0;
-    }
-    start(&mut area[0..end], table, e.start, edition)
-}
-
-// Whether starts at 0 and N + 1 are refused.
-fn refuse_nobody(area: &mut [i32], table: &[u8], e: Expected) -> bool {
-    if start(area, table, 0, e.edition) != 8 {
         return false;
     }
-    start(area, table, numbers::more(e.n), e.edition) == 8
+    start(&mut area[0..end], table, w.start, w.edition) == w.number
 }
 
-// Whether starts that are refused under any edition are, each with its number.
-fn refuse_start(area: &mut [i32], table: &[u8], e: Expected) -> bool {
-    if start_short(area, table, e, e.edition) != 9 {
-        return false;
-    }
-    refuse_nobody(area, table, e)
-}
-
-// Whether starts under numbers that are no edition are refused with 30 (02, N4).
-fn refuse_numbers(area: &mut [i32], table: &[u8], s: usize) -> bool {
-    for k in 0..editions::NONE.len() {
-        if start(area, table, s, editions::NONE[k]) != 30 {
-            return false;
-        }
-    }
-    true
-}
-
-// "It refuses any other edition with 30, after 8 and before 9": with 8 also at no process, and with 30 also in too few words.
-fn refuse_in_place(area: &mut [i32], table: &[u8], e: Expected) -> bool {
-    if start(area, table, 0, 3) != 8 {
-        return false;
-    }
-    start_short(area, table, e, 0) == 30
-}
-
-// Whether starts under no edition are refused, each with its number.
-fn refuse_edition(area: &mut [i32], table: &[u8], e: Expected) -> bool {
-    if !refuse_numbers(area, table, e.start) {
-        return false;
-    }
-    refuse_in_place(area, table, e)
-}
-
-// Starts that are refused. Gives the difference.
-fn refuse(area: &mut [i32], table: &[u8], e: Expected) -> u32 {
-    if !refuse_start(area, table, e) {
+fn fault_of(k: usize) -> u32 {
+    if k < UNDER_NONE {
         return faults::REFUSED_START;
     }
-    if !refuse_edition(area, table, e) {
-        return faults::REFUSED_EDITION;
+    faults::REFUSED_EDITION
+}
+
+// The starts that are to be refused. Gives the difference.
+fn refuse(area: &mut [i32], table: &[u8], e: Expected, none: usize) -> u32 {
+    for k in 0..WRONG {
+        let w = wrong_start(e, none, area.len(), k);
+        if !is_refused(area, table, w) {
+            return fault_of(k);
+        }
     }
     0
 }
 
-// In words that hold the mark, the starts that are refused and change none, then the start. Gives the difference.
-pub fn begin(area: &mut [i32], table: &[u8], e: Expected) -> u32 {
+// In words that hold the mark, the starts that are refused and change none, then the start, by a random number. Gives the difference.
+pub fn begin(area: &mut [i32], table: &[u8], e: Expected, x: usize) -> u32 {
     words::fill(area);
-    let fault = refuse(area, table, e);
+    let fault = refuse(area, table, e, editions::none(x));
     if fault != 0 {
         return fault;
     }
