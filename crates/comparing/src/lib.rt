@@ -1,7 +1,7 @@
 // One run of a case, from its start to its end, with every call compared with what the plain search expects (the crate `expecting`), for
 // the program `trials`. It calls the library as a host does: `starting`, `runs` and `reports`. It promises only that it is safe and ends; a
-// difference is an answer. The module `exchanging` puts other editions into an area that is over, `waiting` looks at the messages on a link,
-// and `written` compares how a table is read back.
+// difference is an answer. The module `exchanging` puts other editions into the area of a run that is over, `waiting` looks at the messages on
+// a link, and `written` compares how a table is read back.
 pub mod exchanging;
 pub mod waiting;
 pub mod written;
@@ -68,7 +68,10 @@ fn settle(area: &[i32], before: usize, made: u32, c: Course) -> Course {
     if !ordering::is_watched(area.len(), c) {
         return c;
     }
-    probe(area, answers::kept(area, before, c))
+    probe(
+        area,
+        answers::expect(c, words::digest(area) == before, faults::CHANGED),
+    )
 }
 
 // One call, and what is looked at after it.

@@ -3,7 +3,6 @@ use crate::Expected;
 use crate::editions;
 use crate::faults;
 use crate::starts;
-use crate::words;
 use checks::Delivery;
 use checks::Mark;
 use checks::Reading;
@@ -23,11 +22,6 @@ pub fn expect(c: Course, test: bool, fault: u32) -> Course {
         d.fault = fault;
     }
     d
-}
-
-// The course with a difference if the words of an area have another digest than before.
-pub fn kept(area: &[i32], before: usize, c: Course) -> Course {
-    expect(c, words::digest(area) == before, faults::CHANGED)
 }
 
 // A report is refused with 26 while fewer than D deliveries are made, and then says D.

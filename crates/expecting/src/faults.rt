@@ -27,7 +27,7 @@ pub const REPORT: u32 = 11;
 pub const LAST_RECORD: u32 = 12;
 // The numbers of sucs and of pres that picks delivered.
 pub const PROBES: u32 = 13;
-// A call that delivered nothing changed a word, or a small area that is over holds another edition than its start named.
+// A call that delivered nothing changed a word.
 pub const CHANGED: u32 = 14;
 // A surplus word changed.
 pub const SURPLUS: u32 = 15;

@@ -87,8 +87,9 @@ fn wrong(start: usize, edition: usize, words: usize, number: u32) -> WrongStart 
     }
 }
 
+// So many starts are to be refused,
 const WRONG: usize = 6;
-// From this one on they are under a number that is no edition.
+// from this one on under a number that is no edition.
 const UNDER_NONE: usize = 3;
 
 // Start k + 1 that is to be refused, in an area of so many words: at no process, in one word too few, and under a number that is no edition,
@@ -114,6 +115,7 @@ fn is_refused(area: &mut [i32], table: &[u8], w: WrongStart) -> bool {
     start(&mut area[0..end], table, w.start, w.edition) == w.number
 }
 
+// The difference if start k + 1 is not.
 fn fault_of(k: usize) -> u32 {
     if k < UNDER_NONE {
         return faults::REFUSED_START;

@@ -9,9 +9,9 @@
 // expected to be the same under both.
 // Before each run the starts that are to be refused are. After every delivery a report is refused exactly while fewer than D were made. At
 // the end the report and every record are compared with the search; then come fixed and drawn calls past the end, which are refused or
-// make nothing, and in small areas other words for the edition, and the end is compared again. No call that delivers nothing changes a word
-// or what a report says (looked at after each call in small areas and past the end, and now and then in large ones), and no call changes a
-// surplus word.
+// make nothing, and in small areas reports with other words for the edition, and the end is compared again. No call that delivers nothing
+// changes a word or what a report says (looked at after each call in small areas and past the end, and now and then in large ones), and no
+// call changes a surplus word.
 //
 // It prints a line for each family of cases, and a last line that names the first difference or says that there is none. It stops at the
 // first difference. Random numbers come from fixed seeds, so a difference is found again. It promises only that it is safe and ends.
