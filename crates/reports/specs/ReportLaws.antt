@@ -62,24 +62,24 @@ escape-last r n p e is last all =
 
 -- ---- the edition
 
+pub allowed-first : (r : Run) → (r .edition ≡ 2 → ⊥) → true ≡ allowedIn r
+unfolding editionAllows
+allowed-first r h = rw (ne-eqb (r .edition) 2 h)
+
 -- 02, N4, by the number of those whom the start waits for
-module _ (r : Run) (ok : Sound (r .waits)) (i : IsProcess (r .waits .n) (r .start)) where
-  pub allowed-first : (r .edition ≡ 2 → ⊥) → true ≡ allowedIn r
-  unfolding editionAllows
-  allowed-first h = rw (ne-eqb (r .edition) 2 h)
+pub allowed-second : (r : Run) → Sound (r .waits) → IsProcess (r .waits .n) (r .start) → (d : ℕ) → r .edition ≡ 2 → d ≡ outDegree (r .waits) (r .start)
+    → not (eqb d 0) ≡ allowedIn r
+unfolding editionAllows
+allowed-second r ok i d two is = rw (eq-eqb (r .edition) 2 two) (at (tested (someByArcs (r .waits) (r .start))) (same? d 0))
+  where
+    waits : (someByArcs (r .waits) (r .start) ≡ true) ↔ (1 ≤ outDegree (r .waits) (r .start))
+    waits = someByArcs-waits (r .waits) ok (r .start) i
 
-  pub allowed-second : (d : ℕ) → r .edition ≡ 2 → d ≡ outDegree (r .waits) (r .start) → not (eqb d 0) ≡ allowedIn r
-  unfolding editionAllows
-  allowed-second d two is = rw (eq-eqb (r .edition) 2 two) (at (tested (someByArcs (r .waits) (r .start))) (same? d 0))
-    where
-      waits : (someByArcs (r .waits) (r .start) ≡ true) ↔ (1 ≤ outDegree (r .waits) (r .start))
-      waits = someByArcs-waits (r .waits) ok (r .start) i
-
-      at : Tested (someByArcs (r .waits) (r .start)) → Same d 0 → not (eqb d 0) ≡ someByArcs (r .waits) (r .start)
-      at (passed e) (same z f) = absurd (omega (arith, waits .0 e, is, z))
-      at (passed e) (apart z f) = rw (e, f)
-      at (failed e) (same z f) = rw (e, f)
-      at (failed e) (apart z f) = absurd (false≢true (sym e ∙ waits .1 (omega arith)))
+    at : Tested (someByArcs (r .waits) (r .start)) → Same d 0 → not (eqb d 0) ≡ someByArcs (r .waits) (r .start)
+    at (passed e) (same z f) = absurd (omega (arith, waits .0 e, is, z))
+    at (passed e) (apart z f) = rw (e, f)
+    at (failed e) (same z f) = rw (e, f)
+    at (failed e) (apart z f) = absurd (false≢true (sym e ∙ waits .1 (omega arith)))
 
 -- ---- the report at the end
 

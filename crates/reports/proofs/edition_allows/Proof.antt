@@ -26,10 +26,7 @@ few c = omega (arith, c .pre .1, start-right (c .pre .0), ready-sizes (c .pre .0
 
 returns : tie.Need-returns
 returns c =
-    let a = c .before .before in
-    let y = a .pre .0 in
-    allowed-first (runIn (a .args .area .now)) (right-storable _ (y .right) .sound) (process y)
-    (λ e. omega (arith, c .if1 .taken, c .before .edition-of .ensures))
+    allowed-first (runIn (c .before .before .args .area .now)) (λ e. omega (arith, c .if1 .taken, c .before .edition-of .ensures))
 
 degree-requires : tie.Need-degree-requires
 degree-requires c κs = let a = c .before .before in (ready-sizes (a .pre .0) .0, few a)

@@ -2,15 +2,12 @@
 -- Assumes nothing.
 use Prim.Native.Nat.{ℕ}
 use mathlib.Core.Path.{refl, sym, ap, _∙_}
-use native.Mathlib.Omega.{arith}
 use borrow.Author.Needs.{needs}
 use borrow.Author.Tests.{not-true, not-false}
 use Rattle.tables.specs.Pairs.{squareSize}
 use Rattle.areas.specs.Area.{runIn}
 use Rattle.lenses.specs.Ready.{Ready}
-use Rattle.lenses.specs.ReadyLaws.{right-storable, ready-n}
-use Rattle.machine.specs.FormedLaws.{wellFormed-P}
-use Rattle.checks.specs.Run.{knot}
+use Rattle.lenses.proofs.Lookups.{start-right}
 use Rattle.area_calls.specs.CallLaws.{report-21, report-26}
 use Rattle.reports.specs.ReportLaws.{report-told}
 use Rattle.area_calls.specs.TestedLaws.{fresh-long, fresh-empty, wrong-area, right-ready}
@@ -51,8 +48,7 @@ start-of-requires c κs = ready (c .before .before .before .before .before)
 process-requires : tie.Need-process-requires
 process-requires c κs =
     let y = ready (c .before .before .before .before .before .before .before) in
-    let p = wellFormed-P knot _ .0 (right-storable _ (y .right) .formed) in
-    rw (c .before .start-of .ensures) (y, (p .start-in .0, omega (arith, p .start-in, ready-n y)))
+    rw (c .before .start-of .ensures) (y, start-right y)
 
 edition-allows-requires : tie.Need-edition-allows-requires
 edition-allows-requires c κs =
