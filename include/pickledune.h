@@ -6,6 +6,13 @@
  * under one edition in words that it lends, delivers the messages that wait on the links, one by one (pick) or in a fixed order (run
  * on), and reads the report once the run is over.
  *
+ * The second numbers (02, N3). Beside the sum cs each process has a second sum, and beside its count each acknowledgement a second count,
+ * of processes reachable from the start that wait for nobody. At the end the start's second sum is their number, itself included if it
+ * waits for nobody, and the mark of the report goes by it.
+ * With them struct pickledune_process and the values of a message changed: pickledune_pick, pickledune_read_record and pickledune_step
+ * have further parameters, and the words of a run area hold the second numbers too. A host that was compiled with an earlier header must
+ * be compiled again, and a check that was begun with an earlier archive must be started again.
+ *
  * What is lent. Every pointer is used only during the call that gets it; the library keeps none, has no memory of its own and no
  * state outside what is lent. A slice goes as a pointer and the number of its elements. Pointers must not be null, also where the
  * number is 0, and must be aligned for what they point to. The out-parameters of a call must be valid and distinct, and nothing that
@@ -33,10 +40,10 @@
  *   11  the output is too short
  *   30  the edition is neither 1 nor 2
  * Refused because of the state
- *   21  the run area is not well formed; for one process's step: the record, the kind or the count is out of range, or the father or
- *       a degree is over 128
- *   22  the step would take a value out of its range, put a fifth message on a link, or acknowledge to father 0 (never in an area
- *       that only these calls have written)
+ *   21  the run area is not well formed; for one process's step: the record (its second sum too), the kind, the count or the second
+ *       count is out of range, or the father or a degree is over 128
+ *   22  the step would take a value, such as cs or the second sum, out of its range, put a fifth message on a link, or acknowledge to
+ *       father 0 (never in an area that only these calls have written)
  *   23  the run is over
  *   24  no message waits on that link, or, when running on, on any link
  *   25  there is no such link; for one process's step: the sender is 0 or over 128; for reading a record: the process is 0 or over N
@@ -65,12 +72,14 @@ extern "C" {
 #define PICKLEDUNE_OUT 0u
 #define PICKLEDUNE_IN 1u
 
-/* The kinds of a message: a suc probe, a pre probe, an acknowledgement. Only an acknowledgement has a count, -128 to 128. */
+/* The kinds of a message: a suc probe, a pre probe, an acknowledgement. Only an acknowledgement has a count and a second count, -128 to
+ * 128 each. */
 #define PICKLEDUNE_SUC 1u
 #define PICKLEDUNE_PRE 2u
 #define PICKLEDUNE_ACK 3u
 
-/* One process's record: three flags (0 or 1), cs (-128 to 128), num (0 to 256), and father (0 or a process). */
+/* One process's record: three flags (0 or 1), cs (-128 to 128), num (0 to 256), father (0 or a process), and the second sum (-128 to
+ * 128). */
 struct pickledune_process {
     uint32_t succeeding;
     uint32_t preceding;
@@ -78,6 +87,7 @@ struct pickledune_process {
     int32_t cs;
     uint32_t num;
     uint32_t father;
+    int32_t second;
 };
 
 /* Reads a wait table.
@@ -115,9 +125,11 @@ uint32_t pickledune_start(const uint8_t *table, size_t table_bytes, size_t start
 /* Delivers the message at a place of the link from one process to another. Place 1 has the oldest message. The message is taken out of
  * the middle, and the others keep their order.
  * Lent: words words, the run area, which takes the delivery.
- * Back: *kind and *count of the message that was taken: PICKLEDUNE_SUC or PICKLEDUNE_PRE with 0, or PICKLEDUNE_ACK with its count.
+ * Back: *kind, *count and *second of the message that was taken: PICKLEDUNE_SUC or PICKLEDUNE_PRE with 0 and 0, or PICKLEDUNE_ACK with
+ * its count and its second count.
  * Refused, in this order: 21, 25, 23, 24, 31, 22. */
-uint32_t pickledune_pick(int32_t *area, size_t words, size_t from, size_t to, size_t place, uint32_t *kind, int32_t *count);
+uint32_t pickledune_pick(
+    int32_t *area, size_t words, size_t from, size_t to, size_t place, uint32_t *kind, int32_t *count, int32_t *second);
 
 /* Makes up to k deliveries, each of the oldest message on the link with a message that has the lowest sender and then the lowest
  * receiver.
@@ -132,8 +144,9 @@ uint32_t pickledune_run_on(int32_t *area, size_t words, uint32_t k, uint32_t *ov
  * Lent: words words, the run area, read only.
  * Back: *deliveries, those that the run took; *knot, 1 if the start is in a knot by the run's edition, else 0; *outside, how many
  * processes that the start waits for, at any remove, do not wait for it (0 also if it waits for nobody); *escape, the lowest-numbered
- * of those (the lowest-numbered process with subordinate 1), or 0 if there is none; *returned, 1 for the mark returned (exactly with
- * knot), 0 for held.
+ * of those (the lowest-numbered process with subordinate 1), or 0 if there is none; *returned, 1 for the mark returned: exactly if every
+ * process reachable from the start, itself included, waits for somebody (the start's second sum is 0), else 0 for held. It does not go
+ * with *knot: a start that waits only for processes in a knot is returned though it is in none, and one that waits for nobody is held.
  * Refused, in this order: 21, 26. */
 uint32_t pickledune_report(
     const int32_t *area,
@@ -146,7 +159,7 @@ uint32_t pickledune_report(
 
 /* The record of one process, at any time of a run.
  * Lent: words words, the run area, read only.
- * Back: the six values of struct pickledune_process.
+ * Back: the seven values of struct pickledune_process.
  * Refused, in this order: 21, 25. */
 uint32_t pickledune_read_record(
     const int32_t *area,
@@ -157,15 +170,17 @@ uint32_t pickledune_read_record(
     uint32_t *subordinate,
     int32_t *cs,
     uint32_t *num,
-    uint32_t *father);
+    uint32_t *father,
+    int32_t *second);
 
 /* The step of one process other than the start, by itself: a host that keeps its own records and links has one record updated by one
  * message.
- * Lent: the six values of the record, read and written; on a refusal they keep their values.
- * Given: kind and count of the message (the count of a probe is not looked at), the numbers of the process's successors and
- * predecessors, and the sender, 1 to 128.
- * Back: *probes, what to broadcast: 0 nothing, PICKLEDUNE_SUC to all successors, PICKLEDUNE_PRE to all predecessors; *reply_to and
- * *reply_count, to whom one acknowledgement is to be sent and with which count, or 0 and 0 if none is.
+ * Lent: the seven values of the record, read and written; on a refusal they keep their values.
+ * Given: kind, count and second count of the message (the counts of a probe are not looked at), the numbers of the process's successors
+ * and predecessors, and the sender, 1 to 128.
+ * Back: *probes, what to broadcast: 0 nothing, PICKLEDUNE_SUC to all successors, PICKLEDUNE_PRE to all predecessors; *reply_to,
+ * *reply_count and *reply_second, to whom one acknowledgement is to be sent and with which count and second count, or three zeros if
+ * none is.
  * Refused, in this order: 21, 25, 22. */
 uint32_t pickledune_step(
     uint32_t *succeeding,
@@ -174,14 +189,17 @@ uint32_t pickledune_step(
     int32_t *cs,
     uint32_t *num,
     uint32_t *father,
+    int32_t *second,
     uint32_t kind,
     int32_t count,
+    int32_t second_count,
     uint32_t out_degree,
     uint32_t in_degree,
     uint32_t sender,
     uint32_t *probes,
     uint32_t *reply_to,
-    int32_t *reply_count);
+    int32_t *reply_count,
+    int32_t *reply_second);
 
 /* pickledune_read_record into a record. */
 static inline uint32_t pickledune_read_process(
@@ -189,7 +207,7 @@ static inline uint32_t pickledune_read_process(
 {
     return pickledune_read_record(
         area, words, process, &record->succeeding, &record->preceding, &record->subordinate, &record->cs, &record->num,
-        &record->father);
+        &record->father, &record->second);
 }
 
 /* pickledune_step on a record. */
@@ -197,16 +215,18 @@ static inline uint32_t pickledune_step_process(
     struct pickledune_process *record,
     uint32_t kind,
     int32_t count,
+    int32_t second_count,
     uint32_t out_degree,
     uint32_t in_degree,
     uint32_t sender,
     uint32_t *probes,
     uint32_t *reply_to,
-    int32_t *reply_count)
+    int32_t *reply_count,
+    int32_t *reply_second)
 {
     return pickledune_step(
-        &record->succeeding, &record->preceding, &record->subordinate, &record->cs, &record->num, &record->father, kind, count,
-        out_degree, in_degree, sender, probes, reply_to, reply_count);
+        &record->succeeding, &record->preceding, &record->subordinate, &record->cs, &record->num, &record->father, &record->second,
+        kind, count, second_count, out_degree, in_degree, sender, probes, reply_to, reply_count, reply_second);
 }
 
 #ifdef __cplusplus

@@ -7,8 +7,8 @@ input of each crate that runs the check program itself, with what it must print:
   tools/check_cases.py --list    print each case and each such input with its label and its lines
   tools/check_cases.py --print   read one input of the check program and print what it must print
 
-What is printed comes from the run below, which is written from 01 ("Run and links", "Steps", "The check program") and 02 (N1, N4) and
-not from the crates, and from the reader of tools/table_vectors.py. Each case names by hand what must be among its lines; the script stops
+What is printed comes from the run below, which is written from 01 ("Run and links", "Steps", "The check program") and 02 (N1, N3, N4)
+and not from the crates, and from the reader of tools/table_vectors.py. Each case names by hand what must be among its lines; the script stops
 if it is not. At the end of a run the lines are held to a graph search, too. The format of a case is in the top comment of
 crates/check_cases/src/main.rt. The cases drawn at random have a fixed seed, so every run makes the same files.
 """
@@ -23,29 +23,52 @@ BEFORE_TABLE = 4  # bytes: the start process and the edition
 EDITIONS = (1, 2)
 
 
-# ---- a run, by 01
+# ---- a run, by 01 and 02 (N3)
 
 class Process:
     def __init__(self):
-        self.succeeding = self.preceding = self.subordinate = self.cs = self.num = self.father = 0
+        self.succeeding = self.preceding = self.subordinate = self.cs = self.num = self.father = self.second = 0
+
+
+def small(*counts):
+    """In cs's range, which both sums and both counts have."""
+    return all(-128 <= count <= 128 for count in counts)
+
+
+def own(out_degree):
+    """What a process adds to its second sum by itself: 1 if it waits for nobody."""
+    return 1 if out_degree == 0 else 0
+
+
+def gain(x, count, second):
+    """An acknowledgement is received."""
+    x.cs += count
+    x.second += second
+    x.num -= 1
+
+
+def passed_on(x):
+    """The two counts of an acknowledgement that a process other than the start sends: both sums, which become 0."""
+    counts = x.cs, x.second
+    x.cs = x.second = 0
+    return counts
 
 
 def other_step(x, p, message, out_degree, in_degree):
     """The step of a process other than the start, with record x, on a message from p. It gives what is sent, in order."""
     sent = []
     if message[0] == "ack":
-        x.cs += message[1]
-        x.num -= 1
+        gain(x, *message[1:])
     else:
         # rule 1
         if x.num == 0:
             x.father = p
         else:
-            sent.append(("ack", p, x.cs))
-            x.cs = 0
+            sent.append(("ack", p, *passed_on(x)))
         # rule 2
         if message[0] == "suc" and not x.succeeding:
             x.succeeding = 1
+            x.second += own(out_degree)
             sent.append(("suc",))
             x.num += out_degree
         if message[0] == "pre" and not x.preceding:
@@ -58,8 +81,7 @@ def other_step(x, p, message, out_degree, in_degree):
         x.subordinate = new
     # rule 4
     if x.num == 0:
-        sent.append(("ack", x.father, x.cs))
-        x.cs = 0
+        sent.append(("ack", x.father, *passed_on(x)))
     return sent
 
 
@@ -76,6 +98,7 @@ class Run:
         s = self.process[start]
         s.succeeding = s.preceding = 1
         s.num = self.broadcast(start, "suc") + self.broadcast(start, "pre")
+        s.second = own(len(self.successors[start]))
 
     def over(self):
         return self.process[self.start].num == 0
@@ -90,9 +113,9 @@ class Run:
             self.send(p, q, (kind,))
         return len(to)
 
-    def acknowledge(self, p, to, count):
-        assert to != 0 and -128 <= count <= 128
-        self.send(p, to, ("ack", count))
+    def acknowledge(self, p, to, *counts):
+        assert to != 0 and small(*counts)
+        self.send(p, to, ("ack", *counts))
 
     def receive(self, i, p, message):
         x = self.process[i]
@@ -103,11 +126,10 @@ class Run:
                 else:
                     self.broadcast(i, what)
         elif message[0] == "ack":
-            x.cs += message[1]
-            x.num -= 1
+            gain(x, *message[1:])
         else:
-            self.acknowledge(i, p, 0)
-        assert x.num >= 0
+            self.acknowledge(i, p, 0, 0)
+        assert 0 <= x.num <= 256 and small(x.cs, x.second)
 
     def deliver(self, a, b):
         message = self.link[a, b].popleft()
@@ -136,6 +158,10 @@ class Run:
         """The verdict by the edition named at start: the second asks in addition that the start waits for somebody."""
         return self.process[self.start].cs == 0 and (self.edition == 1 or len(self.successors[self.start]) > 0)
 
+    def returned(self):
+        """02, N3: "The report marks returned if the start's second sum is 0, else held", under either edition."""
+        return self.process[self.start].second == 0
+
 
 def closure(first, neighbours):
     """The first ones, and all that arcs lead to from them."""
@@ -149,8 +175,9 @@ def closure(first, neighbours):
 
 
 def hold_to_search(run):
-    """What 01 says of the end of a check, by a graph search; that escape is the lowest way out (02, N1); and the verdict by the edition
-    (02, N4: "in addition, at least one process must be reachable by one arc or more")."""
+    """What 01 says of the end of a check, by a graph search; that escape is the lowest way out (02, N1); the second sums and the mark
+    (02, N3: "returned exactly if every process reachable from the start, itself included, waits for somebody"); and the verdict by the
+    edition (02, N4: "in addition, at least one process must be reachable by one arc or more")."""
     reached = closure([run.start], run.successors)
     reaching = closure([run.start], run.predecessors)
     knot = reached <= reaching
@@ -159,6 +186,8 @@ def hold_to_search(run):
         knot = knot and len(by_one_arc_or_more) > 0
     assert run.knot() == knot
     assert run.escape() == min(reached - reaching, default=0)
+    wait_for_somebody = {a for a, b in run.waits}
+    assert run.returned() == (reached <= wait_for_somebody)
     d = 2 * sum(a in reached for a, b in run.waits) + 2 * sum(b in reaching for a, b in run.waits)
     assert run.deliveries == d
     assert not any(run.link.values())
@@ -166,6 +195,7 @@ def hold_to_search(run):
         assert x.succeeding == (p in reached) and x.preceding == (p in reaching) and x.num == 0
         assert x.subordinate == (p in reached - reaching)
         assert x.cs == (len(reached - reaching) if p == run.start else 0)
+        assert x.second == (len(reached - wait_for_somebody) if p == run.start else 0)
 
 
 # ---- the check program of 01
@@ -226,8 +256,9 @@ def printed(data):
         lines.append("own %d %d %s" % (a, b, message_text(run.deliver(a, b))))
     hold_to_search(run)
     for p, x in run.process.items():
-        lines.append("process %d %d %d %d %d %d" % (p, x.succeeding, x.preceding, x.subordinate, x.cs, x.num))
-    verdict, mark = ("knot", "returned") if run.knot() else ("none", "held")
+        lines.append("process %d %d %d %d %d %d %d" % (p, x.succeeding, x.preceding, x.subordinate, x.cs, x.num, x.second))
+    verdict = "knot" if run.knot() else "none"
+    mark = "returned" if run.returned() else "held"
     lines += ["over %d" % run.deliveries, "verdict %s" % verdict, "outside %d" % run.process[run.start].cs]
     return lines + ["escape %d" % run.escape(), "mark %s" % mark]
 
@@ -266,20 +297,22 @@ def under(edition, data):
 
 
 def under_both(label, data, *wanted):
-    """A case under each edition. All that is printed is the same, but verdict and mark may differ."""
+    """A case under each edition. All that is printed is the same, but the verdict may differ."""
     ends = []
     for edition in EDITIONS:
         add("%s, edition %d" % (label, edition), under(edition, data), *wanted)
-        ends.append([line for line in cases[-1][2] if not line.startswith(("verdict ", "mark "))])
+        ends.append([line for line in cases[-1][2] if not line.startswith("verdict ")])
     assert ends[0] == ends[1], label
 
 
-def judged(label, data, outside, first, second, *wanted):
-    """A case under each edition, with the verdict under the first and under the second."""
-    under_both(label, data, *wanted, "outside %d" % outside)
+def judged(label, data, outside, sinks, first, second, *wanted):
+    """A case under each edition, with the start's sums: outside, and how many that are reachable from it, itself included, wait for nobody
+    (sinks), by which the mark goes; and with the verdict under the first edition and under the second."""
+    mark = "held" if sinks else "returned"
+    under_both(label, data, *wanted, "outside %d" % outside, "mark %s" % mark)
     for (_, _, lines), verdict in zip(cases[-2:], (first, second)):
-        mark = {"knot": "returned", "none": "held"}[verdict]
-        assert lines[-4] == "verdict %s" % verdict and lines[-1] == "mark %s" % mark, label
+        assert "process %d 1 1 0 %d 0 %d" % (field(data, 0), outside, sinks) in lines, label
+        assert "verdict %s" % verdict in lines, label
 
 
 def path(*processes):
@@ -345,65 +378,100 @@ def wrong_editions():
 
 
 def rows():
-    """The rows of "Checks at the start from process 1", with the verdicts under both editions."""
-    for n, waits, d, first, second, outside in (
-        (1, [], 0, "knot", "none", 0),
-        (1, [(1, 1)], 4, "knot", "knot", 0),
-        (2, [(1, 2)], 2, "none", "none", 1),
-        (2, [(2, 1)], 2, "knot", "none", 0),
-        (2, [(1, 2), (2, 1)], 8, "knot", "knot", 0),
-        (3, [(1, 2), (2, 3), (3, 1)], 12, "knot", "knot", 0),
-        (3, [(1, 2), (2, 1), (2, 3)], 10, "none", "none", 1),
-        (3, [(1, 2), (2, 3), (3, 2)], 6, "none", "none", 2),
+    """The rows of "Checks at the start from process 1", with the verdicts under both editions and the start's second sum."""
+    for n, waits, d, first, second, outside, sinks in (
+        (1, [], 0, "knot", "none", 0, 1),
+        (1, [(1, 1)], 4, "knot", "knot", 0, 0),
+        (2, [(1, 2)], 2, "none", "none", 1, 1),
+        (2, [(2, 1)], 2, "knot", "none", 0, 1),
+        (2, [(1, 2), (2, 1)], 8, "knot", "knot", 0, 0),
+        (3, [(1, 2), (2, 3), (3, 1)], 12, "knot", "knot", 0, 0),
+        (3, [(1, 2), (2, 1), (2, 3)], 10, "none", "none", 1, 1),
+        (3, [(1, 2), (2, 3), (3, 2)], 6, "none", "none", 2, 0),
     ):
-        judged("N %d, waits %s" % (n, waits), check(1, n, waits), outside, first, second, "over %d" % d)
+        judged("N %d, waits %s" % (n, waits), check(1, n, waits), outside, sinks, first, second, "over %d" % d)
 
 
 def every_small_table():
     """Every set of waits of 1 and of 2 processes, from each of them, and how many are knots: under the first edition as many as 02 (N12)
-    says, under the second fewer by those in which the start waits for nobody."""
-    for n, first, second in ((1, 2, 2 - 1), (2, 12, 12 - 4)):
+    says, under the second fewer by those in which the start waits for nobody. And how many are returned: of 2 processes the 4 in which the
+    start waits for itself alone, and the 6 in which it waits for the other, which waits for somebody."""
+    for n, first, second, returned in ((1, 2, 2 - 1, 1), (2, 12, 12 - 4, 4 + 6)):
         pairs = [(a, b) for a in range(1, n + 1) for b in range(1, n + 1)]
         for start in range(1, n + 1):
-            knots = []
+            ends = []
             for chosen in range(2 ** len(pairs)):
                 waits = [pair for k, pair in enumerate(pairs) if chosen >> k & 1]
                 under_both("N %d, waits %s, from %d" % (n, waits, start), check(start, n, waits))
-                knots.append(["verdict knot" in lines for _, _, lines in cases[-2:]])
-            assert [sum(column) for column in zip(*knots)] == [first, second]
+                ends.append(["verdict knot" in lines for _, _, lines in cases[-2:]] + ["mark returned" in cases[-1][2]])
+            assert [sum(column) for column in zip(*ends)] == [first, second, returned]
 
 
 def editions():
     """Starts that the second edition judges otherwise, and some like them that it does not."""
     judged("a start that waits for nobody, for which others wait", check(4, 7, [(1, 4), (2, 4), (3, 1), (5, 6), (6, 5), (6, 1), (7, 7)]),
-           0, "knot", "none", "over 12")
-    judged("a start that waits for nobody and for which nobody waits", check(2, 3, [(1, 3), (3, 1)]), 0, "knot", "none", "over 0")
-    judged("loops at those that wait for the start", check(1, 3, [(2, 2), (2, 1), (3, 3), (3, 2)]), 0, "knot", "none", "over 8")
-    judged("a loop at the start, for which another waits", check(3, 5, [(3, 3), (1, 3), (2, 4)]), 0, "knot", "knot", "over 6")
-    judged("a loop at the start and a way out", check(1, 2, [(1, 1), (1, 2)]), 1, "none", "none", "over 6")
+           0, 1, "knot", "none", "over 12")
+    judged("a start that waits for nobody and for which nobody waits", check(2, 3, [(1, 3), (3, 1)]), 0, 1, "knot", "none", "over 0")
+    judged("loops at those that wait for the start", check(1, 3, [(2, 2), (2, 1), (3, 3), (3, 2)]), 0, 1, "knot", "none", "over 8")
+    judged("a loop at the start, for which another waits", check(3, 5, [(3, 3), (1, 3), (2, 4)]), 0, 0, "knot", "knot", "over 6")
+    judged("a loop at the start and a way out", check(1, 2, [(1, 1), (1, 2)]), 1, 1, "none", "none", "over 6")
 
 
 def picks():
-    judged("the example of 01", check(1, 2, [(1, 2)], [(1, 2)]), 1, "none", "none", "pick 1 2 suc", "own 2 1 ack 1")
-    judged("the same wait from 2", check(2, 2, [(1, 2)], [(2, 1), (1, 2), (2, 1)]), 0, "knot", "none",
-           "pick 2 1 pre", "pick 1 2 ack 0", "pick 2 1 refused 23")
-    judged("an empty link", check(1, 2, [(1, 2)], [(2, 1)]), 1, "none", "none", "pick 2 1 refused 24")
-    judged("a link twice", check(1, 2, [(1, 2)], [(1, 2), (1, 2)]), 1, "none", "none", "pick 1 2 suc", "pick 1 2 refused 24")
+    judged("the example of 01", check(1, 2, [(1, 2)], [(1, 2)]), 1, 1, "none", "none",
+           "pick 1 2 suc", "own 2 1 ack 1 1", "process 1 1 1 0 1 0 1", "process 2 1 0 1 0 0 0")
+    judged("the same wait from 2", check(2, 2, [(1, 2)], [(2, 1), (1, 2), (2, 1)]), 0, 1, "knot", "none",
+           "pick 2 1 pre", "pick 1 2 ack 0 0", "pick 2 1 refused 23")
+    judged("an empty link", check(1, 2, [(1, 2)], [(2, 1)]), 1, 1, "none", "none", "pick 2 1 refused 24")
+    judged("a link twice", check(1, 2, [(1, 2)], [(1, 2), (1, 2)]), 1, 1, "none", "none", "pick 1 2 suc", "pick 1 2 refused 24")
     ends = [(0, 0), (0, 1), (1, 0), (1, 1), (2, 2), (1, 3), (3, 1), (65535, 65535), (257, 2)]
-    judged("picks that name no link", check(1, 2, [(1, 2)], ends), 1, "none", "none", *["pick %d %d refused 25" % pick for pick in ends])
-    judged("picks after the end", check(1, 2, [(1, 2)], [(1, 2), (2, 1), (1, 2), (2, 1), (1, 1)]), 1, "none", "none",
-           "pick 2 1 ack 1", "pick 1 2 refused 23", "pick 2 1 refused 23", "pick 1 1 refused 25")
-    judged("a start without waits is over at once", check(2, 3, [(1, 3)], [(1, 3), (2, 1)]), 0, "knot", "none",
+    judged("picks that name no link", check(1, 2, [(1, 2)], ends), 1, 1, "none", "none", *["pick %d %d refused 25" % pick for pick in ends])
+    judged("picks after the end", check(1, 2, [(1, 2)], [(1, 2), (2, 1), (1, 2), (2, 1), (1, 1)]), 1, 1, "none", "none",
+           "pick 2 1 ack 1 1", "pick 1 2 refused 23", "pick 2 1 refused 23", "pick 1 1 refused 25")
+    judged("a start without waits is over at once", check(2, 3, [(1, 3)], [(1, 3), (2, 1)]), 0, 1, "knot", "none",
            "pick 1 3 refused 23", "pick 2 1 refused 25", "over 0")
-    judged("a loop by picks", check(1, 1, [(1, 1)], [(1, 1)] * 5), 0, "knot", "knot",
-           "pick 1 1 suc", "pick 1 1 pre", "pick 1 1 ack 0", "pick 1 1 ack 0", "pick 1 1 refused 23")
+    judged("a loop by picks", check(1, 1, [(1, 1)], [(1, 1)] * 5), 0, 0, "knot", "knot",
+           "pick 1 1 suc", "pick 1 1 pre", "pick 1 1 ack 0 0", "pick 1 1 ack 0 0", "pick 1 1 refused 23")
     both = [(1, 2), (2, 1)]
-    judged("both probes before the acknowledgements", check(1, 2, both, [(1, 2), (1, 2), (2, 1), (2, 1)]), 0, "knot", "knot",
-           "pick 1 2 suc", "pick 1 2 pre", "pick 2 1 ack 1", "own 2 1 ack -1")
+    judged("both probes before the acknowledgements", check(1, 2, both, [(1, 2), (1, 2), (2, 1), (2, 1)]), 0, 0, "knot", "knot",
+           "pick 1 2 suc", "pick 1 2 pre", "pick 2 1 ack 1 0", "own 2 1 ack -1 0")
     fork = [(1, 2), (1, 3)]
-    judged("two acknowledgements", check(1, 3, fork, [(1, 2), (1, 3), (2, 1), (3, 1)]), 2, "none", "none", "pick 2 1 ack 1", "pick 3 1 ack 1")
-    judged("the same, the other way about", check(1, 3, fork, [(1, 2), (1, 3), (3, 1), (2, 1)]), 2, "none", "none",
-           "pick 3 1 ack 1", "pick 2 1 ack 1")
+    judged("two acknowledgements", check(1, 3, fork, [(1, 2), (1, 3), (2, 1), (3, 1)]), 2, 2, "none", "none",
+           "pick 2 1 ack 1 1", "pick 3 1 ack 1 1")
+    judged("the same, the other way about", check(1, 3, fork, [(1, 2), (1, 3), (3, 1), (2, 1)]), 2, 2, "none", "none",
+           "pick 3 1 ack 1 1", "pick 2 1 ack 1 1")
+
+
+def marks():
+    """Where the mark does not follow the verdict, and what the second sums count (02, N3)."""
+    # no knot, yet returned: the start leads only to knots that it is not in
+    judged("a way to one that waits for itself alone", check(1, 2, [(1, 2), (2, 2)]), 1, 0, "none", "none")
+    judged("ways to two knots", check(3, 5, [(3, 1), (1, 2), (2, 1), (3, 4), (4, 5), (5, 4)]), 4, 0, "none", "none")
+    judged("a knot that the start is not in, and one that waits for nobody, which it does not reach",
+           check(1, 6, path(1, 2, 3, 2) + [(4, 1), (4, 5), (6, 5)]), 2, 0, "none", "none")
+    judged("a knot that the start is not in, and a way out beside it", check(1, 4, path(1, 2, 3, 2) + [(1, 4)]), 3, 1, "none", "none")
+    judged("a way out of the knot that the start is not in", check(1, 4, path(1, 2, 3, 2) + [(3, 4)]), 3, 1, "none", "none")
+
+    # a knot and returned, though some wait for nobody: the start does not reach them
+    judged("those that wait for nobody are not reached", check(2, 6, [(2, 3), (3, 2), (1, 2), (1, 4), (5, 4)]), 0, 0, "knot", "knot")
+
+    judged("one process that waits for nobody, reached on two ways", check(1, 4, path(1, 2, 4) + path(1, 3, 4)), 3, 1, "none", "none",
+           "own 4 2 ack 1 1", "own 4 3 ack 0 0")
+    judged("the same, from a circle", check(1, 4, path(1, 2, 3, 1) + [(1, 4), (2, 4), (3, 4)]), 1, 1, "none", "none")
+    judged("three that wait for nobody, each reached on two ways", check(1, 6, [(a, b) for a in (2, 3) for b in (4, 5, 6)] + [(1, 2), (1, 3)]),
+           5, 3, "none", "none")
+    judged("a start that waits for nobody and is waited for on two ways", check(4, 4, path(1, 2, 4) + path(1, 3, 4)), 0, 1, "knot", "none")
+
+    # 2 waits for 4 and 5, 3 waits for 2
+    ways = [(1, 2), (1, 3), (3, 2), (2, 4), (2, 5)]
+    judged("both sums go to the one that probes 2 a second time", check(1, 5, ways, [(1, 2), (2, 4), (4, 2), (1, 3), (3, 2), (2, 3)]),
+           4, 2, "none", "none", "pick 4 2 ack 1 1", "pick 3 2 suc", "pick 2 3 ack 2 1", "own 3 1 ack 3 1", "own 2 1 ack 1 1")
+    judged("both sums go to the father", check(1, 5, ways, [(1, 2), (2, 4), (4, 2), (2, 5), (5, 2), (2, 1)]),
+           4, 2, "none", "none", "pick 5 2 ack 1 1", "pick 2 1 ack 3 2", "own 2 3 ack 0 0", "own 3 1 ack 1 0")
+    # 2 is in a circle with the start, 3 waits for nobody
+    circle = [(1, 2), (2, 1), (2, 3)]
+    judged("the sums of 2 are 0 and 1", check(1, 3, circle, [(1, 2), (1, 2), (2, 3), (3, 2), (2, 1), (2, 1), (2, 1)]), 1, 1, "none", "none",
+           "pick 3 2 ack 1 1", "pick 2 1 suc", "pick 2 1 ack 1 0", "pick 2 1 pre", "own 2 1 ack 0 1")
 
 
 def random_picks(rng, n, waits, count):
@@ -426,12 +494,20 @@ def random_cases(rng):
 
 
 def large(rng):
-    add("a ring of 128", check(128, 128, path(*range(1, 129), 1)), "over 512", "verdict knot")
-    add("a path of 128 from its first", check(1, 128, path(*range(1, 129))), "verdict none", "outside 127", "escape 2")
-    judged("all the others of 128 wait for 77", check(77, 128, [(p, 77) for p in range(1, 129) if p != 77]), 0, "knot", "none", "over 254")
-    judged("all of 128 wait for 77", check(77, 128, [(p, 77) for p in range(1, 129)]), 0, "knot", "knot", "over 258")
-    judged("1 and 128 wait for each other, from 1", check(1, 128, [(1, 128), (128, 1)]), 0, "knot", "knot", "over 8")
-    judged("1 and 128 wait for each other, from 128", check(128, 128, [(1, 128), (128, 1)]), 0, "knot", "knot", "over 8")
+    add("a ring of 128", check(128, 128, path(*range(1, 129), 1)), "over 512", "verdict knot", "mark returned")
+    add("a path of 128 from its first", check(1, 128, path(*range(1, 129))),
+        "process 1 1 1 0 127 0 1", "verdict none", "outside 127", "escape 2", "mark held")
+    judged("1 waits for all the others of 128", check(1, 128, [(1, p) for p in range(2, 129)]), 127, 127, "none", "none", "over 254")
+    add("1 waits for 128, and 128 for all the others", check(1, 128, [(1, 128)] + [(128, p) for p in range(2, 128)]),
+        "own 128 1 ack 127 126", "process 1 1 1 0 127 0 126", "mark held")
+    between = range(3, 127)
+    add("2 waits for 127 and for all between, and these wait for 128: counts far below 0 with second counts",
+        check(1, 128, [(1, 2), (2, 127), (128, 1)] + [(2, p) for p in between] + [(p, 128) for p in between]),
+        "own 128 1 ack 124 0", "own 126 2 ack -123 1", "own 2 1 ack -123 1", "process 1 1 1 0 1 0 1", "mark held")
+    judged("all the others of 128 wait for 77", check(77, 128, [(p, 77) for p in range(1, 129) if p != 77]), 0, 1, "knot", "none", "over 254")
+    judged("all of 128 wait for 77", check(77, 128, [(p, 77) for p in range(1, 129)]), 0, 0, "knot", "knot", "over 258")
+    judged("1 and 128 wait for each other, from 1", check(1, 128, [(1, 128), (128, 1)]), 0, 0, "knot", "knot", "over 8")
+    judged("1 and 128 wait for each other, from 128", check(128, 128, [(1, 128), (128, 1)]), 0, 0, "knot", "knot", "over 8")
     full = some_waits(rng, 128, 512)
     add("128 processes, 512 waits", check(1, 128, full, random_picks(rng, 128, full, 40)))
     loop = check(1, 1, [(1, 1)])
@@ -448,7 +524,7 @@ def first_reached(lines):
 def ways_out(label, data, *out):
     """A case with these ways out, in the order in which they are first reached; escape is the lowest of them, or 0 if there is none."""
     lowest = min(out, default=0)
-    add(label, data, *["process %d 1 0 1 0 0" % p for p in sorted(out)], "outside %d" % len(out), "escape %d" % lowest)
+    add(label, data, *["process %d 1 0 1 0 0 0" % p for p in sorted(out)], "outside %d" % len(out), "escape %d" % lowest)
     assert [p for p in first_reached(cases[-1][2]) if p in out] == list(out), label
 
 
@@ -488,7 +564,7 @@ def escapes():
 
 def in_orders(rng, name, data, *wanted):
     """One check, all its deliveries by picks, in orders of every kind: all that is printed of its end is the same (02, N1: "two installations
-    named different ones for equal runs"; N4: "the end state is still one for all orders")."""
+    named different ones for equal runs"; N4: "the end state is still one for all orders"), the second sums and the mark with it."""
     ends = set()
     for label, choose in (
         ("lowest link first", min),
@@ -506,11 +582,16 @@ def in_orders(rng, name, data, *wanted):
 
 
 def orders(rng):
-    in_orders(rng, "one check", check(4, 7, path(4, 1, 4) + path(4, 7, 6, 2, 6) + path(1, 5, 3) + [(6, 5)]), "outside 5", "escape 2")
+    in_orders(rng, "one check", check(4, 7, path(4, 1, 4) + path(4, 7, 6, 2, 6) + path(1, 5, 3) + [(6, 5)]), "process 4 1 1 0 5 0 1",
+              "outside 5", "escape 2", "mark held")
     in_orders(rng, "a start that waits for nobody, edition 2", under(2, check(3, 6, path(1, 2, 3) + path(6, 5, 4, 6) + [(4, 3), (5, 1)])),
               "verdict none", "outside 0", "escape 0", "mark held")
     in_orders(rng, "a knot, edition 2", under(2, check(2, 5, path(2, 4, 5, 2) + [(1, 4), (5, 4), (3, 3)])),
               "verdict knot", "outside 0", "escape 0", "mark returned")
+    in_orders(rng, "knots that the start is not in", check(5, 6, path(5, 2, 5) + path(2, 6, 3, 6) + path(5, 4, 4) + [(1, 5)]),
+              "process 5 1 1 0 3 0 0", "verdict none", "outside 3", "escape 3", "mark returned")
+    in_orders(rng, "three that wait for nobody", check(2, 7, path(2, 4, 2) + path(4, 1, 3) + path(2, 6, 7) + [(6, 3), (2, 5), (4, 5), (1, 7)]),
+              "process 2 1 1 0 5 0 3", "verdict none", "outside 5", "escape 1", "mark held")
 
 
 # ---- inputs of the check program itself, each with a crate of its own
@@ -534,7 +615,7 @@ def longest():
     picks += [links[k % len(links)] for k in range(room - len(picks))]
     data = check(start, n, waits, picks, shuffled(rng))
     lines = held("longest", data, ["pick %d %d refused 24" % link for link in empty] + ["pick %d %d refused 25" % pair for pair in none]
-                 + ["pick %d %d refused 23" % picks[-1], "over %d" % len(accepted), "verdict none"])
+                 + ["pick %d %d refused 23" % picks[-1], "over %d" % len(accepted), "verdict none", "mark held"])
     assert len(data) == LONGEST and sum(line.startswith("pick ") for line in lines) == len(picks)
     assert sum(line.endswith(" refused 23") for line in lines) > 4000 and not any(line.startswith("own ") for line in lines)
     return data, lines
@@ -578,6 +659,7 @@ def make():
     rows()
     every_small_table()
     editions()
+    marks()
     picks()
     random_cases(rng)
     large(rng)

@@ -1,5 +1,6 @@
 /* A first check from C: process 1 waits for process 2 (01, "The check program"). It prints the nine lines that 01 gives for this table,
- * start 1 (under edition 1) and the pick 1 2, and returns 1 with a line on standard error if a call answers anything else than it should.
+ * start 1 (under edition 1) and the pick 1 2, with the second numbers of 02, N3, and returns 1 with a line on standard error if a call
+ * answers anything else than it should.
  *
  * From the root of the repository, after rt staticlib pickledune:
  *   gcc -std=c99 -Wall -Wextra -pedantic -Iinclude hosts/c/example.c target/staticlib/libpickledune.a -o target/example && target/example
@@ -21,10 +22,10 @@ static void expect(int holds, const char *what)
     }
 }
 
-static void print_delivery(const char *how, size_t from, size_t to, uint32_t kind, int32_t count)
+static void print_delivery(const char *how, size_t from, size_t to, uint32_t kind, int32_t count, int32_t second)
 {
     if (kind == PICKLEDUNE_ACK) {
-        printf("%s %zu %zu ack %ld\n", how, from, to, (long)count);
+        printf("%s %zu %zu ack %ld %ld\n", how, from, to, (long)count, (long)second);
     } else {
         printf("%s %zu %zu %s\n", how, from, to, kind == PICKLEDUNE_SUC ? "suc" : "pre");
     }
@@ -38,16 +39,17 @@ static int deliver_next(int32_t *area)
         for (size_t to = 1; to <= PROCESSES; to++) {
             uint32_t kind;
             int32_t count;
-            uint32_t number = pickledune_pick(area, WORDS, from, to, 1, &kind, &count);
+            int32_t second;
+            uint32_t number = pickledune_pick(area, WORDS, from, to, 1, &kind, &count, &second);
             if (number == 0) {
-                print_delivery("own", from, to, kind, count);
+                print_delivery("own", from, to, kind, count, second);
                 return 1;
             }
             if (number == 23) {
                 return 0;
             }
             expect(number == 24 || number == 25, "a pick of a link with no message");
-            expect(kind == 0 && count == 0, "zeros on a refusal");
+            expect(kind == 0 && count == 0 && second == 0, "zeros on a refusal");
         }
     }
     expect(0, "a message waits until the run is over");
@@ -76,18 +78,22 @@ static void walk(const uint8_t *table)
     expect(pickledune_open(table, TABLE, PICKLEDUNE_IN, 3, &arc) == 8 && arc == 0, "no process 3");
 }
 
-/* What process 2 does with the probe, by itself: it has no successor and no father yet, so it acknowledges at once with 1. */
+/* What process 2 does with the probe, by itself: it has no successor and no father yet, so it acknowledges at once with 1 and, since it
+ * waits for nobody, with 1 as the second count (02, N3). */
 static void step_by_itself(void)
 {
-    struct pickledune_process record = {0, 0, 0, 0, 0, 0};
+    struct pickledune_process record = {0, 0, 0, 0, 0, 0, 0};
     uint32_t probes;
     uint32_t to;
     int32_t count;
-    expect(pickledune_step_process(&record, PICKLEDUNE_SUC, 0, 0, 1, 1, &probes, &to, &count) == 0, "a step");
-    expect(record.succeeding == 1 && record.subordinate == 1 && record.cs == 0 && record.father == 1, "its record");
-    expect(probes == PICKLEDUNE_SUC && to == 1 && count == 1, "what it sends");
-    expect(pickledune_step_process(&record, 4, 0, 0, 1, 1, &probes, &to, &count) == 21, "no kind 4");
-    expect(record.succeeding == 1 && probes == 0 && to == 0 && count == 0, "a refusal keeps the record and gives zeros");
+    int32_t second;
+    expect(pickledune_step_process(&record, PICKLEDUNE_SUC, 0, 0, 0, 1, 1, &probes, &to, &count, &second) == 0, "a step");
+    expect(record.succeeding == 1 && record.subordinate == 1 && record.father == 1, "its record");
+    expect(record.cs == 0 && record.second == 0, "both sums are passed on");
+    expect(probes == PICKLEDUNE_SUC && to == 1 && count == 1 && second == 1, "what it sends");
+    expect(pickledune_step_process(&record, 4, 0, 0, 0, 1, 1, &probes, &to, &count, &second) == 21, "no kind 4");
+    expect(record.succeeding == 1 && probes == 0 && to == 0 && count == 0 && second == 0,
+           "a refusal keeps the record and gives zeros");
 }
 
 /* Overtaking (02, N5): 1 and 2 wait for each other, so that a suc probe and then a pre probe wait on the link from 1 to 2. The second is
@@ -101,16 +107,18 @@ static void overtake(void)
     size_t length;
     uint32_t kind;
     int32_t count;
+    int32_t second;
     uint32_t over;
     uint32_t made;
     expect(pickledune_write_table(2, list, 4, table, sizeof table, &length) == 0, "writing a table of two waits");
     expect(pickledune_start(table, length, 1, 1, area, words) == 0, "its start");
-    expect(pickledune_pick(area, words, 1, 2, 2, &kind, &count) == 0 && kind == PICKLEDUNE_PRE, "the second message first");
-    expect(pickledune_pick(area, words, 1, 2, 1, &kind, &count) == 0 && kind == PICKLEDUNE_SUC, "then the first");
+    expect(pickledune_pick(area, words, 1, 2, 2, &kind, &count, &second) == 0 && kind == PICKLEDUNE_PRE, "place 2 first");
+    expect(pickledune_pick(area, words, 1, 2, 1, &kind, &count, &second) == 0 && kind == PICKLEDUNE_SUC, "then place 1");
     expect(pickledune_run_on(area, words, 2048, &over, &made) == 0 && over == 1 && made == 6, "8 deliveries in any order");
 }
 
-/* Editions (02, N4): process 1 waits for nobody, process 2 for itself. By edition 1 both are in a knot, by edition 2 only process 2. */
+/* Editions (02, N4): process 1 waits for nobody, process 2 for itself. By edition 1 both are in a knot, by edition 2 only process 2; the
+ * mark is the same by both. */
 static void judge_by_edition(void)
 {
     const uint16_t list[2] = {2, 2};
@@ -132,10 +140,36 @@ static void judge_by_edition(void)
             expect(pickledune_start(table, length, process, edition, area, words) == 0, "a start under either edition");
             expect(pickledune_run_on(area, words, 2048, &over, &made) == 0 && over == 1, "its end");
             expect(pickledune_report(area, words, &deliveries, &knot, &outside, &escape, &returned) == 0, "its report");
-            expect(knot == (process == 2 || edition == 1) && returned == knot, "the verdict by the edition");
+            expect(knot == (process == 2 || edition == 1), "the verdict by the edition");
             expect(deliveries == (process == 2 ? 4 : 0) && outside == 0 && escape == 0, "the rest of the report by both");
+            expect(returned == (process == 2), "the mark by both");
         }
     }
+}
+
+/* The mark (02, N3): process 1 waits for 2, and 2 and 3 wait for each other. Process 1 is in no knot, but all that it waits for, at any
+ * remove, wait for somebody, so it is returned. */
+static void wait_for_a_knot(void)
+{
+    const uint16_t list[6] = {1, 2, 2, 3, 3, 2};
+    uint8_t table[PICKLEDUNE_TABLE_BYTES(3, 3)];
+    int32_t area[PICKLEDUNE_AREA_WORDS(3, 3)];
+    const size_t words = PICKLEDUNE_AREA_WORDS(3, 3);
+    struct pickledune_process start;
+    size_t length;
+    uint32_t over;
+    uint32_t made;
+    uint32_t deliveries;
+    uint32_t knot;
+    int32_t outside;
+    uint32_t escape;
+    uint32_t returned;
+    expect(pickledune_write_table(3, list, 6, table, sizeof table, &length) == 0, "writing a table of three waits");
+    expect(pickledune_start(table, length, 1, 1, area, words) == 0, "its start");
+    expect(pickledune_run_on(area, words, 2048, &over, &made) == 0 && over == 1 && made == 6, "its end");
+    expect(pickledune_read_process(area, words, 1, &start) == 0 && start.cs == 2 && start.second == 0, "the sums of the start");
+    expect(pickledune_report(area, words, &deliveries, &knot, &outside, &escape, &returned) == 0, "its report");
+    expect(knot == 0 && outside == 2 && escape == 2 && returned == 1, "in no knot, and returned");
 }
 
 static void print_report(const int32_t *area)
@@ -148,8 +182,8 @@ static void print_report(const int32_t *area)
     for (size_t p = 1; p <= PROCESSES; p++) {
         struct pickledune_process x;
         expect(pickledune_read_process(area, WORDS, p, &x) == 0, "reading a record");
-        printf("process %zu %lu %lu %lu %ld %lu\n", p, (unsigned long)x.succeeding, (unsigned long)x.preceding,
-               (unsigned long)x.subordinate, (long)x.cs, (unsigned long)x.num);
+        printf("process %zu %lu %lu %lu %ld %lu %ld\n", p, (unsigned long)x.succeeding, (unsigned long)x.preceding,
+               (unsigned long)x.subordinate, (long)x.cs, (unsigned long)x.num, (long)x.second);
     }
     expect(pickledune_report(area, WORDS, &deliveries, &knot, &outside, &escape, &returned) == 0, "the report");
     printf("over %lu\n", (unsigned long)deliveries);
@@ -170,6 +204,7 @@ int main(void)
     size_t m;
     uint32_t kind;
     int32_t count;
+    int32_t second;
 
     expect(pickledune_write_table(PROCESSES, list, 2 * ARCS, table, sizeof table, &length) == 0, "writing the table");
     expect(length == TABLE, "its length");
@@ -178,9 +213,9 @@ int main(void)
 
     expect(pickledune_start(table, length, 1, 1, area, WORDS - 1) == 9, "an area that is too short");
     expect(pickledune_start(table, length, 1, 1, area, WORDS) == 0, "the start");
-    expect(pickledune_pick(area, WORDS, 1, 2, 2, &kind, &count) == 31, "one message waits there, and none at place 2");
-    expect(pickledune_pick(area, WORDS, 1, 2, 1, &kind, &count) == 0, "the pick");
-    print_delivery("pick", 1, 2, kind, count);
+    expect(pickledune_pick(area, WORDS, 1, 2, 2, &kind, &count, &second) == 31, "one message waits there, and none at place 2");
+    expect(pickledune_pick(area, WORDS, 1, 2, 1, &kind, &count, &second) == 0, "the pick");
+    print_delivery("pick", 1, 2, kind, count, second);
     memcpy(picked, area, sizeof area);
     while (deliver_next(area)) {
     }
@@ -189,5 +224,6 @@ int main(void)
     step_by_itself();
     overtake();
     judge_by_edition();
+    wait_for_a_knot();
     return 0;
 }

@@ -18,7 +18,7 @@ static uint8_t table[PICKLEDUNE_TABLE_BYTES(N, M)];
 static uint16_t list[2 * M];
 static int32_t area[PICKLEDUNE_AREA_WORDS(N, M)];
 static uint32_t a, b, c, d, e;
-static int32_t z;
+static int32_t y, z;
 static size_t n, m;
 static struct pickledune_process x;
 
@@ -28,11 +28,11 @@ static void read_table(void) { a = pickledune_read_table(table, sizeof table, &n
 static void open_walk(void) { a = pickledune_open(table, sizeof table, PICKLEDUNE_OUT, 1, &n); }
 static void next_arc(void) { n = pickledune_next(table, sizeof table, PICKLEDUNE_OUT, 1); }
 static void start(void) { a = pickledune_start(table, sizeof table, 1, 2, area, PICKLEDUNE_AREA_WORDS(N, M)); }
-static void pick(void) { a = pickledune_pick(area, PICKLEDUNE_AREA_WORDS(N, M), 1, 2, 1, &b, &z); }
+static void pick(void) { a = pickledune_pick(area, PICKLEDUNE_AREA_WORDS(N, M), 1, 2, 1, &b, &y, &z); }
 static void run_on(void) { a = pickledune_run_on(area, PICKLEDUNE_AREA_WORDS(N, M), 2048, &b, &c); }
 static void report(void) { a = pickledune_report(area, PICKLEDUNE_AREA_WORDS(N, M), &b, &c, &z, &d, &e); }
 static void read_record(void) { a = pickledune_read_process(area, PICKLEDUNE_AREA_WORDS(N, M), 1, &x); }
-static void step(void) { a = pickledune_step_process(&x, PICKLEDUNE_SUC, 0, 4, 4, 2, &b, &c, &z); }
+static void step(void) { a = pickledune_step_process(&x, PICKLEDUNE_SUC, 0, 0, 4, 4, 2, &b, &c, &y, &z); }
 
 static void *run(void *call)
 {

@@ -4,9 +4,10 @@
  * Everything that is lent ends where a page begins that may not be touched, so reading or writing past it stops the program. What 01
  * says of every call is checked after it: a refusal gives zeros and changes nothing (running on keeps the deliveries made before it),
  * nothing but the area changes, the answers of calls that follow each other agree, a start is held to the edition that it is given and a
- * verdict to the one that the area holds (02, N4), and a pick is held to the words of its link (02, N5).
+ * verdict to the one that the area holds (02, N4), a pick is held to the words of its link (02, N5), a mark to the start's second sum, and
+ * a start, deliveries and a step to what they add to the second sums and counts (02, N3).
  * The archive itself is not built for the fuzzer, so each answer is counted as coverage (calls by their refusal numbers, accepted picks by
- * their places and accepted reports by their editions too). */
+ * their places and accepted reports by their editions, verdicts and marks too). */
 #include "pickledune.h"
 
 #include <stdint.h>
@@ -16,15 +17,18 @@
 #include <sys/mman.h>
 #include <unistd.h>
 
-enum { CALLS = 10, PICKED = CALLS, JUDGED, ROWS, NUMBERS = 50, TABLE = 8192, LIST = 2200, AREA = 12000, STEPS = 4096, WAITING = 4 };
+enum { CALLS = 10, PICKED = CALLS, JUDGED, COUNTED, ROWS, NUMBERS = 50 };
+enum { TABLE = 8192, LIST = 2200, AREA = 12000, STEPS = 4096, WAITING = 4 };
 
 __attribute__((section("__libfuzzer_extra_counters"))) static uint8_t seen[ROWS * NUMBERS];
 
-/* The numbers that each call has answered in the whole run, printed at its end. The last two rows have accepted picks, by how many messages
- * waited and by place: 32 is the second of three; and accepted reports, by edition and verdict: 10 and 20 are none, 11 and 21 a knot, and 22
- * is none with outside 0. */
+/* The numbers that each call has answered in the whole run, printed at its end. The last three rows have accepted picks, by how many
+ * messages waited and by place: 32 is the second of three; accepted reports, by edition and verdict: 10 and 20 are none, 11 and 21 a knot,
+ * and 22 is none with outside 0, all of them held, and 3 more if returned: 13, 14, 23, 24 and 25; and accepted picks by second numbers: 1
+ * if the receiver added its own, 2 and 3 for a second count above and below 0, else 0. */
 static const char *const row_names[ROWS] = {"read_table", "write_table", "open",        "next", "start",  "pick",
-                                            "run_on",     "report",      "read_record", "step", "picked", "judged"};
+                                            "run_on",     "report",      "read_record", "step", "picked", "judged",
+                                            "counted"};
 static uint64_t answered[ROWS][NUMBERS];
 
 static uint8_t *table_end, *out_end;
@@ -233,6 +237,49 @@ static uint32_t first_refusal_of_start(size_t process, size_t edition)
     return area_len < PICKLEDUNE_AREA_WORDS(n, m) ? 9 : 0;
 }
 
+static int in_range(int32_t sum)
+{
+    return -128 <= sum && sum <= 128;
+}
+
+/* Where the second sum of a process stands in words of a well-formed area (docs/LAYOUT.md). */
+static size_t second_place(const int32_t *words, size_t process)
+{
+    return 16 + 2 * (size_t)words[14] + 4 * (size_t)words[15] + 6 * (process - 1) + 4;
+}
+
+/* The second count of a message, 0 of a probe; the word must be one of a message, or 0. */
+static int32_t second_count(int32_t message)
+{
+    int32_t low = message % 512 - 256, high = message / 512 - 256;
+    if (0 <= message && message <= 2)
+        return 0;
+    expect(in_range(low) && in_range(high), "a message has its counts in range");
+    return high;
+}
+
+/* The sum of all second sums and of all second counts that wait, in words of a well-formed area, which have each of them in range. */
+static int32_t all_second_numbers(const int32_t *words)
+{
+    size_t n = (size_t)words[14], m = (size_t)words[15], links = 16 + 8 * n + 4 * m;
+    int32_t sum = 0;
+    for (size_t process = 1; process <= n; process++) {
+        int32_t second = words[second_place(words, process)];
+        expect(in_range(second), "second sums are in range");
+        sum += second;
+    }
+    for (size_t link = 0; link < 2 * m; link++)
+        for (size_t i = 0; i < WAITING; i++)
+            sum += second_count(words[links + 8 * link + i]);
+    return sum;
+}
+
+/* Whether a process waits for nobody, in words of a well-formed area: its out-chain has no first arc. */
+static int waits_for_nobody(const int32_t *words, size_t process)
+{
+    return words[16 + 2 * (process - 1)] == 0;
+}
+
 static void start(void)
 {
     size_t words = byte() % 16 ? AREA - byte() : number() % AREA;
@@ -244,28 +291,48 @@ static void start(void)
     keep();
     uint32_t refused = count(4, pickledune_start(table, table_len, process, edition, area, area_len));
     expect(refused == first_refusal_of_start(process, edition), "1 to 8, 30, 9, in this order");
-    if (refused)
+    if (refused) {
         expect(kept(), "a refusal changes no word");
-    else
-        expect((size_t)area[1] == process && (size_t)area[3] == edition, "the area holds the start and the edition");
+        return;
+    }
+    expect((size_t)area[1] == process && (size_t)area[3] == edition, "the area holds the start and the edition");
+    expect(all_second_numbers(area) == waits_for_nobody(area, process), "the start adds its own at once");
+}
+
+/* A sum or a count: often at an end of its range, at times just past it. */
+static int32_t draw_sum(void)
+{
+    static const int32_t ends[] = {-129, -128, -127, -1, 0, 1, 127, 128, 129};
+    uint32_t drawn = byte();
+    return drawn % 2 ? ends[drawn / 2 % 9] : (int32_t)(number() % 257) - 128;
+}
+
+/* A message, at times with a count out of range, or none. */
+static int32_t draw_message(void)
+{
+    uint32_t drawn = byte() % 8;
+    int32_t carried;
+    if (drawn < 3)
+        return (int32_t)drawn;
+    carried = 256 + draw_sum();
+    return drawn == 3 ? carried : carried + 512 * (256 + draw_sum());
 }
 
 static void change_value(void)
 {
-    static const int32_t messages[] = {0, 1, 2, 128, 255, 256, 257, 384};
     if (area_len < 16 || area[14] < 1 || area[14] > 128 || area[15] < 0 || area[15] > 512)
         return;
-    size_t n = (size_t)area[14], m = (size_t)area[15], records = 16 + 2 * n + 4 * m, at, place = byte() % 6;
+    size_t n = (size_t)area[14], m = (size_t)area[15], records = 16 + 2 * n + 4 * m, at, place = byte() % 7;
     int32_t value;
     if (byte() % 2 && m) {
         at = records + 6 * n + 8 * (number() % (2 * m)) + place % 4;
-        value = messages[byte() % 8];
+        value = draw_message();
     } else {
-        at = place >= 4 ? place - 2 : records + 6 * (byte() % n) + place;
-        value = place == 0 ? (int32_t)(byte() % 8) : place == 1 ? (int32_t)(byte() % 257) - 128 : (int32_t)(number() % 257);
-        if (place == 4) /* often the most deliveries, after which the next is refused with 22 */
+        at = place >= 5 ? place - 3 : records + 6 * (byte() % n) + place;
+        value = place == 0 ? (int32_t)(byte() % 8) : place == 1 || place == 4 ? draw_sum() : (int32_t)(number() % 257);
+        if (place == 5) /* often the most deliveries, after which the next is refused with 22 */
             value = 2048 - (int32_t)(byte() % 4 ? byte() % 2 : number() % 2049);
-        if (place == 5) /* the edition, or none */
+        if (place == 6) /* the edition, or none */
             value = (int32_t)(byte() % 4);
     }
     if (at < area_len)
@@ -323,24 +390,37 @@ static uint32_t first_refusal_of_pick(size_t link, size_t load, size_t place)
     return place == 0 || place > load ? 31 : 0;
 }
 
+/* What deliveries added to all second numbers (02, N3): as many as processes that wait for nobody became succeeding in them. */
+static int32_t added(void)
+{
+    int32_t own = 0;
+    for (size_t process = 1; process <= (size_t)before[14]; process++) {
+        size_t flags = second_place(before, process) - 4;
+        own += waits_for_nobody(before, process) && area[flags] % 2 && before[flags] % 2 == 0;
+    }
+    expect(all_second_numbers(area) == all_second_numbers(before) + own, "second sums are passed on, and 1 is added once");
+    return own;
+}
+
 /* A pick, held to the words of its link: 02, N5. */
 static void pick_at(size_t from, size_t to, size_t place)
 {
     uint32_t kind = 7;
-    int32_t carried = 7;
+    int32_t carried = 7, second = 7;
     size_t link, load = 0;
     keep();
-    uint32_t refused = count(5, pickledune_pick(area, area_len, from, to, place, &kind, &carried));
+    uint32_t refused = count(5, pickledune_pick(area, area_len, from, to, place, &kind, &carried, &second));
     if (refused)
-        expect(kind == 0 && carried == 0 && kept(), "a refused pick changes nothing");
+        expect(kind == 0 && carried == 0 && second == 0 && kept(), "a refused pick changes nothing");
     else {
-        expect(1 <= kind && kind <= 3 && -128 <= carried && carried <= 128, "a message");
-        expect(kind == 3 || carried == 0, "a probe has no count");
+        expect(1 <= kind && kind <= 3 && in_range(carried) && in_range(second), "a message");
+        expect(kind == 3 || (carried == 0 && second == 0), "a probe has no counts");
         expect(area[2] == before[2] + 1, "a delivery is counted");
     }
     if (refused == 21)
         return;
     expect(has_its_words(before), "21 for an area that is too short, or has sizes, a start or an edition out of range");
+    all_second_numbers(before); /* 21 also for those out of range */
     link = link_place(from, to);
     while (link && load < WAITING && before[link + load])
         load += 1;
@@ -350,7 +430,10 @@ static void pick_at(size_t from, size_t to, size_t place)
         return;
     note(PICKED, 10 * load + place);
     int32_t taken = before[link + place - 1];
-    expect(taken <= 2 ? (int32_t)kind == taken : kind == 3 && carried == taken - 256, "the message at the place");
+    expect(taken <= 2 ? (int32_t)kind == taken : kind == 3 && 256 + carried + 512 * (256 + second) == taken, "the message at the place");
+    note(COUNTED, added() ? 1 : second > 0 ? 2 : second < 0 ? 3 : 0);
+    size_t sum = second_place(before, to);
+    expect(to != (size_t)before[1] || area[sum] == before[sum] + second, "the start passes nothing on");
     for (size_t i = 1; i < load; i++)
         expect(area[link + i - 1] == before[link + i - (i < place)], "the others keep their order");
     /* Only on a loop does the receiver send on the link that it got the message by. */
@@ -389,6 +472,7 @@ static void run_on(void)
         return;
     }
     expect(area[2] == before[2] + (int32_t)made, "deliveries are counted");
+    added();
     if (refused) {
         expect(over == 0, "zeros with a refusal");
         return;
@@ -424,42 +508,62 @@ static void report(void)
         return;
     }
     expect(has_its_words(area), "a reported area has its words");
-    /* 02, N4: whether the start waits for somebody is a matter of its out-chain, which then has a first arc. */
-    int waits = area[16 + 2 * (area[1] - 1)] != 0;
-    expect(knot == (outside == 0 && (area[3] == 1 || waits)) && returned == knot, "the verdict of the sum, by the edition");
-    note(JUDGED, 10 * (size_t)area[3] + (knot ? 1 : outside == 0 ? 2 : 0));
+    size_t start = (size_t)area[1];
+    struct pickledune_process x;
+    expect(knot == (outside == 0 && (area[3] == 1 || !waits_for_nobody(area, start))), "the verdict of the sum, by the edition");
+    expect(pickledune_read_process(area, area_len, start, &x) == 0, "the record of the start");
+    expect(returned == (x.second == 0) && outside == x.cs, "the mark of the second sum, outside of the sum");
+    note(JUDGED, 10 * (size_t)area[3] + (knot ? 1 : outside == 0 ? 2 : 0) + (returned ? 3 : 0));
     expect(escape == lowest_subordinate(), "the lowest way out");
     expect(pickledune_run_on(area, area_len, 9, &over, &made) == 0 && over == 1 && made == 0, "a reported run is over");
 }
 
 static void read_record(void)
 {
-    struct pickledune_process x = {7, 7, 7, 7, 7, 7};
-    uint32_t refused = count(8, pickledune_read_record(area, area_len, byte() % 140, &x.succeeding, &x.preceding, &x.subordinate, &x.cs,
-                                                       &x.num, &x.father));
-    if (refused)
-        expect(x.succeeding == 0 && x.preceding == 0 && x.subordinate == 0 && x.cs == 0 && x.num == 0 && x.father == 0,
-               "zeros with a refusal");
-    else
-        expect(x.succeeding <= 1 && x.preceding <= 1 && x.subordinate <= 1 && x.num <= 256 && x.father <= 128, "a record in range");
+    static const struct pickledune_process zeros = {0, 0, 0, 0, 0, 0, 0};
+    struct pickledune_process x = {7, 7, 7, 7, 7, 7, 7};
+    size_t process = byte() % 140;
+    uint32_t refused = count(8, pickledune_read_process(area, area_len, process, &x));
+    if (refused) {
+        expect(memcmp(&x, &zeros, sizeof x) == 0, "zeros with a refusal");
+        return;
+    }
+    expect(x.succeeding <= 1 && x.preceding <= 1 && x.subordinate <= 1 && x.num <= 256 && x.father <= 128, "a record in range");
+    expect(in_range(x.cs) && in_range(x.second), "sums in range");
+    size_t second = second_place(area, process);
+    expect(area[second - 3] == x.cs && area[second] == x.second, "the sums that the area holds");
+}
+
+/* A num or a degree, often 0. */
+static uint32_t draw_below(uint32_t bound)
+{
+    return byte() % 3 ? number() % bound : 0;
 }
 
 static void step(void)
 {
-    struct pickledune_process x = {byte() % 3, byte() % 3, byte() % 3, (int32_t)byte() - 127, number() % 300, byte() % 140}, y = x;
+    struct pickledune_process x = {byte() % 3, byte() % 3, byte() % 3, draw_sum(), draw_below(300), byte() % 140, draw_sum()}, y;
     uint32_t probes = 7, to = 7;
-    int32_t reply = 7;
-    if (byte() % 16 == 0)
-        x.cs = y.cs = (int32_t)word();
+    int32_t reply = 7, reply_second = 7;
+    uint32_t far = byte() % 16;
+    if (far < 2)
+        *(far ? &x.second : &x.cs) = (int32_t)word();
+    y = x;
     uint32_t kind = byte() % 5;
-    int32_t carried = byte() % 8 ? (int32_t)byte() - 128 : (int32_t)word();
-    uint32_t out_degree = byte() % 140, in_degree = byte() % 140, sender = byte() % 140;
-    uint32_t refused = count(9, pickledune_step(&x.succeeding, &x.preceding, &x.subordinate, &x.cs, &x.num, &x.father, kind, carried,
-                                                out_degree, in_degree, sender, &probes, &to, &reply));
-    if (refused)
-        expect(memcmp(&x, &y, sizeof x) == 0 && probes == 0 && to == 0 && reply == 0, "a refused step changes nothing");
-    else
-        expect(x.num <= 256 && -128 <= x.cs && x.cs <= 128 && probes <= 2 && to <= 128, "a step in range");
+    int32_t carried = byte() % 8 ? draw_sum() : (int32_t)word(), second = byte() % 8 ? draw_sum() : (int32_t)word();
+    uint32_t out_degree = draw_below(140), in_degree = draw_below(140), sender = byte() % 140;
+    uint32_t refused = count(9, pickledune_step_process(&x, kind, carried, second, out_degree, in_degree, sender, &probes, &to, &reply,
+                                                        &reply_second));
+    if (refused) {
+        expect(memcmp(&x, &y, sizeof x) == 0, "a refused step changes nothing");
+        expect(probes == 0 && to == 0 && reply == 0 && reply_second == 0, "zeros with a refusal");
+        return;
+    }
+    expect(x.num <= 256 && in_range(x.cs) && probes <= 2 && to <= 128 && in_range(reply), "a step in range");
+    expect(in_range(x.second) && in_range(reply_second) && (to != 0 || reply_second == 0), "second numbers in range");
+    int32_t own = kind == PICKLEDUNE_SUC && y.succeeding == 0 && out_degree == 0, received = kind == PICKLEDUNE_ACK ? second : 0;
+    expect(x.second + reply_second == y.second + received + own, "second sums are passed on, and 1 is added once");
+    expect(to == 0 || x.second == (y.num != 0 && kind != PICKLEDUNE_ACK ? own : 0), "zeroed with cs");
 }
 
 int LLVMFuzzerTestOneInput(const uint8_t *data, size_t size)

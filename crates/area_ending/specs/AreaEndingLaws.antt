@@ -37,7 +37,7 @@ use Rattle.checks.specs.declared.Report.{Report}
 use Rattle.checks.specs.Run.{Run, IsEdition, knot, over, startRun}
 use Rattle.checks.specs.Calls.{pick, runOn, deliveryMade}
 use Rattle.checks.specs.AnswerLaws.{deliveryOf-accepted}
-use Rattle.checks.specs.Reach.{inKnot, outsiders, lowestOutsider, dOf}
+use Rattle.checks.specs.Reach.{inKnot, outsiders, lowestOutsider, allWait, dOf}
 use Rattle.checks.specs.Lists
 use Rattle.ending.specs.SpreadEndLaws.{dOf-most}
 use Rattle.ending.specs.EndingLaws.{ending-runs-out, ending-over}
@@ -92,7 +92,7 @@ module _ (bs : List ℕ) (s ed : ℕ) (w : List ℤ) (e : startNumber bs s ed w 
   -- the report of the words that the list left, if all D deliveries are made: one and the same for every order
   pub area-reports : list .made ≡ dOf waits s → reportAnswer (list .left)
       ≡ Report.Over (dOf waits s) (choose (inKnot waits s ed) Knot Free) (pos (outsiders waits s)) (lowestOutsider waits s)
-      (choose (inKnot waits s ed) Returned Held)
+      (choose (allWait waits s) Returned Held)
   area-reports z =
       let p = area-ending bs s ed w e cs in
       report-on (list .left) (p .right) ∙ p .promise .ended (p .promise .over-at-d .1 z) .reports

@@ -5,7 +5,7 @@
 --   headTest w        == which check, the start, the count, and zeros
 --   recordTest w p    == the record of p: values in range, father 0 or a neighbour, zeros in the free words
 --   counts w k, isFree w k, areFree w i e   == word k is a number of 0 or more; it is 0; the words from i up to e are 0
---   messageWord z     == z is the word of a message of the three kinds, with its count in range
+--   messageWord z     == z is the word of a message of the three kinds, with its counts in range
 --   linkTest s z w i  == the link at word i, of s slots and z words: messages of the three kinds with counts in range, then zeros
 --   arcTest w k       == the two links of arc k; zeros where it has no link back
 --   areaTests w       == all of these, with checks 4 to 7 on the copied table

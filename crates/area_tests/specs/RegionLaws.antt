@@ -153,13 +153,14 @@ record-as w p =
     words s (suc zero) u = refl
     words s (suc (suc zero)) u = s .0 .0 .1
     words s (suc (suc (suc zero))) u = s .0 .1
-    words s (suc (suc (suc (suc j)))) u = subst (λ (i : ℕ). word w i ≡ pos 0) (omega arith) (s .1 j (omega arith))
+    words s (suc (suc (suc (suc zero)))) u = refl
+    words s (suc (suc (suc (suc (suc j))))) u = subst (λ (i : ℕ). word w i ≡ pos 0) (omega arith) (s .1 j (omega arith))
 
     to : Said → RecordAs w p x
     to s = record { values = s .0 .0 .0 .0; words = words s }
 
     free : RecordAs w p x → (j : ℕ) → j < k + recordSize - (k + recordUsed) → word w (k + recordUsed + j) ≡ pos 0
-    free h j u = subst (λ (i : ℕ). word w i ≡ pos 0) (omega arith) (h .words (suc (suc (suc (suc j)))) (omega arith))
+    free h j u = subst (λ (i : ℕ). word w i ≡ pos 0) (omega arith) (h .words (suc (suc (suc (suc (suc j))))) (omega arith))
 
     from : RecordAs w p x → Said
     from h =

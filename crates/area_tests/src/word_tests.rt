@@ -1,9 +1,8 @@
 // Tests of words: what one word, a run of free words and one link may hold.
-use areas::places;
 use areas::words;
 ghost use mathlib.Core.Path.{_≡_};
 ghost use mathlib.Core.Bool.{true};
-ghost use Prim.Native.Nat.{_+_, _-_, _≤_, _<_};
+ghost use Prim.Native.Nat.{_+_, _-_, _≤_};
 ghost use lib.ListN.{length, getD};
 ghost use lib.IntN.{pos, natAbs};
 ghost use Rattle.base.specs.Sums.{allTo};
@@ -24,25 +23,14 @@ pub fn is_same(word: i32, other: i32) -> bool
     word == other
 }
 
-// The words of the acknowledgements whose count is in range.
-const FIRST_ACK: i32 = places::ACK_CODE + steps::LEAST_COUNT;
-
-const LAST_ACK: i32 = places::ACK_CODE + steps::MOST_COUNT;
-
-// A word that is not 0 is a message of the three kinds, with its count in range.
+// A word that is not 0 is a message of the three kinds, with its counts in range.
 fn is_message(word: i32) -> bool
     ensures { λ r. ⌜ r ≡ messageWord word ⌝ }
 {
-    if word == 1 {
-        return true;
-    }
-    if word == 2 {
-        return true;
-    }
-    if word < FIRST_ACK {
+    if !is_number(word) {
         return false;
     }
-    word <= LAST_ACK
+    steps::is_count_small(words::message_of(word))
 }
 
 // The words from `from` up to `to` are 0.

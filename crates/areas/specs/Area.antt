@@ -17,8 +17,8 @@ use Rattle.tables.specs.{Reading.sizesRight, Reading.fieldsNumber, Waits.waitsO
 use Rattle.steps.specs.declared.{Message.Message, Message.the-variants.Suc, Message.the-variants.Pre, Message.the-variants.Ack, Process.Process}
 use Rattle.steps.specs.Step.{idle}
 use Rattle.checks.specs.Run.{Run, mostWaiting, wellFormed}
-use Rattle.areas.specs.Places.{startPlace, countPlace, editionPlace, headSize, fieldPlace, flagsPlace, csPlace, numPlace, fatherPlace, recordSize}
-use Rattle.areas.specs.Places.{recordStart, linkSize, arcSize, linkStart, areaLength}
+use Rattle.areas.specs.Places.{startPlace, countPlace, editionPlace, headSize, fieldPlace, flagsPlace, csPlace, numPlace, fatherPlace}
+use Rattle.areas.specs.Places.{secondPlace, recordSize, countZero, countSize, recordStart, linkSize, arcSize, linkStart, areaLength}
 
 -- ---- where things stand
 
@@ -71,19 +71,24 @@ headWord r (suc (suc (suc (suc k)))) = pos 0
 unfoldable pub flagsOf : Process → ℕ
 flagsOf x = x .succeeding + 2 * x .preceding + 4 * x .subordinate
 
--- a record: flags, cs, num, father; the other words are kept free and hold 0
+-- a record: flags, cs, num, father, the second sum (02, N3); the other word is kept free and holds 0
 abbrev pub recordWord : Process → ℕ → ℤ
 recordWord x zero = pos (flagsOf x)
 recordWord x (suc zero) = x .cs
 recordWord x (suc (suc zero)) = pos (x .num)
 recordWord x (suc (suc (suc zero))) = pos (x .father)
-recordWord x (suc (suc (suc (suc k)))) = pos 0
+recordWord x (suc (suc (suc (suc zero)))) = x .second
+recordWord x (suc (suc (suc (suc (suc k))))) = pos 0
 
--- a message in one word: 1 a suc probe, 2 a pre probe, 256 + c an acknowledgement with count c
+-- a count, or a second count, as a number
+abbrev pub lifted : ℤ → ℕ
+lifted z = natAbs (pos countZero +ℤ z)
+
+-- a message in one word: 1 a suc probe, 2 a pre probe, 256 + c + 512 (256 + d) an acknowledgement with count c and second count d
 unfoldable pub codeOf : Message → ℤ
 codeOf Suc = pos 1
 codeOf Pre = pos 2
-codeOf (Ack c) = pos 256 +ℤ c
+codeOf (Ack c) = pos (lifted (c .count) + countSize * lifted (c .second))
 
 -- a link: a word for each message, oldest first, 0 past them; the words behind the slots are kept free and hold 0
 unfoldable pub slotWord : List Message → ℕ → ℤ
@@ -131,7 +136,7 @@ numberAt w k = natAbs (getD w k (pos 0))
 unfoldable pub fieldsIn : List ℤ → Fields
 fieldsIn w j = choose (ltb j (fieldTotal (numberAt w (fieldPlace 0)) (numberAt w (fieldPlace 1)))) (numberAt w (fieldPlace j)) 0
 
--- the record at word k: the three flags of one word, then cs, num and father
+-- the record at word k: the three flags of one word, then cs, num, father and the second sum
 abbrev pub recordAt : List ℤ → ℕ → Process
 recordAt w k =
     record {
@@ -141,11 +146,18 @@ recordAt w k =
       cs = getD w (k + csPlace) (pos 0);
       num = numberAt w (k + numPlace);
       father = numberAt w (k + fatherPlace);
+      second = getD w (k + secondPlace) (pos 0);
     }
+
+-- the count that stands as this number
+abbrev pub lowered : ℕ → ℤ
+lowered k = pos k -ℤ pos countZero
 
 -- the message of a word that is not 0
 unfoldable pub messageOf : ℤ → Message
-messageOf z = choose (eqb (natAbs z) 1) Suc (choose (eqb (natAbs z) 2) Pre (Ack (z -ℤ pos 256)))
+messageOf z =
+    let k : ℕ = natAbs z in
+    choose (eqb k 1) Suc (choose (eqb k 2) Pre (Ack (record { count = lowered (k % countSize); second = lowered (k / countSize) })))
 
 -- the messages of up to k words from word i on, up to the first 0
 unfoldable pub messagesAt : List ℤ → ℕ → ℕ → List Message

@@ -1,18 +1,18 @@
 -- Laws of the words of a link and the messages in them.
 --   messageOf-suc, messageOf-pre, messageOf-ack   == which message a word holds
---   codeOf-ack            == the word of an acknowledgement is read back
+--   codeOf-messageOf      == a word of 0 or more is that of the message that it holds
 --   messagesAt-stop, messagesAt-more   == the messages from a word on, where it is 0 and where it is not
 --   messagesAt-at, messagesAt-length   == each message is that of its word, and there are at most as many as words
 --   slotWord-at, linkWord-slots, countsSmall-at, countsSmall-of   == the words of a link, and its counts, one by one
 -- Assumes nothing.
-use Prim.Native.Nat.{ℕ, zero, suc, _+_, _≤_, _<_}
+use Prim.Native.Nat.{ℕ, zero, suc, _+_, _*_, _/_, _%_, _≤_, _<_}
 use mathlib.Core.Bool.{true}
 use mathlib.Core.List.{List, [], _∷_}
-use mathlib.Core.Path.{_≡_, refl, sym, _∙_}
+use mathlib.Core.Path.{_≡_, refl, sym, ap, _∙_}
 use native.Mathlib.Nat.{add-zero, le-of-suc-le-suc}
 use native.Mathlib.Omega.{arith}
 use borrow.Author.Tests.{eq-eqb, ne-eqb}
-use lib.IntN.{ℤ, pos, natAbs, _-ℤ_, +ℤ-comm, -ℤ-+ℤ-cancel}
+use lib.IntN.{ℤ, pos, natAbs}
 use lib.ListN.{length, getD}
 use Rattle.machine.specs.Machine as Machines
 use Rattle.base.specs.ChoiceLaws.{same?, below?, and-left, and-right, and-both}
@@ -22,8 +22,9 @@ use Rattle.steps.specs.declared.Message.the-variants.{Suc, Pre, Ack}
 use Rattle.steps.specs.Step.{countSmall}
 use Rattle.checks.specs.Run.{countsSmall}
 use Rattle.areas.specs.Used.{linkSlots}
-use Rattle.areas.specs.Area.{codeOf, slotWord, linkWord, numberAt, messageOf, messagesAt}
-use Rattle.areas.specs.CodeLaws.{linkWord-slot, linkWord-free, slotWord-past}
+use Rattle.areas.specs.Places.{countSize}
+use Rattle.areas.specs.Area.{codeOf, slotWord, linkWord, numberAt, lowered, messageOf, messagesAt}
+use Rattle.areas.specs.CodeLaws.{lifted-lowered, linkWord-slot, linkWord-free, slotWord-past}
 
 -- ---- messageOf and codeOf
 
@@ -35,13 +36,25 @@ pub messageOf-pre : (z : ℤ) → natAbs z ≡ 2 → messageOf z ≡ Pre
 unfolding messageOf
 messageOf-pre z e = rw (ne-eqb (natAbs z) 1 (λ o. absurd (omega arith)), eq-eqb (natAbs z) 2 e)
 
-pub messageOf-ack : (z : ℤ) → (natAbs z ≡ 1 → ⊥) → (natAbs z ≡ 2 → ⊥) → messageOf z ≡ Ack (z -ℤ pos 256)
+pub messageOf-ack : (z : ℤ) → (natAbs z ≡ 1 → ⊥) → (natAbs z ≡ 2 → ⊥) → messageOf z
+    ≡ Ack (record { count = lowered (natAbs z % countSize); second = lowered (natAbs z / countSize) })
 unfolding messageOf
 messageOf-ack z p q = rw (ne-eqb (natAbs z) 1 p, ne-eqb (natAbs z) 2 q)
 
-pub codeOf-ack : (z : ℤ) → codeOf (Ack (z -ℤ pos 256)) ≡ z
+pub codeOf-messageOf : (z : ℤ) → codeOf (messageOf z) ≡ pos (natAbs z)
 unfolding codeOf
-codeOf-ack z = +ℤ-comm (pos 256) (z -ℤ pos 256) ∙ -ℤ-+ℤ-cancel z (pos 256)
+codeOf-messageOf z = at (same? (natAbs z) 1) (same? (natAbs z) 2)
+  where
+    k : ℕ
+    k = natAbs z
+
+    whole : k % countSize + countSize * (k / countSize) ≡ k
+    whole = omega arith
+
+    at : Same (natAbs z) 1 → Same (natAbs z) 2 → codeOf (messageOf z) ≡ pos (natAbs z)
+    at (same e _) _ = rw (messageOf-suc z e, e)
+    at (apart p _) (same e _) = rw (messageOf-pre z e, e)
+    at (apart p _) (apart q _) = rw (messageOf-ack z p q, lifted-lowered (k % countSize), lifted-lowered (k / countSize)) (ap pos whole)
 
 -- ---- messagesAt
 

@@ -1,7 +1,8 @@
 -- The numbers of the area's layout (docs/LAYOUT.md): where its parts begin and how many words they have, for code in src/places.rt too.
 --   startPlace, countPlace, editionPlace   == the words of the start, of the accepted deliveries and of the edition
 --   headSize                  == how many words stand before the table
---   flagsPlace, csPlace, numPlace, fatherPlace   == the words of a process's record, counted from its first
+--   flagsPlace, csPlace, numPlace, fatherPlace, secondPlace   == the words of a process's record, counted from its first
+--   countZero, countSize      == what is added to each count of an acknowledgement, and how often the second is taken, in its one word
 --   recordSize                == how many words a process's record has
 --   linkSize                  == how many words a link has; the first mostWaiting (checks, Run) hold its messages
 --   arcSize                   == the words of an arc's two links
@@ -46,6 +47,10 @@ numPlace = 2
 abbrev pub fatherPlace : ℕ
 fatherPlace = 3
 
+-- the second sum (02, N3)
+abbrev pub secondPlace : ℕ
+secondPlace = 4
+
 abbrev pub recordSize : ℕ
 recordSize = 6
 
@@ -62,6 +67,14 @@ arcSize = linkSize + linkSize
 
 abbrev pub linkStart : ℕ → ℕ → ℕ → ℕ
 linkStart n m k = headSize + fieldTotal n m + recordSize * n + arcSize * (k - 1)
+
+-- ---- an acknowledgement in one word: each count and 256, the second 512 times
+
+abbrev pub countZero : ℕ
+countZero = 256
+
+abbrev pub countSize : ℕ
+countSize = 512
 
 -- ---- the whole: "start needs 8N + 20M + 16"
 

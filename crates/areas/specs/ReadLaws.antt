@@ -28,7 +28,7 @@ use Rattle.steps.specs.Effect.{RecordInRange}
 use Rattle.steps.specs.StepLaws.{inRange-P}
 use Rattle.checks.specs.Run.{Run, knot, countsSmall, wellFormed}
 use Rattle.checks.specs.RunLaws.{formed-range}
-use Rattle.areas.specs.Places.{startPlace, countPlace, editionPlace, fieldPlace, flagsPlace, csPlace, numPlace, fatherPlace}
+use Rattle.areas.specs.Places.{startPlace, countPlace, editionPlace, fieldPlace, flagsPlace, csPlace, numPlace, fatherPlace, secondPlace}
 use Rattle.areas.specs.Used.{linkSlots}
 use Rattle.areas.specs.Used.{recordUsed}
 use Rattle.areas.specs.Area.{fieldTotalOf, recordPlace, linkOf, flagsOf, recordWord, codeOf, slotWord, linkWord, stored, numberAt}
@@ -104,7 +104,8 @@ recordAt-of w k x g h =
     let c : getD w (k + csPlace) (pos 0) ≡ x .cs = h csPlace (omega arith) in
     let n : numberAt w (k + numPlace) ≡ x .num = ap natAbs (h numPlace (omega arith)) in
     let d : numberAt w (k + fatherPlace) ≡ x .father = ap natAbs (h fatherPlace (omega arith)) in
-    λ i. record { succeeding = s i; preceding = p i; subordinate = u i; cs = c i; num = n i; father = d i }
+    let e : getD w (k + secondPlace) (pos 0) ≡ x .second = h secondPlace (omega arith) in
+    λ i. record { succeeding = s i; preceding = p i; subordinate = u i; cs = c i; num = n i; father = d i; second = e i }
 
 -- ---- a link is read back
 

@@ -112,7 +112,8 @@ recordWord-free x zero h = absurd (omega arith)
 recordWord-free x (suc zero) h = absurd (omega arith)
 recordWord-free x (suc (suc zero)) h = absurd (omega arith)
 recordWord-free x (suc (suc (suc zero))) h = absurd (omega arith)
-recordWord-free x (suc (suc (suc (suc j)))) h = refl
+recordWord-free x (suc (suc (suc (suc zero)))) h = absurd (omega arith)
+recordWord-free x (suc (suc (suc (suc (suc j))))) h = refl
 
 arcWord-process : (t : Fields) (r : Run) (p : ℕ) (x : Process) (a j : ℕ) → arcWord t (putProcess r p x) a j ≡ arcWord t r a j
 unfolding putProcess arcWord

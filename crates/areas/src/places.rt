@@ -35,7 +35,9 @@ pub const NUM: usize = 2;
 
 pub const FATHER: usize = 3;
 
-pub const RECORD_USED: usize = FATHER + 1;
+pub const SECOND: usize = 4;
+
+pub const RECORD_USED: usize = SECOND + 1;
 
 pub const RECORD_SIZE: usize = 6;
 
@@ -46,8 +48,10 @@ pub const LINK_SIZE: usize = 8;
 
 pub const ARC_SIZE: usize = LINK_SIZE + LINK_SIZE;
 
-// The word of an acknowledgement is so much more than its count.
-pub const ACK_CODE: i32 = 256;
+// In the word of an acknowledgement each of its two counts stands as a number that is so much more, the second one so many times.
+pub const COUNT_ZERO: i32 = 256;
+
+pub const COUNT_SIZE: u32 = 512;
 
 // The bytes of the largest table.
 pub const MOST_BYTES: usize = 2 * (2 + 2 * tables::MOST_PROCESSES + 4 * tables::MOST_ARCS);

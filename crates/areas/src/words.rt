@@ -2,16 +2,17 @@
 use crate::places;
 use steps::Message;
 use steps::Process;
+use steps::TwoCounts;
 ghost use mathlib.Core.Path.{_≡_};
 ghost use mathlib.Core.Bool.{true};
-ghost use Prim.Native.Nat.{_+_, _-_, _≤_, _<_};
+ghost use Prim.Native.Nat.{_+_, _-_, _^_, _≤_, _<_};
 ghost use lib.ListN.{length, set};
 ghost use lib.Seq.{sets};
 ghost use lib.IntN.{natAbs};
 ghost use Rattle.tables.specs.Table.{mostProcesses};
-ghost use Rattle.steps.specs.Step.{inRange, countSmall};
+ghost use Rattle.steps.specs.Step.{small, inRange, countSmall};
 ghost use Rattle.areas.specs.Used.{recordUsed};
-ghost use Rattle.areas.specs.Area.{recordWord, codeOf, recordAt, messageOf, messagesAt};
+ghost use Rattle.areas.specs.Area.{recordWord, lifted, codeOf, recordAt, lowered, messageOf, messagesAt};
 ghost use Rattle.areas.specs.Writes.{recordWords, movedDown};
 
 // A word as a number, without its sign.
@@ -25,21 +26,39 @@ pub fn number(word: i32) -> u32
     }
 }
 
-// The message of a word that is not 0.
-pub fn message_of(word: i32) -> Message
-    requires { ⌜ natAbs word ≤ 65535 ⌝ }
-    ensures { λ r. ⌜ r ≡ messageOf word ⌝ }
+// A count as a number.
+fn lifted(count: i32) -> u32
+    requires { ⌜ small count ≡ true ⌝ }
+    ensures { λ r. ⌜ r ≡ lifted count ⌝ }
 {
-    if number(word) == 1 {
-        return Message::Suc;
-    }
-    if number(word) == 2 {
-        return Message::Pre;
-    }
-    Message::Ack(word - places::ACK_CODE)
+    number(places::COUNT_ZERO + count)
 }
 
-// The word of a message whose count is in range.
+// The count that stands as this number.
+fn lowered(code: u32) -> i32
+    requires { ⌜ code < 2 ^ 31 ⌝ }
+    ensures { λ r. ⌜ r ≡ lowered code ⌝ }
+{
+    code as i32 - places::COUNT_ZERO
+}
+
+// The message of a word that is not 0.
+pub fn message_of(word: i32) -> Message
+    ensures { λ r. ⌜ r ≡ messageOf word ⌝ }
+{
+    let code = number(word);
+    if code == 1 {
+        return Message::Suc;
+    }
+    if code == 2 {
+        return Message::Pre;
+    }
+    let count = lowered(code % places::COUNT_SIZE);
+    let second = lowered(code / places::COUNT_SIZE);
+    Message::Ack(TwoCounts { count, second })
+}
+
+// The word of a message whose counts are in range.
 pub fn code_of(message: Message) -> i32
     requires { ⌜ countSmall message ≡ true ⌝ }
     ensures { λ r. ⌜ r ≡ codeOf message ⌝ }
@@ -47,7 +66,9 @@ pub fn code_of(message: Message) -> i32
     match message {
         Message::Suc => 1,
         Message::Pre => 2,
-        Message::Ack(count) => places::ACK_CODE + count,
+        Message::Ack(counts) => {
+            (lifted(counts.count) + places::COUNT_SIZE * lifted(counts.second)) as i32
+        }
     }
 }
 
@@ -79,6 +100,7 @@ pub fn record_at(area: &[i32], k: usize) -> Process
         cs: area[k + places::CS],
         num: number(area[k + places::NUM]),
         father: number(area[k + places::FATHER]),
+        second: area[k + places::SECOND],
     }
 }
 
@@ -101,10 +123,12 @@ pub fn put_record(area: &mut [i32], k: usize, x: Process)
     let cs = x.cs;
     let num = x.num as i32;
     let father = x.father as i32;
+    let second = x.second;
     area[k + places::FLAGS] = flags;
     area[k + places::CS] = cs;
     area[k + places::NUM] = num;
     area[k + places::FATHER] = father;
+    area[k + places::SECOND] = second;
 }
 
 // Takes out the word at i: the words behind it, up to `end`, move down by one, and the last becomes 0.

@@ -3,17 +3,15 @@
 --   deliveryOf-refused, deliveryOf-delivered   == what an answer of the code says of the machine's
 --   deliveryOf-number, deliveryOf-accepted     == the same number, and the same count of accepted picks
 --   isZero-yes, isZero-no                      == the test of a sum
---   markOf-chosen                              == the mark of a verdict that goes by a test
 --   escapeOf-P                                 == the lowest process with subordinate 1, or 0 and none has it
 --   pick-21, runOn-21, report-21, readRecord-21   == 21 comes first
 -- Assumes nothing.
 use Prim.Native.Nat.{ℕ, zero, suc}
-use mathlib.Core.Bool.{Bool, true, false}
+use mathlib.Core.Bool.{true, false}
 use mathlib.Core.Path.{_≡_, refl, ap}
 use borrow.Author.Tests.{eqb-true, eq-eqb}
 use native.Mathlib.Omega.{arith}
 use lib.IntN.{ℤ, pos, negsuc}
-use Rattle.base.specs.Choice.{choose}
 use Rattle.base.specs.Sums.{Lowest}
 use Rattle.base.specs.SumLaws.{lowestTo-P}
 use Rattle.machine.specs.declared.Ran.{Ran}
@@ -23,12 +21,10 @@ use Rattle.machine.specs.Lists.{acceptedPick, answerNumber}
 use Rattle.steps.specs.declared.Message.{Message}
 use Rattle.checks.specs.declared.Delivery.{Delivery}
 use Rattle.checks.specs.declared.Delivery.the-variants.{Delivered}
-use Rattle.checks.specs.declared.Verdict.the-variants.{Knot, Free}
-use Rattle.checks.specs.declared.Mark.the-variants.{Returned, Held}
 use Rattle.checks.specs.declared.Report.{Report}
 use Rattle.checks.specs.declared.Reading.{Reading}
 use Rattle.checks.specs.Run.{Run, wellFormed}
-use Rattle.checks.specs.Calls.{refused, deliveryOf, pick, runOn, escapeOf, isZero, markOf, report, readRecord, deliveryNumber, deliveryMade}
+use Rattle.checks.specs.Calls.{refused, deliveryOf, pick, runOn, escapeOf, isZero, report, readRecord, deliveryNumber, deliveryMade}
 
 pub deliveryOf-refused : (x : Answer Message) {n : ℕ} → deliveryOf x ≡ Delivery.Refused n → x ≡ refusal n
 deliveryOf-refused (refusal k) {n} e = let f : k ≡ n = cc in ap refusal f
@@ -54,11 +50,6 @@ pub isZero-no : (z : ℤ) → (z ≡ pos 0 → ⊥) → isZero z ≡ false
 isZero-no (pos zero) h = absurd (h refl)
 isZero-no (pos (suc n)) h = refl
 isZero-no (negsuc n) h = refl
-
--- "mark returned if the verdict is knot, else held"
-pub markOf-chosen : (b : Bool) → markOf (choose b Knot Free) ≡ choose b Returned Held
-markOf-chosen true = refl
-markOf-chosen false = refl
 
 -- 02, N1, without a test: whom a report names
 pub escapeOf-P : (r : Run) → Lowest (λ p. r .process p .subordinate ≡ 1) (r .waits .n) (escapeOf r)

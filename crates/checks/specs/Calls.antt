@@ -1,10 +1,11 @@
--- What each call of a knot check does and answers (01, "Steps" and "Refused because of the state"; 02, N1, N4 and N5). Picks and running on
+-- What each call of a knot check does and answers (01, "Steps" and "Refused because of the state"; 02, N1, N3, N4 and N5). Picks and running on
 -- are the machine's (crate machine, Calls), by the knot check's rules.
 --   Picked             == an answer and the run that a delivery leaves
 --   pick r a b k       == a pick of place k checks 21, 25, 23, 24, 31, 22
 --   runOn k r          == "Running on checks 21 first, then over, then spent, then 24, 22.", in the fixed order
 --   isSubordinate x, escapeOf r   == "escape is the lowest-numbered process with subordinate 1, and 0 only where there is none" (02, N1)
---   isZero z, verdictOf r, markOf v   == whether a sum is 0; the verdict, by the edition named at start (02, N4); its mark
+--   isZero z, verdictOf r   == whether a sum is 0; the verdict, by the edition named at start (02, N4)
+--   markOf x           == the mark, by the record x of the start (02, N3)
 --   report r           == "The report checks 21, 26"
 --   readRecord r p     == "reading one process's record checks 21, 25"
 --   deliveryNumber, deliveryMade, reportNumber, readingNumber   == for each case of an answer 01's number
@@ -91,14 +92,13 @@ isZero (negsuc n) = false
 unfoldable pub verdictOf : Run → Verdict
 verdictOf r = choose (isZero (r .process (r .start) .cs) && editionAllows (r .waits) (r .start) (r .edition)) Knot Free
 
--- "mark returned if the verdict is knot, else held"
-abbrev pub markOf : Verdict → Mark
-markOf Knot = Returned
-markOf Free = Held
+-- 02, N3: "The report marks returned if the start's second sum is 0, else held."
+abbrev pub markOf : Process → Mark
+markOf x = choose (isZero (x .second)) Returned Held
 
 -- "over count; verdict ..; outside = cs of s; escape ..; mark .."
 unfoldable pub reported : Run → Report
-reported r = Report.Over (r .count) (verdictOf r) (r .process (r .start) .cs) (escapeOf r) (markOf (verdictOf r))
+reported r = Report.Over (r .count) (verdictOf r) (r .process (r .start) .cs) (escapeOf r) (markOf (r .process (r .start)))
 
 -- "The report checks 21, 26"
 unfoldable pub report : Run → Report

@@ -24,7 +24,7 @@ use Rattle.checks.specs.declared.Mark.the-variants.{Returned, Held}
 use Rattle.checks.specs.declared.Report.{Report}
 use Rattle.checks.specs.Run.{Run, mostWaiting, knot, over}
 use Rattle.checks.specs.Calls.{report, readRecord, reportNumber, readingNumber}
-use Rattle.checks.specs.Reach.{reaches, inKnot, outsider, outsiders, lowestOutsider, dOf}
+use Rattle.checks.specs.Reach.{reaches, inKnot, outsider, outsiders, lowestOutsider, allWait, sinks, dOf}
 
 -- the numbers of the two calls that leave the run as it is
 abbrev pub asked : Reads Process Message
@@ -34,24 +34,27 @@ asked = record { report = λ r. reportNumber (report r); reading = λ r p. readi
 abbrev pub passed : List Call → Run → Passed Run
 passed = inTurn (passedBy knot fixedOrder asked)
 
--- "as outside the number of those that do not", at the start alone
-unfoldable pub endSum : Waits → ℕ → ℕ → ℕ
-endSum w s p = choose (eqb p s) (outsiders w s) 0
+-- "0, but the start's": a sum that is v at the start alone
+unfoldable pub atStart : ℕ → ℕ → ℕ → ℕ
+atStart s v p = choose (eqb p s) v 0
 
 -- what is said of a run that is over
 pub record Ended (w : Waits) (s ed : ℕ) (r : Run) : Type 0 where
   -- "When it is over none waits"
   pub none-waits : (a b : ℕ) → IsProcess (w .n) a → IsProcess (w .n) b → r .link a b ≡ []
   -- "a report gives D, knot exactly if .., as outside the number of those that do not"; as escape the lowest of them, 0 if none (02, N1);
-  -- "Verdicts are judged by the edition named at start" (02, N4)
+  -- "Verdicts are judged by the edition named at start" (02, N4); "returned exactly if every process reachable from the start, itself
+  -- included, waits for somebody" (02, N3)
   pub reports : report r
-      ≡ Report.Over (dOf w s) (choose (inKnot w s ed) Knot Free) (pos (outsiders w s)) (lowestOutsider w s) (choose (inKnot w s ed) Returned Held)
+      ≡ Report.Over (dOf w s) (choose (inKnot w s ed) Knot Free) (pos (outsiders w s)) (lowestOutsider w s) (choose (allWait w s) Returned Held)
   -- "Each process then has .."
   pub succeeding : (p : ℕ) → IsProcess (w .n) p → r .process p .succeeding ≡ bit (reaches w s p)
   pub preceding : (p : ℕ) → IsProcess (w .n) p → r .process p .preceding ≡ bit (reaches w p s)
   pub subordinate : (p : ℕ) → IsProcess (w .n) p → r .process p .subordinate ≡ bit (outsider w s p)
   pub num : (p : ℕ) → IsProcess (w .n) p → r .process p .num ≡ 0
-  pub cs : (p : ℕ) → IsProcess (w .n) p → r .process p .cs ≡ pos (endSum w s p)
+  pub cs : (p : ℕ) → IsProcess (w .n) p → r .process p .cs ≡ pos (atStart s (outsiders w s) p)
+  -- 02, N3: "0 everywhere but at the start, which has the number of such processes"
+  pub second : (p : ℕ) → IsProcess (w .n) p → r .process p .second ≡ pos (atStart s (sinks w s) p)
 
 -- "After every list, the empty one too, .."
 pub record Promise (w : Waits) (s ed : ℕ) (p : Passed Run) : Type 0 where

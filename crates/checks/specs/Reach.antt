@@ -1,4 +1,5 @@
--- Who reaches whom, what a knot is under each edition, and the number D (01, "Steps" and "The end of a check"; 02, N4).
+-- Who reaches whom, what a knot is under each edition, who waits for nobody, and the number D (01, "Steps" and "The end of a check"; 02,
+-- N3 and N4).
 --   Reaches w p q      == "p *reaches* q .. if q is p or arcs lead from p to q, each beginning where the one before it ended" (01's term)
 --   reaches w p q      == the same as a test: the closure of the waits, grown N times
 --   ReachesByArcs w p q, reachesByArcs w p q   == q is "reachable by one arc or more" (02, N4) from p, and the test of it
@@ -8,6 +9,9 @@
 --   inKnot w s ed      == "knot exactly if all processes reachable from the start reach it", by edition
 --   outsiders w s      == "the number of those that do not"
 --   lowestOutsider w s == the lowest of those, 0 if there is none: the escape of 02, N1, at the end of a check
+--   WaitsForSome w p, waitsForSome w p   == p waits for somebody, and the test of it
+--   allWait w s        == "every process reachable from the start, itself included, waits for somebody" (02, N3)
+--   sink w s p, sinks w s   == p is one of the "reachable processes that wait for nobody" (02, N3); their number
 --   dOf w s            == "D is twice the number of arcs whose from is reachable from the start plus twice the number whose to reaches it"
 -- The law that ties the test to the relation is reaches-P, in ReachLaws. Assumes nothing.
 use Prim.Native.Nat.{ℕ, zero, suc, _+_, _*_}
@@ -70,6 +74,25 @@ outsiders w s = countTo (w .n) (outsider w s)
 -- 02, N1: the lowest-numbered of them, "and 0 only where there is none"
 unfoldable pub lowestOutsider : Waits → ℕ → ℕ
 lowestOutsider w s = lowestTo (w .n) (outsider w s)
+
+-- to wait for somebody, be it for oneself
+pub record WaitsForSome (w : Waits) (p : ℕ) : Type 0 where
+  pub process : ℕ
+  pub waits : w .waits p process ≡ true
+
+unfoldable pub waitsForSome : Waits → ℕ → Bool
+waitsForSome w p = anyTo (w .n) (λ q. w .waits p q)
+
+-- 02, N3: "every process reachable from the start, itself included, waits for somebody"
+unfoldable pub allWait : Waits → ℕ → Bool
+allWait w s = allTo (w .n) (λ p. not (reaches w s p) || waitsForSome w p)
+
+-- 02, N3: "reachable processes that wait for nobody" (sinks, in the words of graphs), and "the number of such processes"
+unfoldable pub sink : Waits → ℕ → ℕ → Bool
+sink w s p = reaches w s p && not (waitsForSome w p)
+
+unfoldable pub sinks : Waits → ℕ → ℕ
+sinks w s = countTo (w .n) (sink w s)
 
 -- "D is twice the number of arcs whose from is reachable from the start plus twice the number whose to reaches it."
 unfoldable pub dOf : Waits → ℕ → ℕ

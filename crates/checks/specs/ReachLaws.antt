@@ -3,7 +3,8 @@
 --   reaches-forward, reaches-backward   == what passes along every wait (or back along it) passes along a path
 --   reaches-trans       == paths join
 --   reaches-P           == the test and the relation agree; so with reachesByArcs-P, someByArcs-P, allReachBack-P, inKnot-P, outsider-P,
---                          outsiders-P, lowestOutsider-P, each named after its test
+--                          outsiders-P, lowestOutsider-P, waitsForSome-P, allWait-P, sinks-P, each named after its test
+--   waitsForSome-degree, waitsForSome-own   == who waits for somebody has successors, and no count of his own (02, N3)
 --   someByArcs-waits    == some process is reachable by one arc or more exactly if the start waits for somebody
 --   reaches-in          == whoever is reached from a process is a process
 -- Assumes nothing.
@@ -17,16 +18,17 @@ use lib.Dec.{eqb}
 use Rattle.base.specs.Choice.{bit}
 use Rattle.base.specs.ChoiceLaws.{bit-≤1, bit-some, tested, same?, and-left, and-right, and-both, or-cases, or-left, or-right}
 use Rattle.base.specs.Checks.{Tested, passed, failed, Same, same, apart}
-use Rattle.base.specs.Sums.{sumTo, countTo, anyTo, spot, HowMany, Lowest}
+use Rattle.base.specs.Sums.{sumTo, countTo, allTo, anyTo, spot, HowMany, Lowest}
 use Rattle.base.specs.SumLaws.{spot-at, spot-off, sumTo-add, sumTo-le, sumTo-part, sumTo-spot, sumTo-most, allTo-at, allTo-of, anyTo-of}
-use Rattle.base.specs.Sums.{Found, Part}
+use Rattle.base.specs.Sums.{Found}
 use Rattle.base.specs.SumLaws.{anyTo-found, sumTo-some, countTo-P, lowestTo-P}
 use Rattle.tables.specs.Waits.{Waits, outDegree}
 use Rattle.tables.specs.Sound.{Sound}
 use Rattle.tables.specs.Table.{IsProcess}
+use Rattle.steps.specs.Step.{ownCount}
 use Rattle.checks.specs.Reach.{Reaches, here, along, within, reaches, ReachesByArcs, onward, reachesByArcs, SomeByArcs, someByArcs, allReachBack}
-use Rattle.checks.specs.Reach.{editionAllows, inKnot, outsider, outsiders, lowestOutsider}
-use Rattle.checks.specs.InWords.{Outside}
+use Rattle.checks.specs.Reach.{editionAllows, inKnot, outsider, outsiders, lowestOutsider, WaitsForSome, waitsForSome, allWait, sink, sinks}
+use Rattle.checks.specs.InWords.{Outside, Sink}
 
 -- both ends of a wait are processes
 pub from-in : {w : Waits} → Sound w → (a b : ℕ) → w .waits a b ≡ true → IsProcess (w .n) a
@@ -188,24 +190,72 @@ reachesByArcs-P w ok p r = (
         anyTo-of (w .n) (λ q. w .waits p q && reaches w q r) q (i .0) (i .1)
         (and-both (w .waits p q) (reaches w q r) e (reaches-P w ok q r i .1 t))
 
+-- to wait for somebody
+pub waitsForSome-P : (w : Waits) → Sound w → (p : ℕ) → (waitsForSome w p ≡ true) ↔ WaitsForSome w p
+unfolding waitsForSome
+waitsForSome-P w ok p = (
+  λ e. let f = anyTo-found (w .n) (λ q. w .waits p q) e in record { process = f .at; waits = f .passes },
+  λ h. let i = to-in ok p (h .process) (h .waits) in anyTo-of (w .n) (λ q. w .waits p q) (h .process) (i .0) (i .1) (h .waits),
+)
+
+pub waitsForSome-degree : (w : Waits) (p : ℕ) → (waitsForSome w p ≡ true) ↔ (1 ≤ outDegree w p)
+unfolding waitsForSome outDegree countTo
+waitsForSome-degree w p = (
+  λ e. let f = anyTo-found (w .n) (λ q. w .waits p q) e in
+      omega (arith, sumTo-part (w .n) (λ q. bit (w .waits p q)) (f .at) (f .low) (f .high), ap bit (f .passes)),
+  λ h. let x = sumTo-some (w .n) (λ q. bit (w .waits p q)) h in
+      anyTo-of (w .n) (λ q. w .waits p q) (x .at) (x .low) (x .high) (bit-some (w .waits p (x .at)) (x .some)),
+)
+
+-- 02, N3: who waits for nobody adds 1
+pub waitsForSome-own : (w : Waits) (p : ℕ) → ownCount (outDegree w p) ≡ bit (not (waitsForSome w p))
+unfolding ownCount
+waitsForSome-own w p = at (tested (waitsForSome w p)) (same? (outDegree w p) 0)
+  where
+    at : Tested (waitsForSome w p) → Same (outDegree w p) 0 → bit (eqb (outDegree w p) 0) ≡ bit (not (waitsForSome w p))
+    at (passed e) (same z f) = absurd (omega (arith, waitsForSome-degree w p .0 e, z))
+    at (passed e) (apart z f) = rw (e, f)
+    at (failed e) (same z f) = rw (e, f)
+    at (failed e) (apart z f) = absurd (false≢true (sym e ∙ waitsForSome-degree w p .1 (omega arith)))
+
 module _ (w : Waits) (ok : Sound w) (s : ℕ) (sIn : IsProcess (w .n) s) where
   -- whoever is reached from a process is a process
   pub reaches-in : {p : ℕ} → Reaches w s p → IsProcess (w .n) p
   reaches-in t = reaches-forward (λ x. IsProcess (w .n) x) (λ a b e _. to-in ok a b e) t sIn
 
+  -- a test f, and what it tells, of the processes reachable from s
+  module _ (f : ℕ → Bool) (F : ℕ → Type 0) (f-P : (p : ℕ) → IsProcess (w .n) p → (f p ≡ true) ↔ F p) where
+    -- all of them have it
+    reached-all : (allTo (w .n) (λ p. not (reaches w s p) || f p) ≡ true) ↔ ((p : ℕ) → Reaches w s p → F p)
+    reached-all = (
+      λ e p t. let i = reaches-in t in back p i (allTo-at (w .n) (λ q. not (reaches w s q) || f q) e p (i .0) (i .1)) t,
+      λ h. allTo-of (w .n) (λ q. not (reaches w s q) || f q) (λ p l u. test p (l, u) h (tested (reaches w s p))),
+    )
+      where
+        back : (p : ℕ) → IsProcess (w .n) p → (not (reaches w s p) || f p) ≡ true → Reaches w s p → F p
+        back p i e t = f-P p i .0 (rw (reaches-P w ok s p sIn .1 t) at e)
+
+        test : (p : ℕ) → IsProcess (w .n) p → ((q : ℕ) → Reaches w s q → F q) → Tested (reaches w s p) → (not (reaches w s p) || f p) ≡ true
+        test p i h (passed e) = rw e (f-P p i .1 (h p (reaches-P w ok s p sIn .0 e)))
+        test p i h (failed e) = rw e
+
+    -- one of them has it not
+    reached-not : (p : ℕ) → IsProcess (w .n) p → ((reaches w s p && not (f p)) ≡ true) ↔ (Reaches w s p × (F p → ⊥))
+    reached-not p i = (
+      λ e. (
+        reaches-P w ok s p sIn .0 (and-left (reaches w s p) (not (f p)) e),
+        λ t. false≢true (sym (not-true (f p) (and-right (reaches w s p) (not (f p)) e)) ∙ f-P p i .1 t),
+      ),
+      λ h. test h (tested (f p)),
+    )
+      where
+        test : Reaches w s p × (F p → ⊥) → Tested (f p) → (reaches w s p && not (f p)) ≡ true
+        test h (passed e) = absurd (h .1 (f-P p i .0 e))
+        test h (failed e) = rw (e, reaches-P w ok s p sIn .1 (h .0))
+
   pub allReachBack-P : (allReachBack w s ≡ true) ↔ ((p : ℕ) → Reaches w s p → Reaches w p s)
   unfolding allReachBack
-  allReachBack-P = (
-    λ e p t. let i = reaches-in t in back p i (allTo-at (w .n) (λ q. not (reaches w s q) || reaches w q s) e p (i .0) (i .1)) t,
-    λ h. allTo-of (w .n) (λ q. not (reaches w s q) || reaches w q s) (λ p l u. test p (l, u) h (tested (reaches w s p))),
-  )
-    where
-      back : (p : ℕ) → IsProcess (w .n) p → (not (reaches w s p) || reaches w p s) ≡ true → Reaches w s p → Reaches w p s
-      back p i e t = reaches-P w ok p s i .0 (rw (reaches-P w ok s p sIn .1 t) at e)
-
-      test : (p : ℕ) → IsProcess (w .n) p → ((q : ℕ) → Reaches w s q → Reaches w q s) → Tested (reaches w s p) → (not (reaches w s p) || reaches w p s) ≡ true
-      test p i h (passed e) = rw e (reaches-P w ok p s i .1 (h p (reaches-P w ok s p sIn .0 e)))
-      test p i h (failed e) = rw e
+  allReachBack-P = reached-all (λ p. reaches w p s) (λ p. Reaches w p s) (λ p i. reaches-P w ok p s i)
 
   pub someByArcs-P : (someByArcs w s ≡ true) ↔ SomeByArcs w s
   unfolding someByArcs
@@ -222,19 +272,16 @@ module _ (w : Waits) (ok : Sound w) (s : ℕ) (sIn : IsProcess (w .n) s) where
 
   -- 02, N4: the second edition asks in addition that the start waits for somebody
   pub someByArcs-waits : (someByArcs w s ≡ true) ↔ (1 ≤ outDegree w s)
-  unfolding outDegree countTo
   someByArcs-waits = (
-    λ e. some (someByArcs-P .0 e .reached),
-    λ h. by (sumTo-some (w .n) (λ q. bit (w .waits s q)) h),
+    λ e. waitsForSome-degree w s .0 (waitsForSome-P w ok s .1 (some (someByArcs-P .0 e .reached))),
+    λ h. by (waitsForSome-P w ok s .0 (waitsForSome-degree w s .1 h)),
   )
     where
-      some : {r : ℕ} → ReachesByArcs w s r → 1 ≤ sumTo (w .n) (λ q. bit (w .waits s q))
-      some (onward {q} e t) =
-          let i = to-in ok s q e in
-          omega (arith, sumTo-part (w .n) (λ q. bit (w .waits s q)) q (i .0) (i .1), ap bit e)
+      some : {r : ℕ} → ReachesByArcs w s r → WaitsForSome w s
+      some (onward {q} e t) = record { process = q; waits = e }
 
-      by : Part (w .n) (λ q. bit (w .waits s q)) → someByArcs w s ≡ true
-      by x = someByArcs-P .1 (record { process = x .at; reached = onward (bit-some (w .waits s (x .at)) (x .some)) here })
+      by : WaitsForSome w s → someByArcs w s ≡ true
+      by x = someByArcs-P .1 (record { process = x .process; reached = onward (x .waits) here })
 
   -- by edition (02, N4)
   pub inKnot-P : (ed : ℕ) → (inKnot w s ed ≡ true) ↔ (((p : ℕ) → Reaches w s p → Reaches w p s) × (ed ≡ 2 → SomeByArcs w s))
@@ -253,17 +300,7 @@ module _ (w : Waits) (ok : Sound w) (s : ℕ) (sIn : IsProcess (w .n) s) where
 
   pub outsider-P : (p : ℕ) → IsProcess (w .n) p → (outsider w s p ≡ true) ↔ Outside w s p
   unfolding outsider
-  outsider-P p i = (
-    λ e. (
-      reaches-P w ok s p sIn .0 (and-left (reaches w s p) (not (reaches w p s)) e),
-      λ t. false≢true (sym (not-true (reaches w p s) (and-right (reaches w s p) (not (reaches w p s)) e)) ∙ reaches-P w ok p s i .1 t),
-    ),
-    λ h. test h (tested (reaches w p s)),
-  )
-    where
-      test : Outside w s p → Tested (reaches w p s) → (reaches w s p && not (reaches w p s)) ≡ true
-      test h (passed e) = absurd (h .1 (reaches-P w ok p s i .0 e))
-      test h (failed e) = rw (e, reaches-P w ok s p sIn .1 (h .0))
+  outsider-P p i = reached-not (λ p. reaches w p s) (λ p. Reaches w p s) (λ p i. reaches-P w ok p s i) p i
 
   pub outsiders-P : HowMany (Outside w s) (w .n) (outsiders w s)
   unfolding outsiders
@@ -272,3 +309,12 @@ module _ (w : Waits) (ok : Sound w) (s : ℕ) (sIn : IsProcess (w .n) s) where
   pub lowestOutsider-P : Lowest (Outside w s) (w .n) (lowestOutsider w s)
   unfolding lowestOutsider
   lowestOutsider-P = lowestTo-P (w .n) (outsider w s) (Outside w s) (λ p l u. outsider-P p (l, u))
+
+  -- 02, N3: "every process reachable from the start, itself included, waits for somebody"
+  pub allWait-P : (allWait w s ≡ true) ↔ ((p : ℕ) → Reaches w s p → WaitsForSome w p)
+  unfolding allWait
+  allWait-P = reached-all (waitsForSome w) (WaitsForSome w) (λ p _. waitsForSome-P w ok p)
+
+  pub sinks-P : HowMany (Sink w s) (w .n) (sinks w s)
+  unfolding sinks sink
+  sinks-P = countTo-P (w .n) (sink w s) (Sink w s) (λ p l u. reached-not (waitsForSome w) (WaitsForSome w) (λ p _. waitsForSome-P w ok p) p (l, u))

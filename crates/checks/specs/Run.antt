@@ -23,7 +23,7 @@ use Rattle.machine.specs.Machine as Machines
 use Rattle.steps.specs.declared.{Message.Message, Message.the-variants.Suc, Message.the-variants.Pre, Message.the-variants.Ack, Process.Process}
 use Rattle.steps.specs.declared.{Probes.Probes, Probes.the-variants.Sucs, Probes.the-variants.Pres, Reply.Reply, Reply.the-variants.To}
 use Rattle.steps.specs.Effect.{isProbe}
-use Rattle.steps.specs.Step.{inRange, countSmall, idle, Turn, turn, startTurn, fitting}
+use Rattle.steps.specs.Step.{inRange, countSmall, idle, ownCount, Turn, turn, startTurn, fitting}
 
 abbrev pub Run : Type 0
 Run = Machine Process Message
@@ -38,9 +38,18 @@ abbrev pub one : Bool → Message → List Message
 one true m = m ∷ []
 one false m = []
 
--- "s gets succeeding and preceding .. num is the number sent"
+-- "s gets succeeding and preceding .. num is the number sent"; 02, N3: "the start adds its own at once"
 unfoldable pub started : Waits → ℕ → Process
-started w s = record { succeeding = 1; preceding = 1; subordinate = 0; cs = pos 0; num = outDegree w s + inDegree w s; father = 0 }
+started w s =
+    record {
+      succeeding = 1;
+      preceding = 1;
+      subordinate = 0;
+      cs = pos 0;
+      num = outDegree w s + inDegree w s;
+      father = 0;
+      second = pos (ownCount (outDegree w s));
+    }
 
 -- ---- the receiver's step
 

@@ -15,7 +15,7 @@ use mathlib.Core.Logic.{_↔_, inl, inr, ⊎-elim}
 use native.Mathlib.Omega.{arith}
 use borrow.Author.Tests.{eqb-true, eq-eqb, leb-true}
 use lib.Dec.{eqb, leb}
-use lib.IntN.{ℤ}
+use Rattle.steps.specs.declared.TwoCounts.{TwoCounts}
 use Rattle.base.specs.ChoiceLaws.{and-both, and-left, and-right, and-three, or-left, or-right, or-none, or-cases, same?, tested}
 use Rattle.base.specs.Checks.{Same, same, apart, Tested, passed, failed}
 use Rattle.tables.specs.Waits.{outDegree, inDegree, neighbours}
@@ -31,7 +31,7 @@ use Rattle.steps.specs.declared.Probes.{Probes}
 use Rattle.steps.specs.declared.Probes.the-variants.{Sucs, Pres}
 use Rattle.steps.specs.declared.Reply.{Reply}
 use Rattle.steps.specs.declared.Reply.the-variants.{To}
-use Rattle.steps.specs.Step.{inRange, small, numSuffices, replyFits, fitting}
+use Rattle.steps.specs.Step.{inRange, bothSmall, numSuffices, replyFits, fitting}
 use Rattle.steps.specs.Effect.{Known, Effect, Named, Grown}
 use Rattle.steps.specs.StepLaws.{turn-effect, startTurn-effect, turn-named, startTurn-named, turn-grown, startTurn-grown, grown-sucs, grown-pres}
 use Rattle.checks.specs.Run.{Run, IsEdition, isEdition, knot, fatherRight, one, turnOf, turnAt, replyTo, probesTo, sentTo, after, accepts}
@@ -116,7 +116,7 @@ module _ {r : Run} (f : Formed knot r) (sd : Sound (r .waits)) (a b : ℕ) (j : 
 
   -- whom the step acknowledges is a neighbour of the receiver
   pub replied :
-      replyFits (turnAt r a b m .reply) ≡ true → (q : ℕ) (c : ℤ) → turnAt r a b m .reply ≡ To q c → neighbours (r .waits) b q ≡ true
+      replyFits (turnAt r a b m .reply) ≡ true → (q : ℕ) (c : TwoCounts) → turnAt r a b m .reply ≡ To q c → neighbours (r .waits) b q ≡ true
   unfolding replyFits fatherRight
   replied k q c e =
       ⊎-elim
@@ -125,7 +125,7 @@ module _ {r : Run} (f : Formed knot r) (sd : Sound (r .waits)) (a b : ℕ) (j : 
       (turnAt-named r a b m .reply q c e)
     where
       low : leb 1 q ≡ true
-      low = and-left (leb 1 q) (small c) (rw e at k)
+      low = and-left (leb 1 q) (bothSmall c) (rw e at k)
 
       far : q ≡ turnAt r a b m .process .father → neighbours (r .waits) b q ≡ true
       far g =

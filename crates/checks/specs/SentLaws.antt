@@ -14,7 +14,6 @@ use mathlib.Core.Path.{_≡_, refl, sym, _∙_}
 use native.Mathlib.Nat.{one-mul, zero-mul}
 use native.Mathlib.Omega.{arith}
 use lib.Dec.{eqb, leb}
-use lib.IntN.{ℤ, pos}
 use Rattle.base.specs.Choice.{choose, bit}
 use Rattle.base.specs.ChoiceLaws.{and-both, and-right}
 use Rattle.base.specs.Sums.{sumTo, spot, countTo}
@@ -31,8 +30,9 @@ use Rattle.steps.specs.declared.Probes.{Probes}
 use Rattle.steps.specs.declared.Probes.the-variants.{Sucs, Pres}
 use Rattle.steps.specs.declared.Reply.{Reply}
 use Rattle.steps.specs.declared.Reply.the-variants.{To}
-use Rattle.steps.specs.Step.{Turn, small, countSmall, replyFits}
-use Rattle.steps.specs.Effect.{isProbe, isSuc, isPre, countOf, sucsOf, presOf, replyCount, acksTo}
+use Rattle.steps.specs.declared.TwoCounts.{TwoCounts}
+use Rattle.steps.specs.Step.{Turn, noCounts, bothSmall, countSmall, replyFits}
+use Rattle.steps.specs.Effect.{isProbe, isSuc, isPre, countsOf, sucsOf, presOf, replyCounts, acksTo}
 use Rattle.checks.specs.Run.{one, replyTo, probesTo, sentTo, countsSmall}
 
 -- one message or none
@@ -46,7 +46,7 @@ pub first-weight : (μ : Message → ℕ) (x y : Bool) → weight μ (one x Suc 
 first-weight μ x y = omega (arith, weight-append μ (one x Suc) (one y Pre), one-weight μ x Suc, one-weight μ y Pre)
 
 -- the acknowledgement stands on the link to the process it is for
-reply-weight : (μ : Message → ℕ) (p : ℕ) (c : ℤ) (q : ℕ) → weight μ (replyTo (To p c) q) ≡ spot p (μ (Ack c)) q
+reply-weight : (μ : Message → ℕ) (p : ℕ) (c : TwoCounts) (q : ℕ) → weight μ (replyTo (To p c) q) ≡ spot p (μ (Ack c)) q
 unfolding replyTo spot
 reply-weight μ p c q = one-weight μ (eqb q p) (Ack c) ∙ at (eqb q p)
   where
@@ -56,7 +56,7 @@ reply-weight μ p c q = one-weight μ (eqb q p) (Ack c) ∙ at (eqb q p)
 
 module _ (μ : Message → ℕ) (w : Waits) (b : ℕ) (q : ℕ) where
   -- a weight that an acknowledgement has not
-  no-reply : ((c : ℤ) → μ (Ack c) ≡ 0) → (y : Reply) → weight μ (replyTo y q) ≡ 0
+  no-reply : ((c : TwoCounts) → μ (Ack c) ≡ 0) → (y : Reply) → weight μ (replyTo y q) ≡ 0
   unfolding replyTo weight
   no-reply h Reply.Nothing = refl
   no-reply h (To p c) = reply-weight μ p c q ∙ rw (h c) (spot-zero p q)
@@ -106,17 +106,18 @@ sum-probes w b t =
 
 -- a weight of counts over all that a step sends is the weight of its acknowledgement's count
 pub sum-count :
-    (w : Waits) (b : ℕ) (t : Turn) → ((p : ℕ) (c : ℤ) → t .reply ≡ To p c → IsProcess (w .n) p) → (g : ℤ → ℕ) → g (pos 0) ≡ 0 →
-    sumTo (w .n) (λ q. weight (λ m. g (countOf m)) (sentTo w b t q)) ≡ g (replyCount (t .reply))
+    (w : Waits) (b : ℕ) (t : Turn) → ((p : ℕ) (c : TwoCounts) → t .reply ≡ To p c → IsProcess (w .n) p) → (g : TwoCounts → ℕ) → g noCounts ≡ 0 →
+    sumTo (w .n) (λ q. weight (λ m. g (countsOf m)) (sentTo w b t q)) ≡ g (replyCounts (t .reply))
 unfolding replyTo weight
 sum-count w b t h g e =
-    sumTo-cong (w .n) _ (λ q. weight (λ m. g (countOf m)) (replyTo (t .reply) q)) (λ q _ _. sent-count w b t q (λ m. g (countOf m)) e e) ∙
+    sumTo-cong (w .n) _ (λ q. weight (λ m. g (countsOf m)) (replyTo (t .reply) q)) (λ q _ _. sent-count w b t q (λ m. g (countsOf m)) e e) ∙
     at (t .reply) h
   where
-    at : (y : Reply) → ((p : ℕ) (c : ℤ) → y ≡ To p c → IsProcess (w .n) p) → sumTo (w .n) (λ q. weight (λ m. g (countOf m)) (replyTo y q)) ≡ g (replyCount y)
+    at : (y : Reply) → ((p : ℕ) (c : TwoCounts) → y ≡ To p c → IsProcess (w .n) p)
+        → sumTo (w .n) (λ q. weight (λ m. g (countsOf m)) (replyTo y q)) ≡ g (replyCounts y)
     at Reply.Nothing k = sumTo-zero (w .n) _ (λ _ _ _. refl) ∙ sym e
     at (To p c) k =
-        sumTo-cong (w .n) _ (spot p (g c)) (λ q _ _. reply-weight (λ m. g (countOf m)) p c q) ∙ sumTo-spot (w .n) p (g c) (k p c refl .0) (k p c refl .1)
+        sumTo-cong (w .n) _ (spot p (g c)) (λ q _ _. reply-weight (λ m. g (countsOf m)) p c q) ∙ sumTo-spot (w .n) p (g c) (k p c refl .0) (k p c refl .1)
 
 -- ---- ranges
 
@@ -131,7 +132,7 @@ sent-right w b t q h = allRight-append countSmall (replyTo (t .reply) q) (probes
   where
     reply : (y : Reply) → replyFits y ≡ true → countsSmall (replyTo y q) ≡ true
     reply Reply.Nothing k = unfold replyTo allRight in refl
-    reply (To p c) k = unfold replyTo in one-right (eqb q p) (Ack c) (unfold replyFits in and-right (leb 1 p) (small c) k)
+    reply (To p c) k = unfold replyTo in one-right (eqb q p) (Ack c) (unfold replyFits in and-right (leb 1 p) (bothSmall c) k)
 
     probes : (y : Probes) → countsSmall (probesTo w b y q) ≡ true
     probes Probes.Nothing = unfold probesTo allRight in refl

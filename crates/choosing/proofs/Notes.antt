@@ -12,8 +12,8 @@ use native.Mathlib.Omega.{arith}
 use borrow.Author.Tests.{eq-eqb, ne-eqb}
 use lib.ListN.{length, getD, set, length-set}
 use lib.Seq.{getD-set-other}
-use lib.IntN.{ℤ}
 use Rattle.tables.specs.Table.{mostProcesses}
+use Rattle.steps.specs.declared.TwoCounts.{TwoCounts}
 use Rattle.steps.specs.declared.Reply.{Reply}
 use Rattle.steps.specs.declared.Reply.the-variants.{To}
 use Rattle.choosing.specs.Memory.{mostBacklog, memorySize, backlogAt, boundAt, nearestAt}
@@ -35,7 +35,7 @@ module _ (l : List ℕ) (b : ℕ) {z : Reply} where
   replied-none e = rw e refl
 
   pub replied-to
-      : {p : ℕ} {c : ℤ} → z ≡ To p c
+      : {p : ℕ} {c : TwoCounts} → z ≡ To p c
       → {i o : ℕ} → i ≡ backlogAt b → o ≡ boundAt b
       → {v : ℕ} → v ≡ min p (getD l o 0) → {u : List ℕ} → u ≡ renewed l b (getD l i 0 + 1) v
       → u ≡ notedReply l b z

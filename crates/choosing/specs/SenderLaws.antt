@@ -12,7 +12,6 @@ use mathlib.Core.Path.{_≡_, refl, sym, ap, ap₂, _∙_}
 use native.Mathlib.Omega.{arith}
 use borrow.Author.Tests.{eq-eqb, ne-eqb}
 use lib.Dec.{eqb}
-use lib.IntN.{ℤ}
 use lib.ListN.{length, length-append}
 use Rattle.base.specs.Choice.{choose}
 use Rattle.base.specs.ChoiceLaws.{same?}
@@ -20,6 +19,7 @@ use Rattle.base.specs.Checks.{Same, same, apart}
 use Rattle.base.specs.Sums.{sumTo, spot}
 use Rattle.base.specs.SumLaws.{spot-at, spot-off, sumTo-cong, sumTo-add, sumTo-spot}
 use Rattle.steps.specs.declared.Process.{Process}
+use Rattle.steps.specs.declared.TwoCounts.{TwoCounts}
 use Rattle.steps.specs.declared.Reply.{Reply}
 use Rattle.steps.specs.declared.Reply.the-variants.{To}
 use Rattle.checks.specs.Run.{Run, replyTo}
@@ -85,7 +85,7 @@ module _ (r : Run) (b : ℕ) where
   replied-from z =
       record { waits = relinked-waits (answered-relinked r b z); others = λ u v h. rw (answered-link r b z u v, ne-eqb u b h) }
 
-  module _ (p : ℕ) (c : ℤ) where
+  module _ (p : ℕ) (c : TwoCounts) where
     replied-link : (v : ℕ) → answered r b (To p c) .link b v ≡ r .link b v ++ replyTo (To p c) v
     replied-link v = rw (answered-link r b (To p c) b v, eq-eqb b b refl)
 

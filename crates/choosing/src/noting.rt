@@ -38,7 +38,7 @@ fn note_reply(reply: Reply, to: usize, memory: &mut [usize; parts::MEMORY_SIZE])
 {
     match reply {
         Reply::Nothing => {}
-        Reply::To { process, count: _ } => {
+        Reply::To { process, counts: _ } => {
             let at = parts::backlog_at(to);
             let backlog = memory[at] + 1;
             let next = parts::bound_at(to);

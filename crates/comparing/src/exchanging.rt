@@ -1,24 +1,60 @@
-// Other words for the edition in the area of a run that is over (02, N4), if it is small: a report is refused with 21 where the word is no
-// edition, and is judged by the other edition where it is that.
+// Other words in the area of a run that is over, if it is small: for the edition (02, N4), and for the start's second sum and on the first link
+// (02, N3). A report is refused with 21 where the word makes the area not well formed, and is the one that the word asks for where it does not.
 use checks::Report;
 use expecting::Expected;
 use expecting::answers;
 use expecting::editions;
+use expecting::faults;
+use expecting::seconds;
+use expecting::starts;
+use expecting::words;
 use ordering::Course;
 
-// A report with that word for the edition.
-fn report(area: &mut [i32], word: i32) -> Report {
-    editions::put(area, word);
-    reports::report(area)
+// A report with another word at a place; then the old one is put back.
+fn report(area: &mut [i32], place: usize, word: i32) -> Report {
+    let old = words::at(area, place);
+    words::put(area, place, word);
+    let told = reports::report(area);
+    words::put(area, place, old);
+    told
 }
 
-// The two reports; then the edition that the start named is put back.
+// Another edition: the report is judged by it.
+fn exchange_edition(area: &mut [i32], e: Expected, c: Course) -> Course {
+    let edition = editions::other(e.edition);
+    let none = report(area, editions::PLACE, editions::no_word(c.seed));
+    let other = report(area, editions::PLACE, editions::word(edition));
+    let f = starts::under(e, edition);
+    answers::exchanged(none, other, f, faults::OTHER_EDITION, c)
+}
+
+// Another second sum of the start: the report is marked by it.
+fn exchange_sum(area: &mut [i32], e: Expected, c: Course) -> Course {
+    let place = seconds::sum_place(e.n, e.m, e.start);
+    let sum = seconds::sum_word(c.seed);
+    let none = report(area, place, seconds::no_sum_word(c.seed));
+    let other = report(area, place, sum);
+    let f = starts::with_idlers(e, sum);
+    answers::exchanged(none, other, f, faults::OTHER_SUM, c)
+}
+
+// A message on the first link, if there is one: the report is the same.
+fn exchange_count(area: &mut [i32], e: Expected, c: Course) -> Course {
+    if e.m == 0 {
+        return c;
+    }
+    let place = seconds::links_place(e.n, e.m);
+    let none = report(area, place, seconds::no_ack_word(c.seed));
+    let other = report(area, place, seconds::ack_word(c.seed));
+    answers::exchanged(none, other, e, faults::OTHER_COUNT, c)
+}
+
+// All of these, in a small area.
 pub fn exchange(area: &mut [i32], e: Expected, c: Course) -> Course {
     if area.len() >= ordering::SMALL {
         return c;
     }
-    let none = report(area, editions::no_word(c.seed));
-    let other = report(area, editions::word(editions::other(e.edition)));
-    editions::put(area, editions::word(e.edition));
-    answers::exchanged(none, other, e, c)
+    let edition = exchange_edition(area, e, c);
+    let sum = exchange_sum(area, e, edition);
+    exchange_count(area, e, sum)
 }

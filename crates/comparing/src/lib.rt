@@ -1,7 +1,7 @@
 // One run of a case, from its start to its end, with every call compared with what the plain search expects (the crate `expecting`), for
 // the program `trials`. It calls the library as a host does: `starting`, `runs` and `reports`. It promises only that it is safe and ends; a
-// difference is an answer. The module `exchanging` puts other editions into the area of a run that is over, `waiting` looks at the messages on
-// a link, and `written` compares how a table is read back.
+// difference is an answer. The module `exchanging` puts other editions, second sums and messages into the area of a run that is over, `waiting`
+// looks at the messages on a link, and `written` compares how a table is read back.
 pub mod exchanging;
 pub mod waiting;
 pub mod written;
@@ -9,6 +9,7 @@ pub mod written;
 use expecting::Expected;
 use expecting::answers;
 use expecting::faults;
+use expecting::seconds;
 use expecting::starts;
 use expecting::words;
 use ordering::Call;
@@ -74,14 +75,41 @@ fn settle(area: &[i32], before: usize, made: u32, c: Course) -> Course {
     )
 }
 
+// If it is watched: what all second sums and second counts come to, with N and M (02, N3).
+fn add_up(area: &[i32], found: &[bool; 16899], n: usize, m: usize, c: Course) -> Course {
+    if !ordering::is_watched(area.len(), c) {
+        return c;
+    }
+    answers::expect(c, seconds::are_right(area, found, n, m), faults::SECONDS)
+}
+
+// If a pick delivered a probe, not to the start: what the receiver has left, with N, M and the course before it.
+fn pass_on(
+    area: &[i32],
+    found: &[bool; 16899],
+    n: usize,
+    m: usize,
+    before: Course,
+    c: Course,
+) -> Course {
+    let suc = c.sucs != before.sucs;
+    if c.receiver == c.start || (!suc && c.pres == before.pres) {
+        return c;
+    }
+    let right = seconds::is_passed_on(area, found, n, m, c.receiver, suc);
+    answers::expect(c, right, faults::SECONDS)
+}
+
 // One call, and what is looked at after it.
 fn turn(area: &mut [i32], list: &[u16], found: &[bool; 16899], way: Way, c: Course) -> Course {
+    let m = list.len() / 2;
     let d = ordering::drawn(c);
     let call = ordering::next_call(list, way, d);
     let e = ordering::chosen(call, d);
     let before = digest(area, e);
     let f = make(area, found, way.n, call, e);
-    settle(area, before, e.made, f)
+    let g = settle(area, before, e.made, f);
+    add_up(area, found, way.n, m, pass_on(area, found, way.n, m, e, g))
 }
 
 // Brings a run to its end, or makes the calls past it, which are refused or make nothing.
@@ -120,7 +148,7 @@ fn compare(area: &[i32], found: &[bool; 16899], e: Expected, order: usize, c: Co
     answers::expect(counted, kept, faults::SURPLUS)
 }
 
-// A begun run brought to its end, the calls past it, and other editions in its area. The end is compared before and after these.
+// A begun run brought to its end, the calls past it, and other words in its area. The end is compared before and after these.
 fn end(
     area: &mut [i32],
     list: &[u16],
@@ -148,5 +176,6 @@ pub fn run(
 ) -> Course {
     let begun = starts::course(e, x, starts::begin(area, table, e, x));
     let way = ordering::way_of(list, e.n, order, x);
-    end(area, list, found, e, way, probe(area, begun))
+    let started = add_up(area, found, e.n, e.m, probe(area, begun));
+    end(area, list, found, e, way, started)
 }

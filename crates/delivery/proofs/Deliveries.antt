@@ -22,6 +22,7 @@ use Rattle.tables.specs.WaitsLaws.{neighbours-ends}
 use Rattle.steps.specs.declared.Message.{Message}
 use Rattle.steps.specs.declared.Process.{Process}
 use Rattle.steps.specs.declared.Probes.{Probes}
+use Rattle.steps.specs.declared.TwoCounts.{TwoCounts}
 use Rattle.steps.specs.declared.Reply.{Reply}
 use Rattle.steps.specs.declared.Reply.the-variants.{To}
 use Rattle.steps.specs.declared.Stepped.{Stepped}
@@ -117,10 +118,10 @@ module _ {w : List ℤ} {sq : List ℕ} {n m a b : ℕ} {x : Message} (h : Sent 
     room-is : {v : Bool} → v ≡ allTo n (roomTo (runIn w) a b p z) → roomy (runIn w) a b p z ≡ v
     room-is e = ap (λ (k : ℕ). allTo k (roomTo (runIn w) a b p z)) (ready-n (h .ready)) ∙ sym e
 
-    pub room-asks : Ready w sq n m × (((1 ≤ b) × (b ≤ n)) × ((i : ℕ) (c : ℤ) → z ≡ To i c → (1 ≤ i) × (i ≤ n)))
+    pub room-asks : Ready w sq n m × (((1 ≤ b) × (b ≤ n)) × ((i : ℕ) (c : TwoCounts) → z ≡ To i c → (1 ≤ i) × (i ≤ n)))
     room-asks = (h .ready, (process-asks .1, λ i c e. within i c e))
       where
-        within : (i : ℕ) (c : ℤ) → z ≡ To i c → (1 ≤ i) × (i ≤ n)
+        within : (i : ℕ) (c : TwoCounts) → z ≡ To i c → (1 ≤ i) × (i ≤ n)
         within i c e =
             let k = neighbours-ends (runIn w .waits) (f .sound) b i
             (taken-replied (runIn w) (f .formed) (f .sound) a b (h .near) x (h .small) q p z (sym t ∙ o) i c e) in

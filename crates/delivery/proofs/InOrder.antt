@@ -15,6 +15,7 @@ use Rattle.tables.specs.Waits.{neighbours}
 use Rattle.tables.specs.Chains.{joins}
 use Rattle.steps.specs.declared.Process.{Process}
 use Rattle.steps.specs.declared.Probes.{Probes}
+use Rattle.steps.specs.declared.TwoCounts.{TwoCounts}
 use Rattle.steps.specs.declared.Reply.{Reply}
 use Rattle.steps.specs.declared.Reply.the-variants.{To}
 use Rattle.steps.specs.Step.{inRange, replyFits}
@@ -64,7 +65,7 @@ module _ {w : List ℤ} {sq : List ℕ} {n m : ℕ} (y : Ready w sq n m) {a b i 
     reply-asks =
         (holding-ready y h, (between, (k .replies, rw (holding-run y h) room)))
       where
-        room : (q : ℕ) (c : ℤ) → z ≡ To q c → (q ≤ n)
+        room : (q : ℕ) (c : TwoCounts) → z ≡ To q c → (q ≤ n)
             × (neighbours (changed r a b i x .waits) b q ≡ true) × (length (changed r a b i x .link b q) ≤ linkSlots - 1)
         room q c e = let g = reply-room (fieldsIn w) r f a b i x p z k q c e in (omega (arith, g .0, ready-n y), g .1, g .2)
 

@@ -17,7 +17,6 @@ use native.Mathlib.Omega.{arith}
 use borrow.Author.Tests.{leb-true, le-leb, lt-leb}
 use lib.Dec.{eqb, leb}
 use lib.ListN.{length}
-use lib.IntN.{ℤ}
 use Rattle.machine.specs.Machine as Machines
 use Rattle.machine.specs.Calls as MachineCalls
 use Rattle.base.specs.Choice.{choose}
@@ -32,6 +31,7 @@ use Rattle.tables.specs.WaitsLaws.{neighbours-ends}
 use Rattle.steps.specs.declared.Message.{Message}
 use Rattle.steps.specs.declared.Process.{Process}
 use Rattle.steps.specs.declared.Probes.{Probes}
+use Rattle.steps.specs.declared.TwoCounts.{TwoCounts}
 use Rattle.steps.specs.declared.Reply.{Reply}
 use Rattle.steps.specs.declared.Reply.the-variants.{To}
 use Rattle.steps.specs.declared.Stepped.{Stepped}
@@ -119,7 +119,7 @@ module _ (r : Run) (h : wellFormed r ≡ true) (sd : Sound (r .waits)) (a b : �
 
   -- whom the step acknowledges is a neighbour of the receiver
   pub taken-replied :
-      (x : Process) (y : Probes) (z : Reply) → steppedAt r a b m ≡ Taken x y z → (p : ℕ) (c : ℤ) → z ≡ To p c → neighbours (r .waits) b p ≡ true
+      (x : Process) (y : Probes) (z : Reply) → steppedAt r a b m ≡ Taken x y z → (p : ℕ) (c : TwoCounts) → z ≡ To p c → neighbours (r .waits) b p ≡ true
   unfolding fitting
   taken-replied x y z e p c f =
       let t : Taking r a b m x y z = steppedAt-taken x y z e in

@@ -11,7 +11,6 @@ use native.Mathlib.Omega.{arith}
 use borrow.Author.Tests.{eq-eqb}
 use lib.Dec.{eqb}
 use lib.ListN.{length, length-append}
-use lib.IntN.{ℤ}
 use Rattle.base.specs.Choice.{bit}
 use Rattle.tables.specs.declared.Chain.{Chain}
 use Rattle.tables.specs.declared.Chain.the-variants.{Out, In}
@@ -22,6 +21,7 @@ use Rattle.tables.specs.Chains.{joins}
 use Rattle.steps.specs.declared.Process.{Process}
 use Rattle.steps.specs.declared.Probes.{Probes}
 use Rattle.steps.specs.declared.Probes.the-variants.{Sucs, Pres}
+use Rattle.steps.specs.declared.TwoCounts.{TwoCounts}
 use Rattle.steps.specs.declared.Reply.{Reply}
 use Rattle.steps.specs.declared.Reply.the-variants.{To}
 use Rattle.checks.specs.Run.{Run, mostDeliveries, fatherRight, replyTo, probesTo}
@@ -34,7 +34,7 @@ use Rattle.delivery.specs.Delivering.{probesOf, spreadBy, changed, carri
 use Rattle.delivery.specs.DeliveryLaws.{relinked-waits, relinked-count, answered-relinked, spreadBy-relinked, answered-link, off-length}
 
 -- an acknowledgement goes to its process, and a probe along its chain
-reply-one : (p : ℕ) (c : ℤ) → length (replyTo (To p c) p) ≡ 1
+reply-one : (p : ℕ) (c : TwoCounts) → length (replyTo (To p c) p) ≡ 1
 unfolding replyTo
 reply-one p c = rw (eq-eqb p p refl)
 
@@ -69,7 +69,7 @@ module _ (t : Fields) (r : Run) (f : Storable t r) (a b i : ℕ) (x : Process) (
   unfolding putProcess putLink
   changed-waits = refl
 
-  pub reply-room : (p : ℕ) (c : ℤ) → z ≡ To p c → (p ≤ r .waits .n) × (neighbours (changed r a b i x .waits) b p ≡ true)
+  pub reply-room : (p : ℕ) (c : TwoCounts) → z ≡ To p c → (p ≤ r .waits .n) × (neighbours (changed r a b i x .waits) b p ≡ true)
       × (length (changed r a b i x .link b p) ≤ linkSlots - 1)
   reply-room p c e =
       let j = k .replied p c e in

@@ -29,6 +29,7 @@ use Rattle.steps.specs.declared.Message.{Message}
 use Rattle.steps.specs.declared.Process.{Process}
 use Rattle.steps.specs.declared.Probes.{Probes}
 use Rattle.steps.specs.declared.Probes.the-variants.{Sucs, Pres}
+use Rattle.steps.specs.declared.TwoCounts.{TwoCounts}
 use Rattle.steps.specs.declared.Reply.{Reply}
 use Rattle.steps.specs.declared.Reply.the-variants.{To}
 use Rattle.steps.specs.declared.Stepped.{Stepped}
@@ -92,7 +93,7 @@ pub record Carried (r : Run) (a b k : ℕ) (x : Process) (y : Probes) (z : Reply
   pub range : inRange x ≡ true
   pub father : fatherRight (r .waits) b x ≡ true
   pub replies : replyFits z ≡ true
-  pub replied : (p : ℕ) (c : ℤ) → z ≡ To p c → neighbours (r .waits) b p ≡ true
+  pub replied : (p : ℕ) (c : TwoCounts) → z ≡ To p c → neighbours (r .waits) b p ≡ true
   pub count : r .count + 1 ≤ mostDeliveries
   pub room : (q : ℕ) → 1 ≤ q → q ≤ r .waits .n → loadAfter r a b y z q ≤ 4
 

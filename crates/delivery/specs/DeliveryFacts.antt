@@ -5,10 +5,10 @@
 use Prim.Native.Nat.{ℕ, _≤_}
 use mathlib.Core.Bool.{true}
 use mathlib.Core.Path.{_≡_}
-use lib.IntN.{ℤ}
 use Rattle.steps.specs.declared.Message.{Message}
 use Rattle.steps.specs.declared.Process.{Process}
 use Rattle.steps.specs.declared.Probes.{Probes}
+use Rattle.steps.specs.declared.TwoCounts.{TwoCounts}
 use Rattle.steps.specs.declared.Reply.{Reply}
 use Rattle.steps.specs.declared.Reply.the-variants.{To}
 use Rattle.checks.specs.declared.Delivery.the-variants.{Delivered}
@@ -29,4 +29,4 @@ pub record Going (r : Run) (n a b i : ℕ) (g : Message) (x : Process) (y : Prob
   pub answer : deliverAt r a b i .answer ≡ Delivered g
   pub run : deliverAt r a b i .run ≡ carriedOut r a b i x y z
   pub sent : k ≡ probesSent (r .waits) b y
-  pub replied : (p : ℕ) (c : ℤ) → z ≡ To p c → (1 ≤ p) × (p ≤ n)
+  pub replied : (p : ℕ) (c : TwoCounts) → z ≡ To p c → (1 ≤ p) × (p ≤ n)

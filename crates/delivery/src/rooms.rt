@@ -9,8 +9,8 @@ use tables::Chain;
 ghost use mathlib.Core.Path.{_≡_};
 ghost use mathlib.Core.Bool.{true, not, _&&_, _||_};
 ghost use Prim.Native.Nat.{ℕ, _+_, _≤_, _-_};
-ghost use lib.IntN.{ℤ};
 ghost use Rattle.tables.specs.Table.{mostProcesses};
+ghost use Rattle.steps.specs.declared.TwoCounts.{TwoCounts};
 ghost use Rattle.steps.specs.declared.Reply.the-variants.{To};
 ghost use Rattle.areas.specs.Area.{runIn};
 ghost use Rattle.areas.specs.Squares.{joinsBy};
@@ -40,7 +40,7 @@ fn is_for(reply: Reply, q: usize) -> bool
 {
     match reply {
         Reply::Nothing => false,
-        Reply::To { process, count: _ } => process as usize == q,
+        Reply::To { process, counts: _ } => process as usize == q,
     }
 }
 
@@ -102,12 +102,12 @@ fn reply_has_room(
 ) -> bool
     requires { ⌜ Ready (now area) (now square) n m ⌝ }
     requires { ⌜ b ≤ n ⌝ }
-    requires { ⌜ ((p : ℕ) (c : ℤ) → reply ≡ To p c → (1 ≤ p) × (p ≤ n)) ⌝ }
+    requires { ⌜ ((p : ℕ) (c : TwoCounts) → reply ≡ To p c → (1 ≤ p) × (p ≤ n)) ⌝ }
     ensures { λ r. ⌜ r ≡ allTo n (λ q. not (replyGoes reply q) || roomTo (runIn (now (area .entry))) a b probes reply q) ⌝ }
 {
     match reply {
         Reply::Nothing => true,
-        Reply::To { process, count: _ } => {
+        Reply::To { process, counts: _ } => {
             load_after(area, square, n, m, a, b, probes, reply, process as usize)
                 <= places::LINK_SLOTS
         }
@@ -177,7 +177,7 @@ pub fn has_room(
 ) -> bool
     requires { ⌜ Ready (now area) (now square) n m ⌝ }
     requires { ⌜ (1 ≤ b) × (b ≤ n) ⌝ }
-    requires { ⌜ ((p : ℕ) (c : ℤ) → reply ≡ To p c → (1 ≤ p) × (p ≤ n)) ⌝ }
+    requires { ⌜ ((p : ℕ) (c : TwoCounts) → reply ≡ To p c → (1 ≤ p) × (p ≤ n)) ⌝ }
     ensures { λ r. ⌜ r ≡ allTo n (roomTo (runIn (now (area .entry))) a b probes reply) ⌝ }
 {
     if !reply_has_room(area, square, n, m, a, b, probes, reply) {

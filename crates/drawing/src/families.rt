@@ -150,7 +150,7 @@ fn shape_size(kind: usize) -> usize {
 // Some shapes are run from their first process, which is not like the others, and the rest from a middle one.
 fn shape_start(kind: usize, n: usize) -> usize {
     match kind {
-        graphs::FAN | graphs::STAR | graphs::EXTREME => 1,
+        graphs::FAN | graphs::STAR | graphs::EXTREME | graphs::FUNNEL => 1,
         _ => n / 2,
     }
 }

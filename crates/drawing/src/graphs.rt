@@ -30,8 +30,10 @@ const TWO_RINGS: usize = 7;
 pub const EXTREME: usize = 8;
 // A path from the last process down to the first: in every order the lowest of those who do not reach the start is reached last (02, N1).
 const FALLING: usize = 9;
+// 1 waits for 2, and 2 for all after it, who wait for nobody: from 1 a second count of 126 occurs (02, N3).
+pub const FUNNEL: usize = 10;
 
-pub const SHAPES: usize = 10;
+pub const SHAPES: usize = 11;
 
 // What drawing leaves: the number of entries in the list, and the last random number.
 pub struct Drawn {
@@ -171,6 +173,7 @@ fn is_wait(kind: usize, n: usize, from: usize, to: usize) -> bool {
         TWO_RINGS => is_in_rings(n, from, to - 1),
         EXTREME => is_extreme(from, to),
         FALLING => to == from - 1,
+        FUNNEL => is_in_funnel(from, to),
         _ => false,
     }
 }
@@ -200,6 +203,14 @@ fn is_extreme(from: usize, to: usize) -> bool {
         2 => to == 1,
         3 => to > 3,
         _ => to == 2,
+    }
+}
+
+fn is_in_funnel(from: usize, to: usize) -> bool {
+    match from {
+        1 => to == 2,
+        2 => to > 2,
+        _ => false,
     }
 }
 

@@ -17,7 +17,7 @@ use native.Mathlib.Omega.{arith}
 use borrow.Author.Tests.{eqb-false}
 use lib.Dec.{eqb}
 use lib.ListN.{length}
-use lib.IntN.{ℤ}
+use Rattle.steps.specs.declared.TwoCounts.{TwoCounts}
 use Rattle.base.specs.Choice.{choose, bit}
 use Rattle.base.specs.ChoiceLaws.{same?}
 use Rattle.base.specs.Checks.{Same, same, apart}
@@ -119,7 +119,7 @@ module _ (w : Waits) (s : ℕ) {a b : ℕ} {m : Message} {x : Process} {t : Turn
 
 -- the acknowledged process is the sender, or the father of a busy process
 pub acknowledged-in : {w : Waits} {s : ℕ} {r : Run} {a b : ℕ} {m : Message} {t : Turn} {o i : ℕ} → Diffuses w s r → IsProcess (w .n) a → IsProcess (w .n) b
-    → Effect (eqb b s) m o i a (r .process b) t → (p : ℕ) (c : ℤ) → t .reply ≡ To p c → IsProcess (w .n) p
+    → Effect (eqb b s) m o i a (r .process b) t → (p : ℕ) (c : TwoCounts) → t .reply ≡ To p c → IsProcess (w .n) p
 acknowledged-in {w} {s} {r} {a} {b} df pa pb ef p c e =
     ⊎-elim (λ f. rw f pa) (λ f. rw (f .2) (df .father-in b pb (eqb-false b s (f .0)) (f .1))) (ef .replies p c e)
 

@@ -6,6 +6,7 @@
 use Prim.Native.Nat.{ℕ, zero, suc, _+_, _≤_}
 use mathlib.Core.Bool.{Bool, true, false, false≢true}
 use mathlib.Core.List.{List, []}
+use mathlib.Core.Logic.{_↔_}
 use mathlib.Core.Path.{_≡_, refl, sym, ap, _∙_, subst}
 use native.Mathlib.Omega.{arith}
 use lib.Dec.{eqb}
@@ -20,7 +21,6 @@ use Rattle.tables.specs.Table.{IsProcess}
 use Rattle.machine.specs.Machine as Machines
 use Rattle.machine.specs.Calls.{fixedOrder}
 use Rattle.machine.specs.Lists.{Call, Passed}
-use Rattle.machine.specs.Weights.{sumOf}
 use Rattle.machine.specs.ChooserLaws.{fixedOrder-finds}
 use Rattle.machine.specs.Made.{PassMade}
 use Rattle.machine.specs.MadeLaws.{made-waits, made-start, made-edition, made-count, answered-listed}
@@ -30,15 +30,15 @@ use Rattle.checks.specs.declared.Verdict.the-variants.{Knot, Free}
 use Rattle.checks.specs.declared.Mark.the-variants.{Returned, Held}
 use Rattle.checks.specs.declared.Report.{Report}
 use Rattle.checks.specs.Run.{Run, IsEdition, knot, over, startRun}
-use Rattle.checks.specs.AnswerLaws.{markOf-chosen}
-use Rattle.checks.specs.Calls.{escapeOf, isZero, verdictOf, reported, report}
-use Rattle.checks.specs.Reach.{allReachBack, inKnot, outsider, outsiders, lowestOutsider, dOf}
-use Rattle.checks.specs.Lists.{endSum, Ended, Promise}
+use Rattle.checks.specs.Calls.{escapeOf, isZero, verdictOf, markOf, reported, report}
+use Rattle.checks.specs.Reach.{allReachBack, inKnot, outsider, outsiders, lowestOutsider, allWait, sinks, dOf}
+use Rattle.checks.specs.Lists.{atStart, Ended, Promise}
 use Rattle.checks.specs.Lists
-use Rattle.ending.specs.Invariants.{Holds}
+use Rattle.ending.specs.Weights.{Tally, subordinates, waitless, sumIn, worthOf}
+use Rattle.ending.specs.Invariants.{Summed, Holds}
 use Rattle.ending.specs.CountingLaws.{link-short}
-use Rattle.ending.specs.SpreadEndLaws.{sends-most, succ-end, prec-end, sub-end, sends-end, outsiders-sum, knot-end}
-use Rattle.ending.specs.SumBoundLaws.{cs-end}
+use Rattle.ending.specs.SpreadEndLaws.{sends-most, succ-end, prec-end, sub-end, sends-end, outsiders-sum, sinks-sum, knot-end, wait-end}
+use Rattle.ending.specs.SumBoundLaws.{Few, subordinates-few, waitless-few, sum-end}
 use Rattle.ending.specs.HoldsLaws.{holds-start, holds-formed, holds-count, holds-upheld}
 
 -- ---- D
@@ -62,26 +62,46 @@ module _ (r : Run) (h : Holds r) where
 
 -- ---- the end
 
--- the sum by the number outside
-none-outside : (w : Waits) (s : ℕ) → isZero (pos (outsiders w s)) ≡ allReachBack w s
-none-outside w s = at (tested (allReachBack w s)) (outsiders w s) refl
-  where
-    at : Tested (allReachBack w s) → (k : ℕ) → outsiders w s ≡ k → isZero (pos (outsiders w s)) ≡ allReachBack w s
-    at (passed e) k q = rw (e, knot-end w s .0 e)
-    at (failed e) zero q = absurd (false≢true (sym e ∙ knot-end w s .1 q))
-    at (failed e) (suc k) q = rw (e, q)
+-- a test that says whether a number is 0
+zero-test : (k : ℕ) (b : Bool) → (b ≡ true) ↔ (k ≡ 0) → isZero (pos k) ≡ b
+zero-test zero true h = refl
+zero-test zero false h = absurd (false≢true (h .1 refl))
+zero-test (suc k) true h = absurd (omega (arith, h .0 refl))
+zero-test (suc k) false h = refl
 
 module _ (r : Run) (h : Holds r) (o : over r ≡ true) where
   gone : (a b : ℕ) → IsProcess (r .waits .n) a → IsProcess (r .waits .n) b → r .link a b ≡ []
   gone = upheld-empty holds-upheld r h o
 
-  sums :
-      (r .process (r .start) .cs ≡ pos (sumOf (r .waits .n) (λ x. x .subordinate) r)) ×
-      ((i : ℕ) → IsProcess (r .waits .n) i → (i ≡ r .start → ⊥) → r .process i .cs ≡ pos 0)
-  sums = cs-end (h .sound) (h .tidy) (h .summed) (upheld-rest holds-upheld r h o) gone
+  -- either sum: what all processes add at the start, and 0 elsewhere
+  module _ (τ : Tally) (few : Few τ (r .waits) r) (summed : Summed (r .waits) (r .start) τ r) (v : ℕ) (is : worthOf τ (r .waits) r ≡ v) where
+    sums :
+        (sumIn τ (r .process (r .start)) ≡ pos (worthOf τ (r .waits) r)) ×
+        ((i : ℕ) → IsProcess (r .waits .n) i → (i ≡ r .start → ⊥) → sumIn τ (r .process i) ≡ pos 0)
+    sums = sum-end (h .sound) τ few summed (h .tidy .start-in) (upheld-rest holds-upheld r h o) gone
+
+    own-sum : sumIn τ (r .process (r .start)) ≡ pos v
+    own-sum = sums .0 ∙ ap pos is
+
+    end-sum : (p : ℕ) → IsProcess (r .waits .n) p → sumIn τ (r .process p) ≡ pos (atStart (r .start) v p)
+    unfolding atStart
+    end-sum p i = at (same? p (r .start))
+      where
+        at : Same p (r .start) → sumIn τ (r .process p) ≡ pos (choose (eqb p (r .start)) v 0)
+        at (same e f) = rw (f, e) own-sum
+        at (apart e f) = rw f (sums .1 p i e)
+
+  outside-end : worthOf (subordinates (r .start)) (r .waits) r ≡ outsiders (r .waits) (r .start)
+  outside-end = outsiders-sum (h .sound) (h .tidy) (h .spread) gone
+
+  sinks-end : worthOf (waitless (r .waits)) (r .waits) r ≡ sinks (r .waits) (r .start)
+  sinks-end = sinks-sum (h .sound) (h .tidy) (h .spread) gone
 
   start-sum : r .process (r .start) .cs ≡ pos (outsiders (r .waits) (r .start))
-  start-sum = sums .0 ∙ ap pos (outsiders-sum (h .sound) (h .tidy) (h .spread) gone)
+  start-sum = own-sum (subordinates (r .start)) (subordinates-few (h .tidy)) (h .summed) (outsiders (r .waits) (r .start)) outside-end
+
+  start-second : r .process (r .start) .second ≡ pos (sinks (r .waits) (r .start))
+  start-second = own-sum (waitless (r .waits)) (waitless-few (h .tidy)) (h .seconds) (sinks (r .waits) (r .start)) sinks-end
 
   subs : (p : ℕ) → IsProcess (r .waits .n) p → r .process p .subordinate ≡ bit (outsider (r .waits) (r .start) p)
   subs = sub-end (h .sound) (h .tidy) (h .spread) gone
@@ -97,21 +117,18 @@ module _ (r : Run) (h : Holds r) (o : over r ≡ true) where
   -- 02, N4: the verdict by the edition
   verdict-end : verdictOf r ≡ choose inAKnot Knot Free
   unfolding verdictOf inKnot
-  verdict-end = rw (start-sum, none-outside (r .waits) (r .start))
+  verdict-end =
+      rw (start-sum, zero-test (outsiders (r .waits) (r .start)) (allReachBack (r .waits) (r .start)) (knot-end (r .waits) (r .start)))
+
+  -- 02, N3: the mark by the second sum
+  mark-end : markOf (r .process (r .start)) ≡ choose (allWait (r .waits) (r .start)) Returned Held
+  mark-end = rw (start-second, zero-test (sinks (r .waits) (r .start)) (allWait (r .waits) (r .start)) (wait-end (r .waits) (r .start)))
 
   reports : report r
       ≡ Report.Over (dOf (r .waits) (r .start)) (choose inAKnot Knot Free) (pos (outsiders (r .waits) (r .start)))
-      (lowestOutsider (r .waits) (r .start)) (choose inAKnot Returned Held)
+      (lowestOutsider (r .waits) (r .start)) (choose (allWait (r .waits) (r .start)) Returned Held)
   unfolding report reported
-  reports = rw (holds-formed r h, o, verdict-end, escape-end, start-sum, at-d r h o, markOf-chosen inAKnot)
-
-  process-cs : (p : ℕ) → IsProcess (r .waits .n) p → r .process p .cs ≡ pos (endSum (r .waits) (r .start) p)
-  unfolding endSum
-  process-cs p i = at (same? p (r .start))
-    where
-      at : Same p (r .start) → r .process p .cs ≡ pos (choose (eqb p (r .start)) (outsiders (r .waits) (r .start)) 0)
-      at (same e f) = rw (f, e) start-sum
-      at (apart e f) = rw f (sums .1 p i e)
+  reports = rw (holds-formed r h, o, verdict-end, escape-end, mark-end, start-sum, at-d r h o)
 
   ended : Ended (r .waits) (r .start) (r .edition) r
   ended =
@@ -122,7 +139,8 @@ module _ (r : Run) (h : Holds r) (o : over r ≡ true) where
         preceding = prec-end (h .sound) (h .tidy) (h .spread) gone;
         subordinate = subs;
         num = upheld-rest holds-upheld r h o;
-        cs = process-cs;
+        cs = end-sum (subordinates (r .start)) (subordinates-few (h .tidy)) (h .summed) (outsiders (r .waits) (r .start)) outside-end;
+        second = end-sum (waitless (r .waits)) (waitless-few (h .tidy)) (h .seconds) (sinks (r .waits) (r .start)) sinks-end;
       }
 
 -- ---- the theorem

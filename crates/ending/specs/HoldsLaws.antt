@@ -14,7 +14,6 @@ use mathlib.Core.Logic.{⊎-elim}
 use native.Mathlib.Omega.{arith}
 use borrow.Author.Tests.{eqb-true, le-leb, eq-eqb}
 use lib.Dec.{eqb}
-use lib.IntN.{ℤ}
 use lib.ListN.{length}
 use Rattle.base.specs.Choice.{choose, bit}
 use Rattle.base.specs.ChoiceLaws.{and-both, and-left, or-left, or-right, same?, tested}
@@ -36,9 +35,10 @@ use Rattle.machine.specs.Upheld.{Upheld}
 use Rattle.steps.specs.declared.Message.{Message}
 use Rattle.steps.specs.declared.Message.the-variants.{Suc, Pre, Ack}
 use Rattle.steps.specs.declared.Process.{Process}
+use Rattle.steps.specs.declared.TwoCounts.{TwoCounts}
 use Rattle.steps.specs.declared.Reply.{Reply}
 use Rattle.steps.specs.declared.Reply.the-variants.{To}
-use Rattle.steps.specs.Step.{mostNum, inRange, small, countSmall, numSuffices, replyFits, fitting, newSubordinate}
+use Rattle.steps.specs.Step.{mostNum, inRange, bothSmall, countSmall, numSuffices, replyFits, fitting, newSubordinate}
 use Rattle.steps.specs.Effect.{isProbe, Effect}
 use Rattle.checks.specs.declared.Report.{Report}
 use Rattle.checks.specs.declared.Reading.{Reading}
@@ -49,14 +49,14 @@ use Rattle.checks.specs.Calls.{report, reported, readRecord, reportNumber, read
 use Rattle.checks.specs.Lists.{asked}
 use Rattle.checks.specs.Reach.{dOf}
 use Rattle.checks.specs.RunLaws.{isEdition-P, turnAt-effect}
-use Rattle.ending.specs.Weights.{quota, Diffuses}
+use Rattle.ending.specs.Weights.{quota, subordinates, waitless, Diffuses}
 use Rattle.ending.specs.Invariants.{Holds}
 use Rattle.ending.specs.CountingLaws.{quota-near, knot-begins, effect-counted, acknowledged-in, worked-start, worked-kept, link-short, num-small}
 use Rattle.ending.specs.TidyLaws.{tidy-start, tidy-kept}
 use Rattle.ending.specs.SpreadingLaws.{spread-start, spread-kept}
 use Rattle.ending.specs.SpreadEndLaws.{sends-most, dOf-most}
-use Rattle.ending.specs.SummedLaws.{summed-start, summed-kept}
-use Rattle.ending.specs.SumBoundLaws.{cs-small, counts-small}
+use Rattle.ending.specs.SummedLaws.{summed-start, subordinates-begin, waitless-begin, summed-kept, subordinates-tallied}
+use Rattle.ending.specs.SumBoundLaws.{subordinates-few, waitless-few, sum-small, counts-small}
 
 pub holds-start : (w : Waits) (s ed : ℕ) → Sound w → IsProcess (w .n) s → IsEdition ed → Holds (startRun w s ed)
 unfolding Machines.startRun
@@ -69,7 +69,8 @@ holds-start w s ed sd p named =
       worked = worked-start w s ed p;
       treed = treed-start ed (knot-begins w s);
       spread = spread-start ed sd p;
-      summed = summed-start w s ed p;
+      summed = summed-start w s ed (subordinates s) (subordinates-begin w s);
+      seconds = summed-start w s ed (waitless w) (waitless-begin w s);
     }
 
 -- ---- a delivery
@@ -107,7 +108,9 @@ module _ (r : Run) (h : Holds r) (a b : ℕ) (pa : IsProcess (r .waits .n) a) (p
         worked = worked-kept (r .start) pa pb moved effect (h .worked);
         treed = treed-kept (h .diffusing) d (h .treed) pa pb moved (effect-counted (r .waits) (r .start) effect) (effect .father-kept);
         spread = spread-kept (h .sound) (h .tidy) (h .spread) pa pb moved effect;
-        summed = summed-kept (h .tidy) (h .diffusing) (h .summed) pa pb moved effect;
+        summed =
+            summed-kept (h .diffusing) pa pb moved effect (subordinates (r .start)) refl (h .summed) (subordinates-tallied (h .tidy) pb effect);
+        seconds = summed-kept (h .diffusing) pa pb moved effect (waitless (r .waits)) refl (h .seconds) (effect .seconds);
       }
 
 -- ---- well formed
@@ -129,12 +132,13 @@ module _ (r : Run) (h : Holds r) where
   holds-range i p =
       let x : Process = r .process i in
       let sub : x .subordinate ≤ 1 = rw (h .tidy .sub-is i p) (sub-bit (r .process i)) in
-      and-both _ _ (and-both _ _ (and-both _ _ (and-both _ _
+      and-both _ _ (and-both _ _ (and-both _ _ (and-both _ _ (and-both _ _
       (le-leb (x .succeeding) 1 (h .tidy .succ-bit i p))
       (le-leb (x .preceding) 1 (h .tidy .prec-bit i p)))
       (le-leb (x .subordinate) 1 sub))
-      (cs-small (h .sound) (h .tidy) (h .summed) i p))
-      (le-leb (x .num) mostNum (num-small (h .tidy) (h .diffusing) (h .sound) p))
+      (sum-small (h .sound) (subordinates (r .start)) (subordinates-few (h .tidy)) (h .summed) i p))
+      (le-leb (x .num) mostNum (num-small (h .tidy) (h .diffusing) (h .sound) p)))
+      (sum-small (h .sound) (waitless (r .waits)) (waitless-few (h .tidy)) (h .seconds) i p)
 
   father-fits : (i : ℕ) → IsProcess (r .waits .n) i → fatherRight (r .waits) i (r .process i) ≡ true
   unfolding fatherRight
@@ -160,7 +164,7 @@ module _ (r : Run) (h : Holds r) where
         records = λ i p. and-both _ _ (holds-range i p) (father-fits i p);
         short = λ a b pa pb. link-short (h .tidy) (h .diffusing) pa pb;
         joined = λ a b pa pb n. apart-empty a b pa pb n (r .link a b) refl;
-        messages = λ a b pa pb. counts-small (h .sound) (h .tidy) (h .summed) a b pa pb;
+        messages = λ a b pa pb. counts-small (h .sound) (h .tidy) (h .summed) (h .seconds) a b pa pb;
       }
 
   pub holds-formed : wellFormed r ≡ true
@@ -168,14 +172,14 @@ module _ (r : Run) (h : Holds r) where
 
 -- ---- accepted
 
--- an acknowledgement that a step sends stands on a link afterwards, so its count is in range
-reply-small : (before after : List Message) (p : ℕ) (c : ℤ) → countsSmall (before ++ (replyTo (To p c) p ++ after)) ≡ true → small c ≡ true
+-- an acknowledgement that a step sends stands on a link afterwards, so its counts are in range
+reply-small : (before after : List Message) (p : ℕ) (c : TwoCounts) → countsSmall (before ++ (replyTo (To p c) p ++ after)) ≡ true → bothSmall c ≡ true
 unfolding replyTo Machines.allRight countSmall
 reply-small before after p c k = at (same? p p)
   where
-    at : Same p p → small c ≡ true
+    at : Same p p → bothSmall c ≡ true
     at (apart d _) = absurd (d refl)
-    at (same _ e) = and-left (small c) (countsSmall after) (rw e at (allRight-tail countSmall before (replyTo (To p c) p ++ after) k))
+    at (same _ e) = and-left (bothSmall c) (countsSmall after) (rw e at (allRight-tail countSmall before (replyTo (To p c) p ++ after) k))
 
 module _ (r : Run) (h : Holds r) (a b : ℕ) (pa : IsProcess (r .waits .n) a) (pb : IsProcess (r .waits .n) b) (m : Message) (rest : List Message)
     (l : Among m rest (r .link a b)) where
@@ -193,7 +197,7 @@ module _ (r : Run) (h : Holds r) (a b : ℕ) (pa : IsProcess (r .waits .n) a) (p
   reply-fits Reply.Nothing e = refl
   reply-fits (To p c) e =
       let ip : IsProcess (r .waits .n) p = acknowledged-in (h .diffusing) pa pb (effect r h a b pa pb m rest l) p c e in
-      let k : countsSmall (after r a b m rest .link b p) ≡ true = counts-small (next .sound) (next .tidy) (next .summed) b p pb ip in
+      let k : countsSmall (after r a b m rest .link b p) ≡ true = counts-small (next .sound) (next .tidy) (next .summed) (next .seconds) b p pb ip in
       and-both _ _ (le-leb 1 p (ip .0))
       (reply-small (Machines.taken r a b rest b p) (probesTo (r .waits) b (turnAt r a b m .probes) p) p c (rw (eq-eqb b b refl, e) at k))
 

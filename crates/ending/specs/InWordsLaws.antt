@@ -9,6 +9,8 @@ use mathlib.Core.List.{List}
 use mathlib.Core.Path.{_≡_, refl, sym, ap, _∙_}
 use mathlib.Core.Logic.{_↔_}
 use native.Mathlib.Omega.{arith}
+use borrow.Author.Tests.{eq-eqb}
+use lib.IntN.{pos}
 use Rattle.base.specs.Choice.{choose, bit}
 use Rattle.base.specs.Sums.{HowMany, countTo}
 use Rattle.base.specs.SumLaws.{countTo-P}
@@ -21,9 +23,9 @@ use Rattle.machine.specs.Lists.{Call}
 use Rattle.checks.specs.declared.Verdict.the-variants.{Knot, Free}
 use Rattle.checks.specs.declared.Mark.the-variants.{Returned, Held}
 use Rattle.checks.specs.Run.{Run, IsEdition, over, startRun}
-use Rattle.checks.specs.Reach.{Reaches, reaches, inKnot, outsider, outsiders, lowestOutsider, dOf}
-use Rattle.checks.specs.ReachLaws.{reaches-P, inKnot-P, outsider-P, outsiders-P, lowestOutsider-P}
-use Rattle.checks.specs.Lists.{Ended, Promise, passed}
+use Rattle.checks.specs.Reach.{Reaches, reaches, inKnot, outsider, outsiders, lowestOutsider, allWait, sinks, dOf}
+use Rattle.checks.specs.ReachLaws.{reaches-P, inKnot-P, outsider-P, outsiders-P, lowestOutsider-P, allWait-P, sinks-P}
+use Rattle.checks.specs.Lists.{atStart, Ended, Promise, passed}
 use Rattle.checks.specs.InWords.{EndedInWords}
 use Rattle.ending.specs.Demand.{demand-3}
 use Rattle.ending.specs.DemandLaws.{dOf-arcs}
@@ -38,9 +40,9 @@ verdict-P : (b : Bool) {P : Type 0} → (b ≡ true) ↔ P → (choose b Knot Fr
 verdict-P true h = (λ _. h .0 refl, λ _. refl)
 verdict-P false h = (λ e. let z : _≡_ {A = ℕ} 0 1 = cc in absurd (omega arith), λ p. ap (λ (c : Bool). choose c Knot Free) (h .1 p))
 
-mark-P : (b : Bool) → (choose b Returned Held ≡ Returned) ↔ (choose b Knot Free ≡ Knot)
-mark-P true = (λ _. refl, λ _. refl)
-mark-P false = (λ e. let z : _≡_ {A = ℕ} 0 1 = cc in absurd (omega arith), λ e. let z : _≡_ {A = ℕ} 0 1 = cc in absurd (omega arith))
+mark-P : (b : Bool) {P : Type 0} → (b ≡ true) ↔ P → (choose b Returned Held ≡ Returned) ↔ P
+mark-P true h = (λ _. h .0 refl, λ _. refl)
+mark-P false h = (λ e. let z : _≡_ {A = ℕ} 0 1 = cc in absurd (omega arith), λ p. ap (λ (c : Bool). choose c Returned Held) (h .1 p))
 
 module _ (t : Fields) (right : Right t) (s : ℕ) (i : IsProcess (nOf t) s) where
   ok : Sound (waitsOf t)
@@ -62,7 +64,7 @@ module _ (t : Fields) (right : Right t) (s : ℕ) (i : IsProcess (nOf t) s) wher
   )
 
   pub ended-P : (ed : ℕ) (r : Run) → r .count ≡ dOf (waitsOf t) s → Ended (waitsOf t) s ed r → EndedInWords t s ed r
-  unfolding waitsOf
+  unfolding waitsOf atStart
   ended-P ed r c h =
       record {
         onward = onwards;
@@ -73,16 +75,22 @@ module _ (t : Fields) (right : Right t) (s : ℕ) (i : IsProcess (nOf t) s) wher
         outside = outsiders (waitsOf t) s;
         outside-is = outsiders-P (waitsOf t) ok s i;
         verdict = choose (inKnot (waitsOf t) s ed) Knot Free;
-        mark = choose (inKnot (waitsOf t) s ed) Returned Held;
+        mark = choose (allWait (waitsOf t) s) Returned Held;
         escape = lowestOutsider (waitsOf t) s;
         escape-is = lowestOutsider-P (waitsOf t) ok s i;
         reports = rw (dOf-P .2) at (h .reports);
         knot = verdict-P (inKnot (waitsOf t) s ed) (inKnot-P (waitsOf t) ok s i ed);
-        returned = mark-P (inKnot (waitsOf t) s ed);
+        returned = mark-P (allWait (waitsOf t) s) (allWait-P (waitsOf t) ok s i);
+        sinks = sinks (waitsOf t) s;
+        sinks-is = sinks-P (waitsOf t) ok s i;
+        start-second = h .second s i ∙ own;
         succeeding = λ p j. bit-P (r .process p .succeeding) (reaches (waitsOf t) s p) (h .succeeding p j) (reaches-P (waitsOf t) ok s p i);
         preceding = λ p j. bit-P (r .process p .preceding) (reaches (waitsOf t) p s) (h .preceding p j) (reaches-P (waitsOf t) ok p s j);
         subordinate = λ p j. bit-P (r .process p .subordinate) (outsider (waitsOf t) s p) (h .subordinate p j) (outsider-P (waitsOf t) ok s i p j);
       }
+    where
+      own : pos (atStart s (sinks (waitsOf t) s) s) ≡ pos (sinks (waitsOf t) s)
+      own = rw (eq-eqb s s refl)
 
 -- after every list that is over
 pub demand-3-words : (bs : List ℕ) → MeetsLayout bs → (s : ℕ) → IsProcess (nOf (fieldOf bs)) s → (ed : ℕ) → IsEdition ed → (cs : List Call)

@@ -3,13 +3,12 @@
 --   Tidy w s r        == the flags are 0 or 1, subordinate goes by them, the start has both
 --   Worked w r        == every probe sent means two deliveries
 --   Spread w s r      == probes go along the waits or against them, flags are set on reachable and reaching processes alone, and none is forgotten
---   Summed w s r      == all sums and counts together are the subordinates; their negative parts are bounded
+--   Summed w s τ r    == all sums and counts of a tally together are what the processes add; their negative parts are bounded
 --   Holds r           == every invariant of r, for its own waits, start and edition
 -- Assumes nothing.
 use Prim.Native.Nat.{ℕ, _+_, _*_, _≤_}
 use mathlib.Core.Path.{_≡_}
 use lib.IntN.{pos}
-use Rattle.base.specs.Sums.{sumTo}
 use Rattle.base.specs.Parts.{above, below}
 use Rattle.tables.specs.Waits.{Waits}
 use Rattle.tables.specs.Sound.{Sound}
@@ -20,7 +19,7 @@ use Rattle.steps.specs.Step.{newSubordinate}
 use Rattle.steps.specs.Effect.{isSuc, isPre}
 use Rattle.checks.specs.Run.{Run, IsEdition, knot}
 use Rattle.checks.specs.Reach.{Reaches}
-use Rattle.ending.specs.Weights.{sends, aboveOf, belowOf, bothOff, Diffuses}
+use Rattle.ending.specs.Weights.{sends, Tally, subordinates, waitless, sumIn, countIn, worthOf, slackOf, Diffuses}
 use Rattle.ending.specs.Spreading.{Side}
 
 -- the flags of each process, and those of the start
@@ -41,13 +40,13 @@ pub record Spread (w : Waits) (s : ℕ) (r : Run) : Type 0 where
   pub sucs : Side w (λ x. x .succeeding) isSuc (λ i j. w .waits i j) (λ i. Reaches w s i) r
   pub pres : Side w (λ x. x .preceding) isPre (λ i j. w .waits j i) (λ i. Reaches w i s) r
 
--- cs of all processes and counts of all messages, by their parts above and below zero
-pub record Summed (w : Waits) (s : ℕ) (r : Run) : Type 0 where
+-- one sum of all processes and its counts in all messages, by their parts above and below zero
+pub record Summed (w : Waits) (s : ℕ) (τ : Tally) (r : Run) : Type 0 where
   pub balance :
-      sumOf (w .n) (λ x. above (x .cs)) r + total (w .n) aboveOf r ≡
-      sumOf (w .n) (λ x. below (x .cs)) r + total (w .n) belowOf r + sumOf (w .n) (λ x. x .subordinate) r
-  pub at-rest : (j : ℕ) → IsProcess (w .n) j → (j ≡ s → ⊥) → r .process j .num ≡ 0 → r .process j .cs ≡ pos 0
-  pub falls : sumOf (w .n) (λ x. below (x .cs)) r + total (w .n) belowOf r ≤ sumTo (w .n) (λ i. bothOff s i (r .process i))
+      sumOf (w .n) (λ x. above (sumIn τ x)) r + total (w .n) (λ m. above (countIn τ m)) r ≡
+      sumOf (w .n) (λ x. below (sumIn τ x)) r + total (w .n) (λ m. below (countIn τ m)) r + worthOf τ w r
+  pub at-rest : (j : ℕ) → IsProcess (w .n) j → (j ≡ s → ⊥) → r .process j .num ≡ 0 → sumIn τ (r .process j) ≡ pos 0
+  pub falls : sumOf (w .n) (λ x. below (sumIn τ x)) r + total (w .n) (λ m. below (countIn τ m)) r ≤ slackOf τ w r
 
 -- those above, those of any check (Diffuses, Treed), that the waits are sound, and that the edition is one
 pub record Holds (r : Run) : Type 0 where
@@ -58,4 +57,5 @@ pub record Holds (r : Run) : Type 0 where
   pub worked : Worked (r .waits) r
   pub treed : Treed knot (r .waits) (r .start) r
   pub spread : Spread (r .waits) (r .start) r
-  pub summed : Summed (r .waits) (r .start) r
+  pub summed : Summed (r .waits) (r .start) (subordinates (r .start)) r
+  pub seconds : Summed (r .waits) (r .start) (waitless (r .waits)) r

@@ -3,7 +3,7 @@
 --   row-holds       == each of the eight rows holds of the table that the writer makes of its waits, under each edition
 -- Assumes nothing.
 use Prim.Native.Nat.{ℕ}
-use mathlib.Core.Bool.{Bool, true, false, not, false≢true}
+use mathlib.Core.Bool.{Bool, true, false, not, _&&_, false≢true}
 use mathlib.Core.List.{List, _∷_, List·Memᴰ, List·Memᴰ·head, List·Memᴰ·tail}
 use mathlib.Core.Path.{_≡_, refl, sym, ap, _∙_}
 use mathlib.Core.Logic.{⊎-elim}
@@ -26,29 +26,29 @@ use Rattle.machine.specs.Machine as Machines
 use Rattle.machine.specs.Calls.{behind, atPlace, delivered, deliver, lowestReceiver, lowestSender, lowest, deliverOn, runFrom}
 use Rattle.machine.specs.Calls as MachineCalls
 use Rattle.steps.specs.Step.{small, inRange, countSmall, rule1, setSucceeding, setPreceding, newSubordinate, gained, rule3, rule4, acknowledged, turn}
-use Rattle.steps.specs.Step.{startTurn, numSuffices, replyFits, fitting}
+use Rattle.steps.specs.Step.{bothSmall, ownCount, startTurn, numSuffices, replyFits, fitting}
 use Rattle.checks.specs.declared.Verdict.{Verdict}
 use Rattle.checks.specs.declared.Verdict.the-variants.{Knot, Free}
 use Rattle.checks.specs.declared.Mark.{Mark}
 use Rattle.checks.specs.declared.Mark.the-variants.{Returned, Held}
 use Rattle.checks.specs.declared.Report.{Report}
 use Rattle.checks.specs.Run.{Run, IsEdition, isEdition, over, fatherRight, wellFormed, started, turnOf, replyTo, probesTo, sentTo}
-use Rattle.checks.specs.AnswerLaws.{markOf-chosen}
-use Rattle.checks.specs.Calls.{escapeOf, verdictOf, reported, report}
+use Rattle.checks.specs.Calls.{escapeOf, verdictOf, markOf, reported, report}
 use Rattle.checks.specs.Reach.{within, reaches, reachesByArcs, someByArcs, allReachBack, editionAllows, inKnot, outsider, outsiders, lowestOutsider, dOf}
+use Rattle.checks.specs.Reach.{waitsForSome, allWait}
 use Rattle.ending.specs.Rows.{PRow, rows, waitsFrom, tableSize, tableFrom, knotUnder, ranFrom, RowOfTable}
-use Rattle.ending.specs.RowTests.{agree, isKnot, isAt, defined, overAfter, reports, runs, writable, holdsUnder, holds, all}
+use Rattle.ending.specs.RowTests.{agree, isKnot, isReturned, isAt, defined, overAfter, reports, runs, writable, holdsUnder, holds, all}
 
 -- ---- the eight rows
 
 rows-hold : all holds rows ≡ true
-unfolding all rows holds holdsUnder waitsFrom givenWaits given end writable writeNumber endsFit isProcess unlike agree isKnot isAt defined overAfter reports
-    runs dOf inKnot allReachBack editionAllows someByArcs reachesByArcs outsiders lowestOutsider outsider reaches within
+unfolding all rows holds holdsUnder waitsFrom givenWaits given end writable writeNumber endsFit isProcess unlike agree isKnot isReturned isAt defined overAfter
+    reports runs dOf inKnot allReachBack editionAllows someByArcs reachesByArcs outsiders lowestOutsider outsider allWait waitsForSome reaches within
     sumTo countTo allTo anyTo lowestTo outDegree inDegree neighbours
     MachineCalls.runOn runFrom deliverOn lowest lowestSender lowestReceiver behind atPlace deliver delivered report reported verdictOf escapeOf isEdition
     Machines.over Machines.wellFormed fatherRight Machines.linkRight allRight Machines.startRun started Machines.after Machines.accepts Machines.taken
     sentTo probesTo replyTo turnOf turn startTurn rule1 setSucceeding setPreceding newSubordinate gained rule3 rule4
-    acknowledged fitting numSuffices replyFits inRange small countSmall
+    acknowledged ownCount fitting numSuffices replyFits inRange bothSmall small countSmall
 rows-hold = refl
 
 -- ---- from tests to equations
@@ -56,8 +56,8 @@ rows-hold = refl
 abbrev verdict : ℕ → PRow → Verdict
 verdict ed x = choose (knotUnder ed x) Knot Free
 
-abbrev mark : ℕ → PRow → Mark
-mark ed x = choose (knotUnder ed x) Returned Held
+abbrev mark : PRow → Mark
+mark x = choose (x .returned) Returned Held
 
 all-at : (p : PRow → Bool) (xs : List PRow) → all p xs ≡ true → (x : PRow) → List·Memᴰ x xs → p x ≡ true
 unfolding all
@@ -78,6 +78,13 @@ verdict-P Knot false h = absurd (false≢true h)
 verdict-P Free true h = absurd (false≢true h)
 verdict-P Free false h = refl
 
+mark-P : (m : Mark) (b : Bool) → agree (isReturned m) b ≡ true → m ≡ choose b Returned Held
+unfolding agree isReturned
+mark-P Returned true h = refl
+mark-P Returned false h = absurd (false≢true h)
+mark-P Held true h = absurd (false≢true h)
+mark-P Held false h = refl
+
 isAt-P : (z : ℤ) (k : ℕ) → isAt z k ≡ true → z ≡ pos k
 unfolding isAt
 isAt-P (pos n) k h = ap pos (eqb-true n k h)
@@ -91,7 +98,7 @@ overAfter-P d (Ran.Refused n made) h = absurd (false≢true h)
 
 -- the report of a row
 abbrev due : ℕ → PRow → Report
-due ed x = Report.Over (x .d) (verdict ed x) (pos (x .outside)) (lowestOutsider (waitsFrom x) 1) (mark ed x)
+due ed x = Report.Over (x .d) (verdict ed x) (pos (x .outside)) (lowestOutsider (waitsFrom x) 1) (mark x)
 
 reports-P : (ed : ℕ) (x : PRow) (r : Run) → reports ed x (report r) ≡ true → report r ≡ due ed x
 unfolding report reported reports
@@ -103,15 +110,22 @@ reports-P ed x r h = at (tested (wellFormed r)) (tested (over r))
     escape : Bool
     escape = eqb (escapeOf r) (lowestOutsider (waitsFrom x) 1)
 
-    same : (eqb (r .count) (x .d) ≡ true) × (agree (isKnot (verdictOf r)) (knotUnder ed x) ≡ true) × (isAt cs (x .outside) ≡ true) × (escape ≡ true)
-        → reported r ≡ due ed x
-    same t =
+    -- the four tests before the mark's
+    first : Bool
+    first = eqb (r .count) (x .d) && agree (isKnot (verdictOf r)) (knotUnder ed x) && isAt cs (x .outside) && escape
+
+    marked : Mark
+    marked = markOf (r .process (r .start))
+
+    same : first ≡ true → agree (isReturned marked) (x .returned) ≡ true → reported r ≡ due ed x
+    same f m =
+        let t = and-four (eqb (r .count) (x .d)) (agree (isKnot (verdictOf r)) (knotUnder ed x)) (isAt cs (x .outside)) escape f in
         cc (
           eqb-true (r .count) (x .d) (t .0),
           verdict-P (verdictOf r) (knotUnder ed x) (t .1),
           isAt-P cs (x .outside) (t .2),
           eqb-true (escapeOf r) (lowestOutsider (waitsFrom x) 1) (t .3),
-          markOf-chosen (knotUnder ed x),
+          mark-P marked (x .returned) m,
         )
 
     at : Tested (wellFormed r) → Tested (over r)
@@ -119,8 +133,8 @@ reports-P ed x r h = at (tested (wellFormed r)) (tested (over r))
     at (failed f) _ = absurd (false≢true (rw f at h))
     at (passed f) (failed g) = absurd (false≢true (rw (f, g) at h))
     at (passed f) (passed g) =
-        rw (f, g)
-        (same (and-four (eqb (r .count) (x .d)) (agree (isKnot (verdictOf r)) (knotUnder ed x)) (isAt cs (x .outside)) escape (rw (f, g) at h)))
+        let k : (first && agree (isReturned marked) (x .returned)) ≡ true = rw (f, g) at h in
+        rw (f, g) (same (and-left first (agree (isReturned marked) (x .returned)) k) (and-right first (agree (isReturned marked) (x .returned)) k))
 
 -- ---- each row
 
@@ -129,6 +143,7 @@ record Tests (x : PRow) (ed : ℕ) : Type 0 where
   d : dOf (waitsFrom x) 1 ≡ x .d
   knot : inKnot (waitsFrom x) 1 ed ≡ knotUnder ed x
   outside : outsiders (waitsFrom x) 1 ≡ x .outside
+  returned : allWait (waitsFrom x) 1 ≡ x .returned
   over : ranFrom (waitsFrom x) ed .answer ≡ Ran.Over (x .d)
   reported : report (ranFrom (waitsFrom x) ed .run) ≡ due ed x
   write : writeNumber (x .n) (x .waits) (tableSize x) ≡ 0
@@ -149,12 +164,13 @@ tests-of x ed h =
     let ran : Bool = overAfter (x .d) (ranFrom (waitsFrom x) ed .answer) in
     let told : Bool = reports ed x (report (ranFrom (waitsFrom x) ed .run)) in
     let t =
-    and-three (eqb (dOf (waitsFrom x) 1) (x .d)) (agree (inKnot (waitsFrom x) 1 ed) (knotUnder ed x)) (eqb (outsiders (waitsFrom x) 1) (x .outside))
-    (all3 .0) in
+    and-four (eqb (dOf (waitsFrom x) 1) (x .d)) (agree (inKnot (waitsFrom x) 1 ed) (knotUnder ed x)) (eqb (outsiders (waitsFrom x) 1) (x .outside))
+    (agree (allWait (waitsFrom x) 1) (x .returned)) (all3 .0) in
     record {
       d = eqb-true _ _ (t .0);
       knot = agree-P _ _ (t .1);
       outside = eqb-true _ _ (t .2);
+      returned = agree-P _ _ (t .3);
       over = overAfter-P (x .d) (ranFrom (waitsFrom x) ed .answer) (and-left ran told (all3 .1));
       reported = reports-P ed x (ranFrom (waitsFrom x) ed .run) (and-right ran told (all3 .1));
       write = eqb-true _ _ (all3 .2);
@@ -174,8 +190,9 @@ row-holds x m ed named =
       d = ap (λ (v : Waits). dOf v 1) w ∙ t .d;
       knot = ap (λ (v : Waits). inKnot v 1 ed) w ∙ t .knot;
       outside = ap (λ (v : Waits). outsiders v 1) w ∙ t .outside;
+      returned = ap (λ (v : Waits). allWait v 1) w ∙ t .returned;
       over = ap (λ (v : Waits). ranFrom v ed .answer) w ∙ t .over;
       reported =
           ap (λ (v : Waits). report (ranFrom v ed .run)) w ∙ t .reported ∙
-          ap (λ (v : Waits). Report.Over (x .d) (verdict ed x) (pos (x .outside)) (lowestOutsider v 1) (mark ed x)) (sym w);
+          ap (λ (v : Waits). Report.Over (x .d) (verdict ed x) (pos (x .outside)) (lowestOutsider v 1) (mark x)) (sym w);
     }

@@ -1,6 +1,7 @@
--- The eight rows marked P of 01, "Checks at the start from process 1 (P = to be proved)", under both editions (02, N4). RowLaws proves them
--- together: row-holds says that each row of the list holds of the table that the writer makes of its waits, under each edition.
---   PRow            == a row: N, waits, D, verdict (knot or not) under the first and the second edition, outside
+-- The eight rows marked P of 01, "Checks at the start from process 1 (P = to be proved)", under both editions (02, N4) and with their marks
+-- (02, N3). RowLaws proves them together: row-holds says that each row of the list holds of the table that the writer makes of its waits,
+-- under each edition.
+--   PRow            == a row: N, waits, D, verdict (knot or not) under the first and the second edition, outside, mark (returned or not)
 --   rows            == the eight rows
 --   waitsFrom x, tableFrom x   == the waits of a row, and the table that the writer makes of its list
 --   knotUnder ed x  == the row's verdict under an edition
@@ -28,12 +29,13 @@ use Rattle.checks.specs.declared.Mark.the-variants.{Returned, Held}
 use Rattle.checks.specs.declared.Report.{Report}
 use Rattle.checks.specs.Run.{mostDeliveries, startRun}
 use Rattle.checks.specs.Calls.{runOn, report}
-use Rattle.checks.specs.Reach.{inKnot, outsiders, lowestOutsider, dOf}
+use Rattle.checks.specs.Reach.{inKnot, outsiders, lowestOutsider, allWait, dOf}
 
 -- ---- the table
 
 -- "N | waits | D | verdict | outside"; the waits as the writer takes them, from and to by turns. second is the verdict under the second edition:
--- "Under 2 the rows "none" and "2-1" of 01 give verdict none with outside 0; the row "1-1" stays a knot." (02, N4)
+-- "Under 2 the rows "none" and "2-1" of 01 give verdict none with outside 0; the row "1-1" stays a knot." (02, N4). returned is the mark: "Waits
+-- 1-2, 2-3, 3-2 are marked held, yet payment 1 can never be funded" no more (02, N3)
 pub record PRow : Type 0 where
   pub n : ℕ
   pub waits : List ℕ
@@ -41,17 +43,18 @@ pub record PRow : Type 0 where
   pub knot : Bool
   pub second : Bool
   pub outside : ℕ
+  pub returned : Bool
 
 unfoldable pub rows : List PRow
 rows =
-    record { n = 1; waits = []; d = 0; knot = true; second = false; outside = 0 } ∷
-    record { n = 1; waits = 1 ∷ 1 ∷ []; d = 4; knot = true; second = true; outside = 0 } ∷
-    record { n = 2; waits = 1 ∷ 2 ∷ []; d = 2; knot = false; second = false; outside = 1 } ∷
-    record { n = 2; waits = 2 ∷ 1 ∷ []; d = 2; knot = true; second = false; outside = 0 } ∷
-    record { n = 2; waits = 1 ∷ 2 ∷ 2 ∷ 1 ∷ []; d = 8; knot = true; second = true; outside = 0 } ∷
-    record { n = 3; waits = 1 ∷ 2 ∷ 2 ∷ 3 ∷ 3 ∷ 1 ∷ []; d = 12; knot = true; second = true; outside = 0 } ∷
-    record { n = 3; waits = 1 ∷ 2 ∷ 2 ∷ 1 ∷ 2 ∷ 3 ∷ []; d = 10; knot = false; second = false; outside = 1 } ∷
-    record { n = 3; waits = 1 ∷ 2 ∷ 2 ∷ 3 ∷ 3 ∷ 2 ∷ []; d = 6; knot = false; second = false; outside = 2 } ∷ []
+    record { n = 1; waits = []; d = 0; knot = true; second = false; outside = 0; returned = false } ∷
+    record { n = 1; waits = 1 ∷ 1 ∷ []; d = 4; knot = true; second = true; outside = 0; returned = true } ∷
+    record { n = 2; waits = 1 ∷ 2 ∷ []; d = 2; knot = false; second = false; outside = 1; returned = false } ∷
+    record { n = 2; waits = 2 ∷ 1 ∷ []; d = 2; knot = true; second = false; outside = 0; returned = false } ∷
+    record { n = 2; waits = 1 ∷ 2 ∷ 2 ∷ 1 ∷ []; d = 8; knot = true; second = true; outside = 0; returned = true } ∷
+    record { n = 3; waits = 1 ∷ 2 ∷ 2 ∷ 3 ∷ 3 ∷ 1 ∷ []; d = 12; knot = true; second = true; outside = 0; returned = true } ∷
+    record { n = 3; waits = 1 ∷ 2 ∷ 2 ∷ 1 ∷ 2 ∷ 3 ∷ []; d = 10; knot = false; second = false; outside = 1; returned = false } ∷
+    record { n = 3; waits = 1 ∷ 2 ∷ 2 ∷ 3 ∷ 3 ∷ 2 ∷ []; d = 6; knot = false; second = false; outside = 2; returned = true } ∷ []
 
 -- the waits of a row, and its table: what the writer makes of N and the list
 unfoldable pub waitsFrom : PRow → Waits
@@ -73,7 +76,7 @@ ranFrom w ed = runOn mostDeliveries (startRun w 1 ed)
 
 -- ---- a row of an accepted table
 
--- the bytes are a table with the row's waits, and D, verdict and outside are the row's, by the definitions and by running the check, which
+-- the bytes are a table with the row's waits, and D, verdict, outside and mark are the row's, by the definitions and by running the check, which
 -- names as escape whom the definition names
 pub record RowOfTable (x : PRow) (ed : ℕ) (bs : List ℕ) : Type 0 where
   pub accepted : MeetsLayout bs
@@ -81,7 +84,8 @@ pub record RowOfTable (x : PRow) (ed : ℕ) (bs : List ℕ) : Type 0 where
   pub d : dOf (waitsOf (fieldOf bs)) 1 ≡ x .d
   pub knot : inKnot (waitsOf (fieldOf bs)) 1 ed ≡ knotUnder ed x
   pub outside : outsiders (waitsOf (fieldOf bs)) 1 ≡ x .outside
+  pub returned : allWait (waitsOf (fieldOf bs)) 1 ≡ x .returned
   pub over : ranFrom (waitsOf (fieldOf bs)) ed .answer ≡ Ran.Over (x .d)
   pub reported : report (ranFrom (waitsOf (fieldOf bs)) ed .run)
       ≡ Report.Over (x .d) (choose (knotUnder ed x) Knot Free) (pos (x .outside)) (lowestOutsider (waitsOf (fieldOf bs)) 1)
-      (choose (knotUnder ed x) Returned Held)
+      (choose (x .returned) Returned Held)

@@ -1,12 +1,12 @@
 -- The flags where nothing waits, and the number of probes: what `Spread` says of the end.
 --   succ-most, prec-most   == at any time the flags are set on reachable and on reaching processes alone
 --   succ-end, prec-end, sub-end   == then the flags say who is reachable, who reaches the start, and who is an outsider
---   outsiders-sum       == and as many are subordinate as there are outsiders
+--   outsiders-sum, sinks-sum   == and as many are subordinate as there are outsiders, as many succeeding that wait for nobody as sinks
 --   dOf-sum             == D, by processes
 --   sends-most          == twice the probes sent are at most D
 --   sends-end           == and D where nothing waits
 --   dOf-most            == D is at most 2048
---   knot-end            == a knot is a start with no outsider
+--   knot-end, wait-end  == all reach back exactly if there is no outsider, and all wait for somebody exactly if there is no sink
 -- Assumes nothing.
 use Prim.Native.Nat.{ℕ, _+_, _*_, _≤_}
 use mathlib.Core.Bool.{Bool, true, false, not, _&&_, _||_, false≢true, and-true, and-false}
@@ -16,19 +16,19 @@ use native.Mathlib.Nat.{eq-zero-or-pos, add-le-add, mul-le-mul-left, mul-le-mul-
 use native.Mathlib.Omega.{arith}
 use lib.Dec.{eqb}
 use Rattle.base.specs.Choice.{choose, bit}
-use Rattle.base.specs.Sums.{sumTo, countTo}
+use Rattle.base.specs.Sums.{sumTo, countTo, allTo}
 use Rattle.base.specs.SumLaws.{sumTo-cong, sumTo-add, sumTo-le, sumTo-zero, sumTo-parts, sumTo-swap, allTo-at, allTo-of}
 use Rattle.tables.specs.Waits.{Waits, outDegree, inDegree}
 use Rattle.tables.specs.Sound.{Sound, arcCount}
 use Rattle.tables.specs.Table.{IsProcess}
-use Rattle.machine.specs.Weights.{weight, sumOf}
+use Rattle.machine.specs.Weights.{weight}
 use Rattle.steps.specs.declared.Message.{Message}
 use Rattle.steps.specs.declared.Process.{Process}
-use Rattle.steps.specs.Step.{newSubordinate}
+use Rattle.steps.specs.Step.{ownCount, newSubordinate}
 use Rattle.checks.specs.Run.{Run, mostDeliveries}
-use Rattle.checks.specs.Reach.{reaches, allReachBack, outsider, outsiders, dOf}
-use Rattle.checks.specs.ReachLaws.{from-in, to-in, reaches-forward, reaches-backward, reaches-P}
-use Rattle.ending.specs.Weights.{sends}
+use Rattle.checks.specs.Reach.{reaches, allReachBack, outsider, outsiders, waitsForSome, allWait, sink, sinks, dOf}
+use Rattle.checks.specs.ReachLaws.{from-in, to-in, reaches-forward, reaches-backward, reaches-P, waitsForSome-own}
+use Rattle.ending.specs.Weights.{sends, subordinates, waitless, worthOf}
 use Rattle.ending.specs.Spreading.{Side, NoneWaits}
 use Rattle.ending.specs.Invariants.{Tidy, Spread}
 
@@ -78,9 +78,21 @@ module _ {w : Waits} {s : ℕ} {r : Run} (ok : Sound w) (td : Tidy w s r) (sp : 
       at false true = refl
       at false false = refl
 
-  pub outsiders-sum : NoneWaits w r → sumOf (w .n) (λ x. x .subordinate) r ≡ outsiders w s
-  unfolding sumOf outsiders countTo
+  -- what each sum has counted at the end
+  pub outsiders-sum : NoneWaits w r → worthOf (subordinates s) w r ≡ outsiders w s
+  unfolding worthOf outsiders countTo
   outsiders-sum none = sumTo-cong (w .n) (λ i. r .process i .subordinate) (λ i. bit (outsider w s i)) (λ i l u. sub-end none i (l, u))
+
+  pub sinks-sum : NoneWaits w r → worthOf (waitless w) w r ≡ sinks w s
+  unfolding worthOf sinks sink countTo
+  sinks-sum none =
+      sumTo-cong (w .n) (λ i. r .process i .succeeding * ownCount (outDegree w i)) (λ i. bit (reaches w s i && not (waitsForSome w i)))
+      (λ i l u. rw (succ-end none i (l, u), waitsForSome-own w i) (at (reaches w s i) (waitsForSome w i)))
+    where
+      at : (x y : Bool) → bit x * bit (not y) ≡ bit (x && not y)
+      at true true = refl
+      at true false = refl
+      at false y = omega arith
 
 -- ---- the number of probes
 
@@ -144,11 +156,12 @@ module _ {w : Waits} {s : ℕ} {r : Run} (ok : Sound w) (td : Tidy w s r) (sp : 
 
 -- ---- knots
 
-pub knot-end : (w : Waits) (s : ℕ) → (allReachBack w s ≡ true) ↔ (outsiders w s ≡ 0)
-unfolding allReachBack outsiders outsider countTo
-knot-end w s = (
-  λ k. sumTo-zero (w .n) _ (λ p l u. none (reaches w s p) (reaches w p s) (allTo-at (w .n) (λ p. not (reaches w s p) || reaches w p s) k p l u)),
-  λ z. allTo-of (w .n) _ (λ p l u. all (reaches w s p) (reaches w p s) (sumTo-parts (w .n) (λ p. bit (reaches w s p && not (reaches w p s))) z p l u)),
+-- all that pass one test pass another, exactly if those that do not are none
+all-none : (n : ℕ) (f g : ℕ → Bool) → (allTo n (λ p. not (f p) || g p) ≡ true) ↔ (countTo n (λ p. f p && not (g p)) ≡ 0)
+unfolding countTo
+all-none n f g = (
+  λ k. sumTo-zero n _ (λ p l u. none (f p) (g p) (allTo-at n (λ p. not (f p) || g p) k p l u)),
+  λ z. allTo-of n _ (λ p l u. all (f p) (g p) (sumTo-parts n (λ p. bit (f p && not (g p))) z p l u)),
 )
   where
     none : (x y : Bool) → (not x || y) ≡ true → bit (x && not y) ≡ 0
@@ -160,3 +173,12 @@ knot-end w s = (
     all true true e = refl
     all true false e = absurd (omega arith)
     all false y e = refl
+
+pub knot-end : (w : Waits) (s : ℕ) → (allReachBack w s ≡ true) ↔ (outsiders w s ≡ 0)
+unfolding allReachBack outsiders outsider
+knot-end w s = all-none (w .n) (reaches w s) (λ p. reaches w p s)
+
+-- 02, N3: every process reachable from the start waits for somebody, exactly if those that do not are none
+pub wait-end : (w : Waits) (s : ℕ) → (allWait w s ≡ true) ↔ (sinks w s ≡ 0)
+unfolding allWait sinks sink
+wait-end w s = all-none (w .n) (reaches w s) (waitsForSome w)

@@ -2,20 +2,25 @@
 --   edge w a b          == 1 if a waits for b, 0 if not
 --   quota w i j x       == how many probes i, with record x, has sent to j since the start
 --   sends w r           == how many probes all processes have sent since the start
---   aboveOf, belowOf    == the parts of a message's count above and below zero
+--   Tally               == one of the two sums: which count it is, what each process adds to it, and what bounds its negative parts
+--   subordinates s, waitless w   == the tallies of cs and of the second sum (02, N3)
+--   sumIn τ, countIn τ  == a process's sum and a message's count, by a tally
+--   worthOf τ w r, slackOf τ w r   == what all processes add, and what bounds the negative parts
 --   bothOff s i x       == 1 if a process other than the start is succeeding and preceding
 --   Diffuses w s r      == each num counts the probes that are not acknowledged yet, and no pair has more than its quota
 -- Assumes nothing.
 use Prim.Native.Nat.{ℕ, _+_, _*_}
 use lib.Dec.{eqb}
+use lib.IntN.{ℤ}
 use Rattle.base.specs.Choice.{choose, bit}
 use Rattle.base.specs.Sums.{sumTo}
-use Rattle.base.specs.Parts.{above, below}
 use Rattle.tables.specs.Waits.{Waits, outDegree, inDegree}
 use Rattle.machine.specs.Diffusing.{Quota, Diffusing}
 use Rattle.steps.specs.declared.Message.{Message}
 use Rattle.steps.specs.declared.Process.{Process}
-use Rattle.steps.specs.Effect.{countOf, both}
+use Rattle.steps.specs.declared.TwoCounts.{TwoCounts}
+use Rattle.steps.specs.Step.{sumsOf, ownCount}
+use Rattle.steps.specs.Effect.{countsOf, both}
 use Rattle.checks.specs.Run.{Run, knot}
 
 -- a wait, as a number
@@ -30,17 +35,35 @@ quota w i j x = x .succeeding * edge w i j + x .preceding * edge w j i
 unfoldable pub sends : Waits → Run → ℕ
 sends w r = sumTo (w .n) (λ i. r .process i .succeeding * outDegree w i + r .process i .preceding * inDegree w i)
 
--- the count of an acknowledgement; that of a probe is 0
-abbrev pub aboveOf : Message → ℕ
-aboveOf m = above (countOf m)
-
--- the same below zero
-abbrev pub belowOf : Message → ℕ
-belowOf m = below (countOf m)
-
 -- the start has both flags from the first on, and is not counted
 unfoldable pub bothOff : ℕ → ℕ → Process → ℕ
 bothOff s i x = choose (eqb i s) 0 (both x)
+
+-- which of two counts, what process i with record x adds to the sum of all, and how much of it may be below zero
+pub record Tally : Type 0 where
+  pub part : TwoCounts → ℤ
+  pub worth : ℕ → Process → ℕ
+  pub slack : ℕ → Process → ℕ
+
+-- cs: subordinates, and those that ceased to be subordinate
+abbrev pub subordinates : ℕ → Tally
+subordinates s = record { part = λ c. c .count; worth = λ i x. x .subordinate; slack = bothOff s }
+
+-- the second sum: succeeding processes that wait for nobody; nothing is below zero
+abbrev pub waitless : Waits → Tally
+waitless w = record { part = λ c. c .second; worth = λ i x. x .succeeding * ownCount (outDegree w i); slack = λ i x. 0 }
+
+abbrev pub sumIn : Tally → Process → ℤ
+sumIn τ x = τ .part (sumsOf x)
+
+abbrev pub countIn : Tally → Message → ℤ
+countIn τ m = τ .part (countsOf m)
+
+unfoldable pub worthOf : Tally → Waits → Run → ℕ
+worthOf τ w r = sumTo (w .n) (λ i. τ .worth i (r .process i))
+
+unfoldable pub slackOf : Tally → Waits → Run → ℕ
+slackOf τ w r = sumTo (w .n) (λ i. τ .slack i (r .process i))
 
 -- what any check keeps (machine, Diffusing), by this check's rules and quota
 abbrev pub Diffuses : Waits → ℕ → Run → Type 0

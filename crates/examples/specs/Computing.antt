@@ -13,11 +13,11 @@ use Rattle.table_writer.specs.Writing.{outputFor, written, writingFor, writingO
 use Rattle.machine.specs.Machine as Machines
 use Rattle.machine.specs.Calls as MachineCalls
 use Rattle.steps.specs.Step.{small, inRange, countSmall, rule1, setSucceeding, setPreceding, newSubordinate, gained, rule3, rule4, acknowledged}
-use Rattle.steps.specs.Step.{turn, startTurn, numSuffices, replyFits, fitting, lentInRange, stepNumber, stepped, startStepped}
+use Rattle.steps.specs.Step.{bothSmall, ownCount, turn, startTurn, numSuffices, replyFits, fitting, lentInRange, stepNumber, stepped, startStepped}
 use Rattle.steps.specs.Step as Steps
 use Rattle.checks.specs.Run.{isEdition, fatherRight, started, turnOf, replyTo, probesTo, sentTo}
 use Rattle.checks.specs.Calls.{escapeOf, verdictOf, reported, report, readRecord}
-use Rattle.checks.specs.Reach.{within, reaches, reachesByArcs, someByArcs, editionAllows, outsider, lowestOutsider}
+use Rattle.checks.specs.Reach.{within, reaches, reachesByArcs, someByArcs, editionAllows, outsider, lowestOutsider, waitsForSome, allWait, sink, sinks}
 use Rattle.areas.specs.Area.{recordPlace, linkPlace, arcIn, arcOf, linkOf, flagsOf, codeOf, slotWord, linkWord, hasBack, arcWord, wordOf, wordsTo, stored}
 use Rattle.areas.specs.Area.{fieldsIn, messagesAt, runIn, sameWord, holdsWords, areaRight}
 use Rattle.areas.specs.Area as Areas
@@ -28,11 +28,11 @@ use Rattle.inputs.specs.Input.{startIn, editionIn, tableFields, tableEnd, table
 use Rattle.lines.specs.Text.{messageText, verdictLine, markLine}
 use Rattle.pickledune.specs.Interface.{chainOf, messageOf}
 use Rattle.examples.specs.States.{lowFirst, processFields, arcFields, table, one, both, fork, alone, loop, met1, met2, met3, met4, met5, met6, met7}
-use Rattle.examples.specs.States.{input, words, root, two, under, receiving, three, unlinked, area, answers}
+use Rattle.examples.specs.States.{beside, input, words, rootWith, root, two, under, receiving, three, unlinked, area, answers}
 
 unfoldable pub computing : Unit {0}
-unfolding lowFirst processFields arcFields table one both fork alone loop met1 met2 met3 met4 met5 met6 met7 input
-    words root two under receiving three unlinked area answers
+unfolding lowFirst processFields arcFields table one both fork alone loop beside met1 met2 met3 met4 met5 met6 met7 input
+    words rootWith root two under receiving three unlinked area answers
     sumTo countTo allTo anyTo lowestTo fieldOf isProcess first arcAt near next waitsOf outDegree inDegree neighbours
     walked walkedTo chainsRight sizesRight endsRight firstsRight nextsRight unlikeBefore fieldsNumber readNumber Reads.answer Reads.readingOf
     orElse openNumber openAnswer openedOf arcInside nextAnswer nextOf
@@ -40,10 +40,11 @@ unfolding lowFirst processFields arcFields table one both fork alone loop met1 m
     Machines.allRight Machines.taken Machines.over Machines.linkRight Machines.wellFormed Machines.startRun Machines.after Machines.accepts
     MachineCalls.behind MachineCalls.atPlace MachineCalls.delivered MachineCalls.deliver MachineCalls.pick MachineCalls.deliverOn
     MachineCalls.runFrom MachineCalls.runOn MachineCalls.lowestReceiver MachineCalls.lowestSender MachineCalls.lowest
+    bothSmall ownCount
     small inRange countSmall rule1 setSucceeding setPreceding newSubordinate gained rule3 rule4 acknowledged turn startTurn numSuffices replyFits
     fitting lentInRange stepNumber Steps.answer stepped startStepped
     isEdition fatherRight started turnOf replyTo probesTo sentTo escapeOf verdictOf reported report readRecord
-    within reaches reachesByArcs someByArcs editionAllows outsider lowestOutsider
+    within reaches reachesByArcs someByArcs editionAllows outsider lowestOutsider waitsForSome allWait sink sinks
     recordPlace linkPlace arcIn arcOf linkOf flagsOf codeOf slotWord linkWord hasBack arcWord wordOf wordsTo stored fieldsIn Areas.messageOf
     messagesAt runIn sameWord holdsWords areaRight
     startNumber startAnswer startArea pickAnswer pickArea runOnAnswer runOnArea reportAnswer readAnswer lentAnswer lentRecord

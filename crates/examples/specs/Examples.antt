@@ -35,6 +35,7 @@ use Rattle.steps.specs.declared.Reply.the-variants.{To}
 use Rattle.steps.specs.declared.Stepped.{Stepped}
 use Rattle.steps.specs.declared.Stepped.the-variants.{Taken}
 use Rattle.steps.specs.Step.{idle, stepped, startStepped}
+use Rattle.steps.specs.Effect.{replyCounts}
 use Rattle.checks.specs.declared.Delivery.{Delivery}
 use Rattle.checks.specs.declared.Delivery.the-variants.{Delivered}
 use Rattle.checks.specs.declared.Verdict.the-variants.{Knot, Free}
@@ -43,7 +44,7 @@ use Rattle.checks.specs.declared.Report.{Report}
 use Rattle.checks.specs.declared.Reading.{Reading}
 use Rattle.checks.specs.declared.Reading.the-variants.{Found}
 use Rattle.checks.specs.Run.{Run, startRun}
-use Rattle.checks.specs.Reach.{lowestOutsider}
+use Rattle.checks.specs.Reach.{lowestOutsider, allWait, sinks}
 use Rattle.checks.specs.Calls.{pick, runOn, escapeOf, report, readRecord, deliveryNumber, deliveryMade, reportNumber, readingNumber}
 use Rattle.checks.specs.Lists.{Promise}
 use Rattle.areas.specs.Area.{runIn}
@@ -55,11 +56,11 @@ use Rattle.lending.specs.Lent.{lentAnswer, lentRecord}
 use Rattle.inputs.specs.Input.{inputNumber, begunNumber, begunArea}
 use Rattle.lines.specs.Text.{bytes, messageText, verdictLine, markLine}
 use Rattle.pickledune.specs.TableValues.{numberOf, nFound, mFound, writingNumber, writtenLength, startedNumber}
-use Rattle.pickledune.specs.Values.{deliveryKind, deliveryCount, ranOver, reportCount, reportKnot, reportOutside, reportEscape, reportReturned}
+use Rattle.pickledune.specs.Values.{deliveryKind, deliveryCounts, ranOver, reportCount, reportKnot, reportOutside, reportEscape, reportReturned}
 use Rattle.pickledune.specs.Values.{readingProcess, steppedNumber, steppedProbes, steppedReply}
-use Rattle.pickledune.specs.Interface.{chainOf, messageOf, processOf, probesNumber, replyTo, replyCount}
+use Rattle.pickledune.specs.Interface.{chainOf, messageOf, processOf, probesNumber, replyTo}
 use Rattle.examples.specs.States.{minus, lowFirst, table, one, both, fork, alone, loop, met1, met2, met3, met4, met5, met6, met7, input, words, root}
-use Rattle.examples.specs.States.{two, under, receiving, three, unlinked, area, answers}
+use Rattle.examples.specs.States.{beside, counted, only, plain, rootWith, two, under, receiving, three, unlinked, area, answers}
 use Rattle.examples.specs.Computing.{computing}
 
 -- ==== Refused because of the input
@@ -243,10 +244,10 @@ start-outcomes :
     (drop 72 (startArea both 1 1 (words 74)) ≡ words 2) ×
     (runIn (startArea both 1 1 (words 72)) .edition ≡ 1) ×
     (runIn (startArea both 1 2 (words 72)) .edition ≡ 2) ×
-    (runIn (startArea both 1 1 (words 72)) .process 1 ≡ processOf 1 1 0 (pos 0) 2 0) ×
-    (runIn (startArea both 1 1 (words 72)) .process 2 ≡ processOf 0 0 0 (pos 0) 0 0) ×
+    (runIn (startArea both 1 1 (words 72)) .process 1 ≡ plain 1 1 0 (pos 0) 2 0) ×
+    (runIn (startArea both 1 1 (words 72)) .process 2 ≡ plain 0 0 0 (pos 0) 0 0) ×
     (runIn (startArea both 1 1 (words 72)) .link 1 2 ≡ Suc ∷ Pre ∷ []) ×
-    (startArea one 1 1 (words 52) ≡ area (two 1 0 (processOf 1 1 0 (pos 0) 1 0) idle (Suc ∷ []) []))
+    (startArea one 1 1 (words 52) ≡ area (two 1 0 (plain 1 1 0 (pos 0) 1 0) idle (Suc ∷ []) []))
 unfolding computing
 start-outcomes = (refl, refl, refl, refl, refl, refl, refl, refl, refl, refl, refl, refl, refl, refl)
 
@@ -306,10 +307,10 @@ pick-in-order :
     (pick (two 1 0 (root (pos 128) 0) idle [] []) 2 2 0 .answer ≡ Delivery.Refused 25) ×  -- the pick names no link
     (pick (two 1 0 (root (pos 128) 0) idle [] []) 2 1 0 .answer ≡ Delivery.Refused 23) ×  -- the run is over
     (pick (two 1 0 (root (pos 128) 1) idle [] []) 2 1 0 .answer ≡ Delivery.Refused 24) ×  -- nothing waits on that link
-    (pick (two 1 0 (root (pos 129) 0) idle (Ack (pos 0) ∷ []) []) 1 2 2 .answer ≡ Delivery.Refused 21) ×
-    (pick (two 1 0 (root (pos 128) 0) idle (Ack (pos 0) ∷ []) []) 1 2 2 .answer ≡ Delivery.Refused 23) ×
-    (pick (two 1 0 (root (pos 128) 1) idle (Ack (pos 0) ∷ []) []) 1 2 2 .answer ≡ Delivery.Refused 31) ×  -- a place beyond the messages waiting
-    (pick (two 1 0 (root (pos 128) 1) idle (Ack (pos 0) ∷ []) []) 1 2 1 .answer ≡ Delivery.Refused 22) ×  -- the step would take num out of its range
+    (pick (two 1 0 (root (pos 129) 0) idle (Ack (only (pos 0)) ∷ []) []) 1 2 2 .answer ≡ Delivery.Refused 21) ×
+    (pick (two 1 0 (root (pos 128) 0) idle (Ack (only (pos 0)) ∷ []) []) 1 2 2 .answer ≡ Delivery.Refused 23) ×
+    (pick (two 1 0 (root (pos 128) 1) idle (Ack (only (pos 0)) ∷ []) []) 1 2 2 .answer ≡ Delivery.Refused 31) ×  -- a place beyond the messages waiting
+    (pick (two 1 0 (root (pos 128) 1) idle (Ack (only (pos 0)) ∷ []) []) 1 2 1 .answer ≡ Delivery.Refused 22) ×  -- the step would take num out of its range
     (pick (two 1 0 (root (pos 128) 1) idle (Suc ∷ []) []) 1 2 1 .answer ≡ Delivered Suc)
 unfolding computing
 pick-in-order = (refl, refl, refl, refl, refl, refl, refl, refl, refl)
@@ -319,13 +320,13 @@ pick-places :
     (pick three 1 2 0 .answer ≡ Delivery.Refused 31) ×
     (pick three 1 2 1 .answer ≡ Delivered Suc) ×
     (pick three 1 2 2 .answer ≡ Delivered Pre) ×
-    (pick three 1 2 3 .answer ≡ Delivered (Ack (pos 5))) ×
+    (pick three 1 2 3 .answer ≡ Delivered (Ack (only (pos 5)))) ×
     (pick three 1 2 4 .answer ≡ Delivery.Refused 31) ×
     (pick three 1 2 5 .answer ≡ Delivery.Refused 31) ×
-    (pick three 1 2 1 .run .link 1 2 ≡ Pre ∷ Ack (pos 5) ∷ []) ×
-    (pick three 1 2 2 .run .link 1 2 ≡ Suc ∷ Ack (pos 5) ∷ []) ×
+    (pick three 1 2 1 .run .link 1 2 ≡ Pre ∷ Ack (only (pos 5)) ∷ []) ×
+    (pick three 1 2 2 .run .link 1 2 ≡ Suc ∷ Ack (only (pos 5)) ∷ []) ×
     (pick three 1 2 3 .run .link 1 2 ≡ Suc ∷ Pre ∷ []) ×
-    (pick three 1 2 2 .run .link 2 1 ≡ Ack (pos 0) ∷ []) ×
+    (pick three 1 2 2 .run .link 2 1 ≡ Ack (only (pos 0)) ∷ []) ×
     (pick three 1 2 0 .run ≡ three) ×
     (pick three 1 2 4 .run ≡ three)
 unfolding computing
@@ -338,16 +339,16 @@ pick-in-words :
     (pickAnswer (area (two 1 0 (root (pos 128) 0) idle [] [])) 2 2 0 ≡ Delivery.Refused 25) ×
     (pickAnswer (area (two 1 0 (root (pos 128) 0) idle [] [])) 2 1 0 ≡ Delivery.Refused 23) ×
     (pickAnswer (area (two 1 0 (root (pos 128) 1) idle [] [])) 2 1 0 ≡ Delivery.Refused 24) ×
-    (pickAnswer (area (two 1 0 (root (pos 129) 0) idle (Ack (pos 0) ∷ []) [])) 1 2 2 ≡ Delivery.Refused 21) ×
-    (pickAnswer (area (two 1 0 (root (pos 128) 0) idle (Ack (pos 0) ∷ []) [])) 1 2 2 ≡ Delivery.Refused 23) ×
-    (pickAnswer (area (two 1 0 (root (pos 128) 1) idle (Ack (pos 0) ∷ []) [])) 1 2 2 ≡ Delivery.Refused 31) ×
-    (pickAnswer (area (two 1 0 (root (pos 128) 1) idle (Ack (pos 0) ∷ []) [])) 1 2 1 ≡ Delivery.Refused 22) ×
+    (pickAnswer (area (two 1 0 (root (pos 129) 0) idle (Ack (only (pos 0)) ∷ []) [])) 1 2 2 ≡ Delivery.Refused 21) ×
+    (pickAnswer (area (two 1 0 (root (pos 128) 0) idle (Ack (only (pos 0)) ∷ []) [])) 1 2 2 ≡ Delivery.Refused 23) ×
+    (pickAnswer (area (two 1 0 (root (pos 128) 1) idle (Ack (only (pos 0)) ∷ []) [])) 1 2 2 ≡ Delivery.Refused 31) ×
+    (pickAnswer (area (two 1 0 (root (pos 128) 1) idle (Ack (only (pos 0)) ∷ []) [])) 1 2 1 ≡ Delivery.Refused 22) ×
     (pickAnswer (area (two 1 0 (root (pos 128) 1) idle (Suc ∷ []) [])) 1 2 1 ≡ Delivered Suc) ×
     (pickArea (area (two 1 0 (root (pos 129) 0) idle [] [])) 2 2 1 ≡ area (two 1 0 (root (pos 129) 0) idle [] [])) ×
-    (pickArea (area (receiving idle (Ack (pos 0)))) 1 2 1 ≡ area (receiving idle (Ack (pos 0)))) ×
-    (pickArea (area (receiving idle Suc)) 1 2 1 ≡ area (two 1 1 (root (pos 0) 1) (processOf 1 0 1 (pos 0) 0 1) [] (Ack (pos 1) ∷ []))) ×
+    (pickArea (area (receiving idle (Ack (only (pos 0))))) 1 2 1 ≡ area (receiving idle (Ack (only (pos 0))))) ×
+    (pickArea (area (receiving idle Suc)) 1 2 1 ≡ area (two 1 1 (root (pos 0) 1) (plain 1 0 1 (pos 0) 0 1) [] (Ack (counted (pos 1) (pos 1)) ∷ []))) ×
     (pickArea (area three) 1 2 4 ≡ area three) ×
-    (pickArea (area three) 1 2 2 ≡ area (two 1 1 (root (pos 0) 3) (processOf 1 1 0 (pos 0) 2 1) (Suc ∷ Ack (pos 5) ∷ []) (Ack (pos 0) ∷ [])))
+    (pickArea (area three) 1 2 2 ≡ area (two 1 1 (root (pos 0) 3) (plain 1 1 0 (pos 0) 2 1) (Suc ∷ Ack (only (pos 5)) ∷ []) (Ack (only (pos 0)) ∷ [])))
 unfolding computing
 pick-in-words = (refl, refl, refl, refl, refl, refl, refl, refl, refl, refl, refl, refl, refl, refl, refl)
 
@@ -365,30 +366,30 @@ links = (refl, refl, refl, refl, refl)
 -- first value out
 picks-refused-by-22 :
     -- num 0 loses 1
-    (pick (receiving (processOf 0 0 0 (pos 0) 1 1) (Ack (pos 0))) 1 2 1 .answer ≡ Delivered (Ack (pos 0))) ×
-    (pick (receiving (processOf 0 0 0 (pos 0) 0 1) (Ack (pos 0))) 1 2 1 .answer ≡ Delivery.Refused 22) ×
+    (pick (receiving (plain 0 0 0 (pos 0) 1 1) (Ack (only (pos 0)))) 1 2 1 .answer ≡ Delivered (Ack (only (pos 0)))) ×
+    (pick (receiving (plain 0 0 0 (pos 0) 0 1) (Ack (only (pos 0)))) 1 2 1 .answer ≡ Delivery.Refused 22) ×
     -- num 256 and 257
-    (pick (receiving (processOf 0 0 0 (pos 0) 255 1) Pre) 1 2 1 .answer ≡ Delivered Pre) ×
-    (pick (receiving (processOf 0 0 0 (pos 0) 256 1) Pre) 1 2 1 .answer ≡ Delivery.Refused 22) ×
+    (pick (receiving (plain 0 0 0 (pos 0) 255 1) Pre) 1 2 1 .answer ≡ Delivered Pre) ×
+    (pick (receiving (plain 0 0 0 (pos 0) 256 1) Pre) 1 2 1 .answer ≡ Delivery.Refused 22) ×
     -- cs 128 and 129, −128 and −129
-    (pick (receiving (processOf 0 0 0 (pos 127) 2 1) (Ack (pos 1))) 1 2 1 .answer ≡ Delivered (Ack (pos 1))) ×
-    (pick (receiving (processOf 0 0 0 (pos 128) 2 1) (Ack (pos 1))) 1 2 1 .answer ≡ Delivery.Refused 22) ×
-    (pick (receiving (processOf 0 0 0 (minus 127) 2 1) (Ack (minus 1))) 1 2 1 .answer ≡ Delivered (Ack (minus 1))) ×
-    (pick (receiving (processOf 0 0 0 (minus 128) 2 1) (Ack (minus 1))) 1 2 1 .answer ≡ Delivery.Refused 22) ×
+    (pick (receiving (plain 0 0 0 (pos 127) 2 1) (Ack (only (pos 1)))) 1 2 1 .answer ≡ Delivered (Ack (only (pos 1)))) ×
+    (pick (receiving (plain 0 0 0 (pos 128) 2 1) (Ack (only (pos 1)))) 1 2 1 .answer ≡ Delivery.Refused 22) ×
+    (pick (receiving (plain 0 0 0 (minus 127) 2 1) (Ack (only (minus 1)))) 1 2 1 .answer ≡ Delivered (Ack (only (minus 1)))) ×
+    (pick (receiving (plain 0 0 0 (minus 128) 2 1) (Ack (only (minus 1)))) 1 2 1 .answer ≡ Delivery.Refused 22) ×
     -- the same where num becomes 0, so that it is the count sent
-    (pick (receiving (processOf 0 0 0 (pos 127) 1 1) (Ack (pos 1))) 1 2 1 .answer ≡ Delivered (Ack (pos 1))) ×
-    (pick (receiving (processOf 0 0 0 (pos 128) 1 1) (Ack (pos 1))) 1 2 1 .answer ≡ Delivery.Refused 22) ×
-    (pick (receiving (processOf 0 0 0 (minus 127) 1 1) (Ack (minus 1))) 1 2 1 .answer ≡ Delivered (Ack (minus 1))) ×
-    (pick (receiving (processOf 0 0 0 (minus 128) 1 1) (Ack (minus 1))) 1 2 1 .answer ≡ Delivery.Refused 22) ×
+    (pick (receiving (plain 0 0 0 (pos 127) 1 1) (Ack (only (pos 1)))) 1 2 1 .answer ≡ Delivered (Ack (only (pos 1)))) ×
+    (pick (receiving (plain 0 0 0 (pos 128) 1 1) (Ack (only (pos 1)))) 1 2 1 .answer ≡ Delivery.Refused 22) ×
+    (pick (receiving (plain 0 0 0 (minus 127) 1 1) (Ack (only (minus 1)))) 1 2 1 .answer ≡ Delivered (Ack (only (minus 1)))) ×
+    (pick (receiving (plain 0 0 0 (minus 128) 1 1) (Ack (only (minus 1)))) 1 2 1 .answer ≡ Delivery.Refused 22) ×
     -- the start's cs
-    (pick (two 1 0 (root (pos 127) 2) idle [] (Ack (pos 1) ∷ [])) 2 1 1 .answer ≡ Delivered (Ack (pos 1))) ×
-    (pick (two 1 0 (root (pos 128) 2) idle [] (Ack (pos 1) ∷ [])) 2 1 1 .answer ≡ Delivery.Refused 22) ×
+    (pick (two 1 0 (root (pos 127) 2) idle [] (Ack (only (pos 1)) ∷ [])) 2 1 1 .answer ≡ Delivered (Ack (only (pos 1)))) ×
+    (pick (two 1 0 (root (pos 128) 2) idle [] (Ack (only (pos 1)) ∷ [])) 2 1 1 .answer ≡ Delivery.Refused 22) ×
     -- a fourth and a fifth message on the link from 2 to 1
-    (pick (two 1 0 (root (pos 0) 1) (processOf 1 0 1 (pos 0) 1 1) (Suc ∷ []) (replicate 3 Suc)) 1 2 1 .answer ≡ Delivered Suc) ×
-    (pick (two 1 0 (root (pos 0) 1) (processOf 1 0 1 (pos 0) 1 1) (Suc ∷ []) (replicate 4 Suc)) 1 2 1 .answer ≡ Delivery.Refused 22) ×
+    (pick (two 1 0 (root (pos 0) 1) (plain 1 0 1 (pos 0) 1 1) (Suc ∷ []) (replicate 3 Suc)) 1 2 1 .answer ≡ Delivered Suc) ×
+    (pick (two 1 0 (root (pos 0) 1) (plain 1 0 1 (pos 0) 1 1) (Suc ∷ []) (replicate 4 Suc)) 1 2 1 .answer ≡ Delivery.Refused 22) ×
     -- father 1 and father 0
-    (pick (receiving (processOf 1 0 1 (pos 0) 1 1) (Ack (pos 0))) 1 2 1 .answer ≡ Delivered (Ack (pos 0))) ×
-    (pick (receiving (processOf 1 0 1 (pos 0) 1 0) (Ack (pos 0))) 1 2 1 .answer ≡ Delivery.Refused 22) ×
+    (pick (receiving (plain 1 0 1 (pos 0) 1 1) (Ack (only (pos 0)))) 1 2 1 .answer ≡ Delivered (Ack (only (pos 0)))) ×
+    (pick (receiving (plain 1 0 1 (pos 0) 1 0) (Ack (only (pos 0)))) 1 2 1 .answer ≡ Delivery.Refused 22) ×
     -- the 2,048th and the 2,049th delivery
     (pick (two 1 2047 (root (pos 0) 1) idle (Suc ∷ []) []) 1 2 1 .answer ≡ Delivered Suc) ×
     (pick (two 1 2048 (root (pos 0) 1) idle (Suc ∷ []) []) 1 2 1 .answer ≡ Delivery.Refused 22)
@@ -403,10 +404,10 @@ running-in-order :
     (runOn 5 (two 1 0 (root (pos 128) 0) idle [] []) .answer ≡ Ran.Over 0) ×
     (runOn 0 (two 1 0 (root (pos 128) 1) idle [] []) .answer ≡ Ran.Spent 0) ×
     (runOn 1 (two 1 0 (root (pos 128) 1) idle [] []) .answer ≡ Ran.Refused 24 0) ×
-    (runOn 5 (two 1 0 (root (pos 129) 0) idle (Ack (pos 0) ∷ []) []) .answer ≡ Ran.Refused 21 0) ×
-    (runOn 5 (two 1 0 (root (pos 128) 0) idle (Ack (pos 0) ∷ []) []) .answer ≡ Ran.Over 0) ×
-    (runOn 0 (two 1 0 (root (pos 128) 1) idle (Ack (pos 0) ∷ []) []) .answer ≡ Ran.Spent 0) ×
-    (runOn 5 (two 1 0 (root (pos 128) 1) idle (Ack (pos 0) ∷ []) []) .answer ≡ Ran.Refused 22 0) ×
+    (runOn 5 (two 1 0 (root (pos 129) 0) idle (Ack (only (pos 0)) ∷ []) []) .answer ≡ Ran.Refused 21 0) ×
+    (runOn 5 (two 1 0 (root (pos 128) 0) idle (Ack (only (pos 0)) ∷ []) []) .answer ≡ Ran.Over 0) ×
+    (runOn 0 (two 1 0 (root (pos 128) 1) idle (Ack (only (pos 0)) ∷ []) []) .answer ≡ Ran.Spent 0) ×
+    (runOn 5 (two 1 0 (root (pos 128) 1) idle (Ack (only (pos 0)) ∷ []) []) .answer ≡ Ran.Refused 22 0) ×
     (runOn 1 (receiving idle Suc) .answer ≡ Ran.Spent 1) ×
     (runOn 2 (receiving idle Suc) .answer ≡ Ran.Over 2) ×
     (runOn 2048 (receiving idle Suc) .answer ≡ Ran.Over 2)
@@ -416,10 +417,10 @@ running-in-order = (refl, refl, refl, refl, refl, refl, refl, refl, refl, refl, 
 -- "running on that meets 24 or 22 midway keeps its deliveries and gives their number"
 running-refused-midway :
     (runOn 9 (two 1 0 (root (pos 0) 2) idle (Suc ∷ []) []) .answer ≡ Ran.Refused 24 2) ×
-    (runOn 9 (two 1 0 (root (pos 0) 2) idle (Suc ∷ Ack (pos 0) ∷ []) []) .answer ≡ Ran.Refused 22 1) ×
+    (runOn 9 (two 1 0 (root (pos 0) 2) idle (Suc ∷ Ack (only (pos 0)) ∷ []) []) .answer ≡ Ran.Refused 22 1) ×
     (runOn 9 (two 1 2047 (root (pos 0) 1) idle (Suc ∷ []) []) .answer ≡ Ran.Refused 22 1) ×
-    (runOnArea 9 (area (two 1 0 (root (pos 0) 2) idle (Suc ∷ Ack (pos 0) ∷ []) []))
-    ≡ area (two 1 1 (root (pos 0) 2) (processOf 1 0 1 (pos 0) 0 1) (Ack (pos 0) ∷ []) (Ack (pos 1) ∷ [])))
+    (runOnArea 9 (area (two 1 0 (root (pos 0) 2) idle (Suc ∷ Ack (only (pos 0)) ∷ []) []))
+    ≡ area (two 1 1 (root (pos 0) 2) (plain 1 0 1 (pos 0) 0 1) (Ack (only (pos 0)) ∷ []) (Ack (counted (pos 1) (pos 1)) ∷ [])))
 unfolding computing
 running-refused-midway = (refl, refl, refl, refl)
 
@@ -430,7 +431,7 @@ running-in-words :
     (runOnAnswer 0 (area (two 1 0 (root (pos 128) 0) idle [] [])) ≡ Ran.Over 0) ×
     (runOnAnswer 0 (area (two 1 0 (root (pos 128) 1) idle [] [])) ≡ Ran.Spent 0) ×
     (runOnAnswer 1 (area (two 1 0 (root (pos 128) 1) idle [] [])) ≡ Ran.Refused 24 0) ×
-    (runOnAnswer 9 (area (two 1 0 (root (pos 0) 2) idle (Suc ∷ Ack (pos 0) ∷ []) [])) ≡ Ran.Refused 22 1) ×
+    (runOnAnswer 9 (area (two 1 0 (root (pos 0) 2) idle (Suc ∷ Ack (only (pos 0)) ∷ []) [])) ≡ Ran.Refused 22 1) ×
     (runOnArea 5 (area (two 1 0 (root (pos 129) 1) idle (Suc ∷ []) [])) ≡ area (two 1 0 (root (pos 129) 1) idle (Suc ∷ []) []))
 unfolding computing
 running-in-words = (refl, refl, refl, refl, refl, refl, refl)
@@ -440,50 +441,63 @@ running-in-words = (refl, refl, refl, refl, refl, refl, refl)
 running-order :
     (runOn 1 (startRun (waitsOf (fieldOf fork)) 1 1) .run .link 1 2 ≡ []) ×
     (runOn 1 (startRun (waitsOf (fieldOf fork)) 1 1) .run .link 1 3 ≡ Suc ∷ []) ×
-    (runOn 1 (two 1 0 (root (pos 0) 2) idle (Suc ∷ []) (Ack (pos 0) ∷ [])) .run .link 1 2 ≡ []) ×
-    (runOn 1 (two 1 0 (root (pos 0) 2) idle (Suc ∷ []) (Ack (pos 0) ∷ [])) .run .link 2 1 ≡ Ack (pos 0) ∷ Ack (pos 1) ∷ [])
+    (runOn 1 (two 1 0 (root (pos 0) 2) idle (Suc ∷ []) (Ack (only (pos 0)) ∷ [])) .run .link 1 2 ≡ []) ×
+    (runOn 1 (two 1 0 (root (pos 0) 2) idle (Suc ∷ []) (Ack (only (pos 0)) ∷ [])) .run .link 2 1 ≡ Ack (only (pos 0)) ∷ Ack (counted (pos 1) (pos 1)) ∷ [])
 unfolding computing
 running-order = (refl, refl, refl, refl)
 
--- ---- "The report checks 21, 26": "over count; verdict knot if cs of s is 0, else none; outside = cs of s; escape ..; mark *returned* if the
--- verdict is knot, else *held*"
+-- ---- "The report checks 21, 26": "over count; verdict knot if cs of s is 0, else none; outside = cs of s; escape .."; "The report marks
+-- returned if the start's second sum is 0, else held" (02, N3)
 
 report-in-order :
     (report (two 1 0 (root (pos 129) 1) idle [] []) ≡ Report.Refused 21) ×
     (report (two 1 0 (root (pos 0) 1) idle [] []) ≡ Report.Refused 26) ×
     (report (two 1 2 (root (pos 0) 0) idle [] []) ≡ Report.Over 2 Knot (pos 0) 0 Returned) ×
-    (report (two 1 2 (root (pos 1) 0) (processOf 1 0 1 (pos 0) 0 1) [] []) ≡ Report.Over 2 Free (pos 1) 2 Held) ×
-    (report (two 1 2 (root (minus 1) 0) idle [] []) ≡ Report.Over 2 Free (minus 1) 0 Held) ×
+    (report (two 1 2 (rootWith (pos 1) (pos 1) 0) (plain 1 0 1 (pos 0) 0 1) [] []) ≡ Report.Over 2 Free (pos 1) 2 Held) ×
+    (report (two 1 2 (root (minus 1) 0) idle [] []) ≡ Report.Over 2 Free (minus 1) 0 Returned) ×
+    (report (two 1 2 (rootWith (pos 0) (minus 1) 0) idle [] []) ≡ Report.Over 2 Knot (pos 0) 0 Held) ×
     (reportAnswer [] ≡ Report.Refused 21) ×
     (reportAnswer (area (two 1 0 (root (pos 129) 1) idle [] [])) ≡ Report.Refused 21) ×
     (reportAnswer (area (two 1 0 (root (pos 0) 1) idle [] [])) ≡ Report.Refused 26) ×
     (reportAnswer (area (two 1 2 (root (pos 0) 0) idle [] [])) ≡ Report.Over 2 Knot (pos 0) 0 Returned) ×
-    (reportAnswer (area (two 1 2 (root (pos 1) 0) (processOf 1 0 1 (pos 0) 0 1) [] [])) ≡ Report.Over 2 Free (pos 1) 2 Held)
+    (reportAnswer (area (two 1 2 (rootWith (pos 1) (pos 1) 0) (plain 1 0 1 (pos 0) 0 1) [] [])) ≡ Report.Over 2 Free (pos 1) 2 Held)
 unfolding computing
-report-in-order = (refl, refl, refl, refl, refl, refl, refl, refl, refl, refl)
+report-in-order = (refl, refl, refl, refl, refl, refl, refl, refl, refl, refl, refl)
 
 -- 02, N4: "Verdicts are judged by the edition named at start": "Under 2 the rows "none" and "2-1" of 01 give verdict none with outside 0; the row
 -- "1-1" stays a knot." Row "2-1" is here 1-2 from process 2
 edition-verdicts :
-    (report (startRun (waitsOf (fieldOf alone)) 1 1) ≡ Report.Over 0 Knot (pos 0) 0 Returned) ×
+    (report (startRun (waitsOf (fieldOf alone)) 1 1) ≡ Report.Over 0 Knot (pos 0) 0 Held) ×
     (report (startRun (waitsOf (fieldOf alone)) 1 2) ≡ Report.Over 0 Free (pos 0) 0 Held) ×
-    (report (runOn 8 (startRun (waitsOf (fieldOf one)) 2 1) .run) ≡ Report.Over 2 Knot (pos 0) 0 Returned) ×
+    (report (runOn 8 (startRun (waitsOf (fieldOf one)) 2 1) .run) ≡ Report.Over 2 Knot (pos 0) 0 Held) ×
     (report (runOn 8 (startRun (waitsOf (fieldOf one)) 2 2) .run) ≡ Report.Over 2 Free (pos 0) 0 Held) ×
     (report (runOn 8 (startRun (waitsOf (fieldOf loop)) 1 1) .run) ≡ Report.Over 4 Knot (pos 0) 0 Returned) ×
     (report (runOn 8 (startRun (waitsOf (fieldOf loop)) 1 2) .run) ≡ Report.Over 4 Knot (pos 0) 0 Returned) ×
     (report (runOn 8 (startRun (waitsOf (fieldOf fork)) 1 2) .run) ≡ Report.Over 4 Free (pos 2) 2 Held) ×
-    (reportAnswer (set (area (two 2 2 idle (root (pos 0) 0) [] [])) 3 (pos 2)) ≡ Report.Over 2 Free (pos 0) 0 Held) ×
+    (reportAnswer (set (area (two 2 2 idle (root (pos 0) 0) [] [])) 3 (pos 2)) ≡ Report.Over 2 Free (pos 0) 0 Returned) ×
     (reportAnswer (set (area (two 1 2 (root (pos 0) 0) idle [] [])) 3 (pos 2)) ≡ Report.Over 2 Knot (pos 0) 0 Returned) ×
     (reportAnswer (set (area (two 1 2 (root (pos 0) 0) idle [] [])) 3 (pos 3)) ≡ Report.Refused 21)
 unfolding computing
 edition-verdicts = (refl, refl, refl, refl, refl, refl, refl, refl, refl, refl)
 
+-- 02, N3: "a payment is returned exactly if every process reachable from the start, itself included, waits for somebody": 1-2, 2-3, 3-2 from 1 is
+-- no knot and returned; the start has the number of those that wait for nobody, of 1-2, 1-3 it is 2
+marks :
+    (report (runOn 8 (startRun (waitsOf (fieldOf beside)) 1 1) .run) ≡ Report.Over 6 Free (pos 2) 2 Returned) ×
+    (report (runOn 10 (startRun (waitsOf (fieldOf beside)) 2 1) .run) ≡ Report.Over 10 Knot (pos 0) 0 Returned) ×
+    (allWait (waitsOf (fieldOf beside)) 1 ≡ true) × (sinks (waitsOf (fieldOf beside)) 1 ≡ 0) ×
+    (allWait (waitsOf (fieldOf fork)) 1 ≡ false) × (sinks (waitsOf (fieldOf fork)) 1 ≡ 2) × (sinks (waitsOf (fieldOf fork)) 3 ≡ 1) ×
+    (runOn 8 (startRun (waitsOf (fieldOf fork)) 1 1) .run .process 1 ≡ rootWith (pos 2) (pos 2) 0) ×
+    (startRun (waitsOf (fieldOf fork)) 3 1 .process 3 ≡ rootWith (pos 0) (pos 1) 1)
+unfolding computing
+marks = (refl, refl, refl, refl, refl, refl, refl, refl, refl)
+
 -- 02, N1: "escape is the lowest-numbered process with subordinate 1, and 0 only where there is none"
 escape-lowest :
-    (escapeOf (two 1 2 (processOf 1 0 1 (pos 0) 0 0) (processOf 1 0 1 (pos 0) 0 1) [] []) ≡ 1) ×  -- the first of two, which is the start
-    (escapeOf (two 2 2 (processOf 0 0 1 (pos 0) 0 0) (processOf 1 1 0 (pos 0) 0 1) [] []) ≡ 1) ×  -- subordinate alone counts
-    (escapeOf (two 1 2 (root (pos 0) 0) (processOf 0 0 1 (pos 0) 0 1) [] []) ≡ 2) ×  -- the start is succeeding, and not subordinate
-    (escapeOf (two 1 2 (root (pos 0) 0) (processOf 1 1 0 (pos 0) 0 1) [] []) ≡ 0) ×
+    (escapeOf (two 1 2 (plain 1 0 1 (pos 0) 0 0) (plain 1 0 1 (pos 0) 0 1) [] []) ≡ 1) ×  -- the first of two, which is the start
+    (escapeOf (two 2 2 (plain 0 0 1 (pos 0) 0 0) (plain 1 1 0 (pos 0) 0 1) [] []) ≡ 1) ×  -- subordinate alone counts
+    (escapeOf (two 1 2 (root (pos 0) 0) (plain 0 0 1 (pos 0) 0 1) [] []) ≡ 2) ×  -- the start is succeeding, and not subordinate
+    (escapeOf (two 1 2 (root (pos 0) 0) (plain 1 1 0 (pos 0) 0 1) [] []) ≡ 0) ×
     (lowestOutsider (waitsOf (fieldOf fork)) 1 ≡ 2) ×  -- 1 waits for 2 and for 3
     (lowestOutsider (waitsOf (fieldOf fork)) 2 ≡ 0) ×
     (report (runOn 8 (startRun (waitsOf (fieldOf fork)) 1 1) .run) ≡ Report.Over 4 Free (pos 2) 2 Held)
@@ -496,48 +510,48 @@ record-in-order :
     (readRecord (two 1 0 (root (pos 129) 1) idle [] []) 0 ≡ Reading.Refused 21) ×
     (readRecord (two 1 0 (root (pos 128) 1) idle [] []) 0 ≡ Reading.Refused 25) ×
     (readRecord (two 1 0 (root (pos 128) 1) idle [] []) 3 ≡ Reading.Refused 25) ×
-    (readRecord (two 1 0 (root (pos 128) 1) idle [] []) 1 ≡ Found (processOf 1 1 0 (pos 128) 1 0)) ×
-    (readRecord (two 1 0 (root (pos 128) 1) idle [] []) 2 ≡ Found (processOf 0 0 0 (pos 0) 0 0)) ×
+    (readRecord (two 1 0 (root (pos 128) 1) idle [] []) 1 ≡ Found (plain 1 1 0 (pos 128) 1 0)) ×
+    (readRecord (two 1 0 (root (pos 128) 1) idle [] []) 2 ≡ Found (plain 0 0 0 (pos 0) 0 0)) ×
     (readAnswer [] 0 ≡ Reading.Refused 21) ×
     (readAnswer (area (two 1 0 (root (pos 129) 1) idle [] [])) 0 ≡ Reading.Refused 21) ×
     (readAnswer (area (two 1 0 (root (pos 128) 1) idle [] [])) 0 ≡ Reading.Refused 25) ×
     (readAnswer (area (two 1 0 (root (pos 128) 1) idle [] [])) 3 ≡ Reading.Refused 25) ×
-    (readAnswer (area (two 1 0 (root (pos 128) 1) idle [] [])) 1 ≡ Found (processOf 1 1 0 (pos 128) 1 0))
+    (readAnswer (area (two 1 0 (root (pos 128) 1) idle [] [])) 1 ≡ Found (plain 1 1 0 (pos 128) 1 0))
 unfolding computing
 record-in-order = (refl, refl, refl, refl, refl, refl, refl, refl, refl, refl)
 
 -- ---- "One process's step checks 21, 25, 22": message, out-degree, in-degree, sender, record
 
 step-in-order :
-    (stepped (Ack (pos 0)) 0 0 0 (processOf 0 0 0 (pos 129) 0 0) ≡ Stepped.Refused 21) ×
-    (stepped (Ack (pos 0)) 0 0 0 (processOf 0 0 0 (pos 128) 0 0) ≡ Stepped.Refused 25) ×
-    (stepped (Ack (pos 0)) 0 0 129 (processOf 0 0 0 (pos 128) 0 0) ≡ Stepped.Refused 25) ×
-    (stepped (Ack (pos 0)) 0 0 128 (processOf 0 0 0 (pos 128) 0 0) ≡ Stepped.Refused 22) ×
-    (stepped (Ack (pos 0)) 0 0 1 (processOf 0 0 0 (pos 128) 0 0) ≡ Stepped.Refused 22) ×
-    (stepped (Ack (pos 0)) 0 0 1 (processOf 0 0 0 (pos 128) 1 3) ≡ Taken (processOf 0 0 0 (pos 0) 0 3) Probes.Nothing (To 3 (pos 128)))
+    (stepped (Ack (only (pos 0))) 0 0 0 (plain 0 0 0 (pos 129) 0 0) ≡ Stepped.Refused 21) ×
+    (stepped (Ack (only (pos 0))) 0 0 0 (plain 0 0 0 (pos 128) 0 0) ≡ Stepped.Refused 25) ×
+    (stepped (Ack (only (pos 0))) 0 0 129 (plain 0 0 0 (pos 128) 0 0) ≡ Stepped.Refused 25) ×
+    (stepped (Ack (only (pos 0))) 0 0 128 (plain 0 0 0 (pos 128) 0 0) ≡ Stepped.Refused 22) ×
+    (stepped (Ack (only (pos 0))) 0 0 1 (plain 0 0 0 (pos 128) 0 0) ≡ Stepped.Refused 22) ×
+    (stepped (Ack (only (pos 0))) 0 0 1 (plain 0 0 0 (pos 128) 1 3) ≡ Taken (plain 0 0 0 (pos 0) 0 3) Probes.Nothing (To 3 (only (pos 128))))
 unfolding computing
 step-in-order = (refl, refl, refl, refl, refl, refl)
 
 -- 21 "record or count out of range, father over 128 or a degree over 128": with sender 0 the last value in meets 25, the first value out 21
 step-ranges :
-    (stepped Suc 0 0 0 (processOf 1 0 0 (pos 0) 0 0) ≡ Stepped.Refused 25) ×
-    (stepped Suc 0 0 0 (processOf 2 0 0 (pos 0) 0 0) ≡ Stepped.Refused 21) ×
-    (stepped Suc 0 0 0 (processOf 0 1 0 (pos 0) 0 0) ≡ Stepped.Refused 25) ×
-    (stepped Suc 0 0 0 (processOf 0 2 0 (pos 0) 0 0) ≡ Stepped.Refused 21) ×
-    (stepped Suc 0 0 0 (processOf 0 0 1 (pos 0) 0 0) ≡ Stepped.Refused 25) ×
-    (stepped Suc 0 0 0 (processOf 0 0 2 (pos 0) 0 0) ≡ Stepped.Refused 21) ×
-    (stepped Suc 0 0 0 (processOf 0 0 0 (pos 128) 0 0) ≡ Stepped.Refused 25) ×
-    (stepped Suc 0 0 0 (processOf 0 0 0 (pos 129) 0 0) ≡ Stepped.Refused 21) ×
-    (stepped Suc 0 0 0 (processOf 0 0 0 (minus 128) 0 0) ≡ Stepped.Refused 25) ×
-    (stepped Suc 0 0 0 (processOf 0 0 0 (minus 129) 0 0) ≡ Stepped.Refused 21) ×
-    (stepped Suc 0 0 0 (processOf 0 0 0 (pos 0) 256 0) ≡ Stepped.Refused 25) ×
-    (stepped Suc 0 0 0 (processOf 0 0 0 (pos 0) 257 0) ≡ Stepped.Refused 21) ×
-    (stepped Suc 0 0 0 (processOf 0 0 0 (pos 0) 0 128) ≡ Stepped.Refused 25) ×
-    (stepped Suc 0 0 0 (processOf 0 0 0 (pos 0) 0 129) ≡ Stepped.Refused 21) ×
-    (stepped (Ack (pos 128)) 0 0 0 idle ≡ Stepped.Refused 25) ×
-    (stepped (Ack (pos 129)) 0 0 0 idle ≡ Stepped.Refused 21) ×
-    (stepped (Ack (minus 128)) 0 0 0 idle ≡ Stepped.Refused 25) ×
-    (stepped (Ack (minus 129)) 0 0 0 idle ≡ Stepped.Refused 21) ×
+    (stepped Suc 0 0 0 (plain 1 0 0 (pos 0) 0 0) ≡ Stepped.Refused 25) ×
+    (stepped Suc 0 0 0 (plain 2 0 0 (pos 0) 0 0) ≡ Stepped.Refused 21) ×
+    (stepped Suc 0 0 0 (plain 0 1 0 (pos 0) 0 0) ≡ Stepped.Refused 25) ×
+    (stepped Suc 0 0 0 (plain 0 2 0 (pos 0) 0 0) ≡ Stepped.Refused 21) ×
+    (stepped Suc 0 0 0 (plain 0 0 1 (pos 0) 0 0) ≡ Stepped.Refused 25) ×
+    (stepped Suc 0 0 0 (plain 0 0 2 (pos 0) 0 0) ≡ Stepped.Refused 21) ×
+    (stepped Suc 0 0 0 (plain 0 0 0 (pos 128) 0 0) ≡ Stepped.Refused 25) ×
+    (stepped Suc 0 0 0 (plain 0 0 0 (pos 129) 0 0) ≡ Stepped.Refused 21) ×
+    (stepped Suc 0 0 0 (plain 0 0 0 (minus 128) 0 0) ≡ Stepped.Refused 25) ×
+    (stepped Suc 0 0 0 (plain 0 0 0 (minus 129) 0 0) ≡ Stepped.Refused 21) ×
+    (stepped Suc 0 0 0 (plain 0 0 0 (pos 0) 256 0) ≡ Stepped.Refused 25) ×
+    (stepped Suc 0 0 0 (plain 0 0 0 (pos 0) 257 0) ≡ Stepped.Refused 21) ×
+    (stepped Suc 0 0 0 (plain 0 0 0 (pos 0) 0 128) ≡ Stepped.Refused 25) ×
+    (stepped Suc 0 0 0 (plain 0 0 0 (pos 0) 0 129) ≡ Stepped.Refused 21) ×
+    (stepped (Ack (only (pos 128))) 0 0 0 idle ≡ Stepped.Refused 25) ×
+    (stepped (Ack (only (pos 129))) 0 0 0 idle ≡ Stepped.Refused 21) ×
+    (stepped (Ack (only (minus 128))) 0 0 0 idle ≡ Stepped.Refused 25) ×
+    (stepped (Ack (only (minus 129))) 0 0 0 idle ≡ Stepped.Refused 21) ×
     (stepped Suc 128 0 0 idle ≡ Stepped.Refused 25) ×
     (stepped Suc 129 0 0 idle ≡ Stepped.Refused 21) ×
     (stepped Suc 0 128 0 idle ≡ Stepped.Refused 25) ×
@@ -547,58 +561,85 @@ step-ranges = (refl, refl, refl, refl, refl, refl, refl, refl, refl, refl, refl,
 
 -- 22 by each reason that a step has, after the last value in; "A probe kind is named whenever its flag is newly set, also at degree 0"
 steps-refused-by-22 :
-    (stepped Suc 0 0 1 idle ≡ Taken (processOf 1 0 1 (pos 0) 0 1) Sucs (To 1 (pos 1))) ×
-    (stepped Pre 0 128 128 idle ≡ Taken (processOf 0 1 0 (pos 0) 128 128) Pres Reply.Nothing) ×
-    (stepped Suc 1 0 2 (processOf 0 0 0 (pos 5) 255 3) ≡ Taken (processOf 1 0 1 (pos 1) 256 3) Sucs (To 2 (pos 5))) ×
-    (stepped Suc 1 0 2 (processOf 0 0 0 (pos 5) 256 3) ≡ Stepped.Refused 22) ×
-    (stepped (Ack (pos 1)) 0 0 2 (processOf 0 0 0 (pos 127) 2 3) ≡ Taken (processOf 0 0 0 (pos 128) 1 3) Probes.Nothing Reply.Nothing) ×
-    (stepped (Ack (pos 1)) 0 0 2 (processOf 0 0 0 (pos 128) 2 3) ≡ Stepped.Refused 22) ×
-    (stepped (Ack (minus 1)) 0 0 2 (processOf 0 0 0 (minus 127) 2 3) ≡ Taken (processOf 0 0 0 (minus 128) 1 3) Probes.Nothing Reply.Nothing) ×
-    (stepped (Ack (minus 1)) 0 0 2 (processOf 0 0 0 (minus 128) 2 3) ≡ Stepped.Refused 22) ×
-    (stepped (Ack (pos 1)) 0 0 2 (processOf 0 0 0 (pos 127) 1 3) ≡ Taken (processOf 0 0 0 (pos 0) 0 3) Probes.Nothing (To 3 (pos 128))) ×
-    (stepped (Ack (pos 1)) 0 0 2 (processOf 0 0 0 (pos 128) 1 3) ≡ Stepped.Refused 22) ×
-    (stepped (Ack (pos 1)) 0 0 2 (processOf 0 0 0 (pos 0) 1 0) ≡ Stepped.Refused 22) ×
-    (stepped (Ack (pos 1)) 0 0 2 (processOf 0 0 0 (pos 0) 0 3) ≡ Stepped.Refused 22)
+    (stepped Suc 0 0 1 idle ≡ Taken (plain 1 0 1 (pos 0) 0 1) Sucs (To 1 (counted (pos 1) (pos 1)))) ×
+    (stepped Pre 0 128 128 idle ≡ Taken (plain 0 1 0 (pos 0) 128 128) Pres Reply.Nothing) ×
+    (stepped Suc 1 0 2 (plain 0 0 0 (pos 5) 255 3) ≡ Taken (plain 1 0 1 (pos 1) 256 3) Sucs (To 2 (only (pos 5)))) ×
+    (stepped Suc 1 0 2 (plain 0 0 0 (pos 5) 256 3) ≡ Stepped.Refused 22) ×
+    (stepped (Ack (only (pos 1))) 0 0 2 (plain 0 0 0 (pos 127) 2 3) ≡ Taken (plain 0 0 0 (pos 128) 1 3) Probes.Nothing Reply.Nothing) ×
+    (stepped (Ack (only (pos 1))) 0 0 2 (plain 0 0 0 (pos 128) 2 3) ≡ Stepped.Refused 22) ×
+    (stepped (Ack (only (minus 1))) 0 0 2 (plain 0 0 0 (minus 127) 2 3) ≡ Taken (plain 0 0 0 (minus 128) 1 3) Probes.Nothing Reply.Nothing) ×
+    (stepped (Ack (only (minus 1))) 0 0 2 (plain 0 0 0 (minus 128) 2 3) ≡ Stepped.Refused 22) ×
+    (stepped (Ack (only (pos 1))) 0 0 2 (plain 0 0 0 (pos 127) 1 3) ≡ Taken (plain 0 0 0 (pos 0) 0 3) Probes.Nothing (To 3 (only (pos 128)))) ×
+    (stepped (Ack (only (pos 1))) 0 0 2 (plain 0 0 0 (pos 128) 1 3) ≡ Stepped.Refused 22) ×
+    (stepped (Ack (only (pos 1))) 0 0 2 (plain 0 0 0 (pos 0) 1 0) ≡ Stepped.Refused 22) ×
+    (stepped (Ack (only (pos 1))) 0 0 2 (plain 0 0 0 (pos 0) 0 3) ≡ Stepped.Refused 22)
 unfolding computing
 steps-refused-by-22 = (refl, refl, refl, refl, refl, refl, refl, refl, refl, refl, refl, refl)
 
+-- 02, N3: "Such a process adds 1 when it first becomes succeeding", after rule 1; "passed on and zeroed with cs"; "it and the second count have cs's
+-- range": 21 and 22 cover them
+second-numbers :
+    (stepped Suc 1 0 1 idle ≡ Taken (plain 1 0 1 (pos 1) 1 1) Sucs Reply.Nothing) ×  -- a process that waits for somebody
+    (stepped Suc 0 0 2 (processOf 0 0 0 (pos 5) 1 3 (pos 7)) ≡ Taken (processOf 1 0 1 (pos 1) 1 3 (pos 1)) Sucs (To 2 (counted (pos 5) (pos 7)))) ×
+    (stepped Suc 0 0 2 (processOf 1 0 1 (pos 5) 1 3 (pos 7)) ≡ Taken (processOf 1 0 1 (pos 0) 1 3 (pos 0)) Probes.Nothing (To 2 (counted (pos 5) (pos 7)))) ×
+    (stepped Pre 0 0 2 (processOf 1 0 1 (pos 1) 0 3 (pos 1)) ≡ Taken (plain 1 1 0 (pos 0) 0 2) Pres (To 2 (counted (pos 0) (pos 1)))) ×
+    (stepped (Ack (counted (pos 1) (pos 2))) 0 0 2 (processOf 1 0 1 (pos 3) 2 3 (pos 4))
+    ≡ Taken (processOf 1 0 1 (pos 4) 1 3 (pos 6)) Probes.Nothing Reply.Nothing) ×
+    (startStepped (Ack (counted (pos 1) (pos 2))) 2 (rootWith (pos 3) (pos 4) 1) ≡ Taken (rootWith (pos 4) (pos 6) 0) Probes.Nothing Reply.Nothing) ×
+    (startStepped Pre 2 (rootWith (pos 3) (pos 4) 1) ≡ Taken (rootWith (pos 3) (pos 4) 1) Probes.Nothing (To 2 (only (pos 0)))) ×
+    (stepped Suc 0 0 0 (processOf 0 0 0 (pos 0) 0 0 (pos 128)) ≡ Stepped.Refused 25) ×
+    (stepped Suc 0 0 0 (processOf 0 0 0 (pos 0) 0 0 (pos 129)) ≡ Stepped.Refused 21) ×
+    (stepped Suc 0 0 0 (processOf 0 0 0 (pos 0) 0 0 (minus 128)) ≡ Stepped.Refused 25) ×
+    (stepped Suc 0 0 0 (processOf 0 0 0 (pos 0) 0 0 (minus 129)) ≡ Stepped.Refused 21) ×
+    (stepped (Ack (counted (pos 0) (pos 128))) 0 0 0 idle ≡ Stepped.Refused 25) ×
+    (stepped (Ack (counted (pos 0) (pos 129))) 0 0 0 idle ≡ Stepped.Refused 21) ×
+    (stepped (Ack (counted (pos 0) (minus 128))) 0 0 0 idle ≡ Stepped.Refused 25) ×
+    (stepped (Ack (counted (pos 0) (minus 129))) 0 0 0 idle ≡ Stepped.Refused 21) ×
+    (stepped Suc 0 0 1 (processOf 0 0 0 (pos 0) 0 0 (pos 127)) ≡ Taken (plain 1 0 1 (pos 0) 0 1) Sucs (To 1 (counted (pos 1) (pos 128)))) ×
+    (stepped Suc 0 0 1 (processOf 0 0 0 (pos 0) 0 0 (pos 128)) ≡ Stepped.Refused 22) ×
+    (stepped (Ack (counted (pos 0) (pos 1))) 0 0 1 (processOf 1 0 1 (pos 0) 2 1 (pos 128)) ≡ Stepped.Refused 22) ×
+    (stepped (Ack (counted (pos 0) (minus 1))) 0 0 1 (processOf 1 0 1 (pos 0) 2 1 (minus 128)) ≡ Stepped.Refused 22) ×
+    (startStepped (Ack (counted (pos 0) (pos 1))) 2 (rootWith (pos 0) (pos 128) 1) ≡ Stepped.Refused 22)
+unfolding computing
+second-numbers = (refl, refl, refl, refl, refl, refl, refl, refl, refl, refl, refl, refl, refl, refl, refl, refl, refl, refl, refl, refl)
+
 -- the start's step, of which only 22 is asked: "it acknowledges with 0"; "cs gains c, num loses 1"
 start-steps :
-    (startStepped Suc 2 (root (pos 0) 1) ≡ Taken (root (pos 0) 1) Probes.Nothing (To 2 (pos 0))) ×
-    (startStepped (Ack (pos 1)) 2 (root (pos 127) 1) ≡ Taken (root (pos 128) 0) Probes.Nothing Reply.Nothing) ×
-    (startStepped (Ack (pos 1)) 2 (root (pos 128) 1) ≡ Stepped.Refused 22) ×
-    (startStepped (Ack (minus 1)) 2 (root (minus 128) 1) ≡ Stepped.Refused 22) ×
-    (startStepped (Ack (pos 0)) 2 (root (pos 0) 0) ≡ Stepped.Refused 22)
+    (startStepped Suc 2 (root (pos 0) 1) ≡ Taken (root (pos 0) 1) Probes.Nothing (To 2 (only (pos 0)))) ×
+    (startStepped (Ack (only (pos 1))) 2 (root (pos 127) 1) ≡ Taken (root (pos 128) 0) Probes.Nothing Reply.Nothing) ×
+    (startStepped (Ack (only (pos 1))) 2 (root (pos 128) 1) ≡ Stepped.Refused 22) ×
+    (startStepped (Ack (only (minus 1))) 2 (root (minus 128) 1) ≡ Stepped.Refused 22) ×
+    (startStepped (Ack (only (pos 0))) 2 (root (pos 0) 0) ≡ Stepped.Refused 22)
 unfolding computing
 start-steps = (refl, refl, refl, refl, refl)
 
 -- "A host may lend one process record with one message and have it updated by the step"; a refusal changes nothing
 lent-records :
-    (lentAnswer (stepped Suc 0 0 1 idle) ≡ Lent.Taken Sucs (To 1 (pos 1))) ×
-    (lentRecord idle (stepped Suc 0 0 1 idle) ≡ processOf 1 0 1 (pos 0) 0 1) ×
-    (lentAnswer (stepped Suc 0 0 0 (processOf 0 0 0 (pos 5) 7 0)) ≡ Lent.Refused 25) ×
-    (lentRecord (processOf 0 0 0 (pos 5) 7 0) (stepped Suc 0 0 0 (processOf 0 0 0 (pos 5) 7 0)) ≡ processOf 0 0 0 (pos 5) 7 0)
+    (lentAnswer (stepped Suc 0 0 1 idle) ≡ Lent.Taken Sucs (To 1 (counted (pos 1) (pos 1)))) ×
+    (lentRecord idle (stepped Suc 0 0 1 idle) ≡ plain 1 0 1 (pos 0) 0 1) ×
+    (lentAnswer (stepped Suc 0 0 0 (plain 0 0 0 (pos 5) 7 0)) ≡ Lent.Refused 25) ×
+    (lentRecord (plain 0 0 0 (pos 5) 7 0) (stepped Suc 0 0 0 (plain 0 0 0 (pos 5) 7 0)) ≡ plain 0 0 0 (pos 5) 7 0)
 unfolding computing
 lent-records = (refl, refl, refl, refl)
 
 -- ---- 21 "run area not well formed": the ranges of "Run and links". Reading process 0 meets 25 where the run is well formed, 21 where it is not
 
 ranges :
-    (readRecord (two 1 0 (root (pos 0) 1) (processOf 1 0 0 (pos 0) 0 0) [] []) 0 ≡ Reading.Refused 25) ×
-    (readRecord (two 1 0 (root (pos 0) 1) (processOf 2 0 0 (pos 0) 0 0) [] []) 0 ≡ Reading.Refused 21) ×
-    (readRecord (two 1 0 (root (pos 0) 1) (processOf 0 1 0 (pos 0) 0 0) [] []) 0 ≡ Reading.Refused 25) ×
-    (readRecord (two 1 0 (root (pos 0) 1) (processOf 0 2 0 (pos 0) 0 0) [] []) 0 ≡ Reading.Refused 21) ×
-    (readRecord (two 1 0 (root (pos 0) 1) (processOf 0 0 1 (pos 0) 0 0) [] []) 0 ≡ Reading.Refused 25) ×
-    (readRecord (two 1 0 (root (pos 0) 1) (processOf 0 0 2 (pos 0) 0 0) [] []) 0 ≡ Reading.Refused 21) ×
-    (readRecord (two 1 0 (root (pos 0) 1) (processOf 0 0 0 (pos 128) 0 0) [] []) 0 ≡ Reading.Refused 25) ×
-    (readRecord (two 1 0 (root (pos 0) 1) (processOf 0 0 0 (pos 129) 0 0) [] []) 0 ≡ Reading.Refused 21) ×
-    (readRecord (two 1 0 (root (pos 0) 1) (processOf 0 0 0 (minus 128) 0 0) [] []) 0 ≡ Reading.Refused 25) ×
-    (readRecord (two 1 0 (root (pos 0) 1) (processOf 0 0 0 (minus 129) 0 0) [] []) 0 ≡ Reading.Refused 21) ×
-    (readRecord (two 1 0 (root (pos 0) 1) (processOf 0 0 0 (pos 0) 256 0) [] []) 0 ≡ Reading.Refused 25) ×
-    (readRecord (two 1 0 (root (pos 0) 1) (processOf 0 0 0 (pos 0) 257 0) [] []) 0 ≡ Reading.Refused 21) ×
+    (readRecord (two 1 0 (root (pos 0) 1) (plain 1 0 0 (pos 0) 0 0) [] []) 0 ≡ Reading.Refused 25) ×
+    (readRecord (two 1 0 (root (pos 0) 1) (plain 2 0 0 (pos 0) 0 0) [] []) 0 ≡ Reading.Refused 21) ×
+    (readRecord (two 1 0 (root (pos 0) 1) (plain 0 1 0 (pos 0) 0 0) [] []) 0 ≡ Reading.Refused 25) ×
+    (readRecord (two 1 0 (root (pos 0) 1) (plain 0 2 0 (pos 0) 0 0) [] []) 0 ≡ Reading.Refused 21) ×
+    (readRecord (two 1 0 (root (pos 0) 1) (plain 0 0 1 (pos 0) 0 0) [] []) 0 ≡ Reading.Refused 25) ×
+    (readRecord (two 1 0 (root (pos 0) 1) (plain 0 0 2 (pos 0) 0 0) [] []) 0 ≡ Reading.Refused 21) ×
+    (readRecord (two 1 0 (root (pos 0) 1) (plain 0 0 0 (pos 128) 0 0) [] []) 0 ≡ Reading.Refused 25) ×
+    (readRecord (two 1 0 (root (pos 0) 1) (plain 0 0 0 (pos 129) 0 0) [] []) 0 ≡ Reading.Refused 21) ×
+    (readRecord (two 1 0 (root (pos 0) 1) (plain 0 0 0 (minus 128) 0 0) [] []) 0 ≡ Reading.Refused 25) ×
+    (readRecord (two 1 0 (root (pos 0) 1) (plain 0 0 0 (minus 129) 0 0) [] []) 0 ≡ Reading.Refused 21) ×
+    (readRecord (two 1 0 (root (pos 0) 1) (plain 0 0 0 (pos 0) 256 0) [] []) 0 ≡ Reading.Refused 25) ×
+    (readRecord (two 1 0 (root (pos 0) 1) (plain 0 0 0 (pos 0) 257 0) [] []) 0 ≡ Reading.Refused 21) ×
     -- "every father is 0 or a neighbour": 1 is a neighbour of 2, 2 is not
-    (readRecord (two 1 0 (root (pos 0) 1) (processOf 0 0 0 (pos 0) 0 1) [] []) 0 ≡ Reading.Refused 25) ×
-    (readRecord (two 1 0 (root (pos 0) 1) (processOf 0 0 0 (pos 0) 0 2) [] []) 0 ≡ Reading.Refused 21) ×
+    (readRecord (two 1 0 (root (pos 0) 1) (plain 0 0 0 (pos 0) 0 1) [] []) 0 ≡ Reading.Refused 25) ×
+    (readRecord (two 1 0 (root (pos 0) 1) (plain 0 0 0 (pos 0) 0 2) [] []) 0 ≡ Reading.Refused 21) ×
     -- "the start is 1 to N"
     (readRecord (two 0 0 (root (pos 0) 1) idle [] []) 0 ≡ Reading.Refused 21) ×
     (readRecord (two 2 0 (root (pos 0) 1) idle [] []) 0 ≡ Reading.Refused 25) ×
@@ -613,14 +654,22 @@ ranges :
 unfolding computing
 ranges = (refl, refl, refl, refl, refl, refl, refl, refl, refl, refl, refl, refl, refl, refl, refl, refl, refl, refl, refl, refl, refl, refl)
 
--- "The count may be negative (−128 to 128)", in a waiting acknowledgement
+-- "The count may be negative (−128 to 128)", in a waiting acknowledgement, and the second count too; the second sum of a process (02, N3)
 count-ranges :
-    (readRecord (receiving idle (Ack (pos 128))) 0 ≡ Reading.Refused 25) ×
-    (readRecord (receiving idle (Ack (pos 129))) 0 ≡ Reading.Refused 21) ×
-    (readRecord (receiving idle (Ack (minus 128))) 0 ≡ Reading.Refused 25) ×
-    (readRecord (receiving idle (Ack (minus 129))) 0 ≡ Reading.Refused 21)
+    (readRecord (receiving idle (Ack (only (pos 128)))) 0 ≡ Reading.Refused 25) ×
+    (readRecord (receiving idle (Ack (only (pos 129)))) 0 ≡ Reading.Refused 21) ×
+    (readRecord (receiving idle (Ack (only (minus 128)))) 0 ≡ Reading.Refused 25) ×
+    (readRecord (receiving idle (Ack (only (minus 129)))) 0 ≡ Reading.Refused 21) ×
+    (readRecord (receiving idle (Ack (counted (pos 0) (pos 128)))) 0 ≡ Reading.Refused 25) ×
+    (readRecord (receiving idle (Ack (counted (pos 0) (pos 129)))) 0 ≡ Reading.Refused 21) ×
+    (readRecord (receiving idle (Ack (counted (pos 0) (minus 128)))) 0 ≡ Reading.Refused 25) ×
+    (readRecord (receiving idle (Ack (counted (pos 0) (minus 129)))) 0 ≡ Reading.Refused 21) ×
+    (readRecord (receiving (processOf 0 0 0 (pos 0) 0 0 (pos 128)) Suc) 0 ≡ Reading.Refused 25) ×
+    (readRecord (receiving (processOf 0 0 0 (pos 0) 0 0 (pos 129)) Suc) 0 ≡ Reading.Refused 21) ×
+    (readRecord (receiving (processOf 0 0 0 (pos 0) 0 0 (minus 128)) Suc) 0 ≡ Reading.Refused 25) ×
+    (readRecord (receiving (processOf 0 0 0 (pos 0) 0 0 (minus 129)) Suc) 0 ≡ Reading.Refused 21)
 unfolding computing
-count-ranges = (refl, refl, refl, refl)
+count-ranges = (refl, refl, refl, refl, refl, refl, refl, refl, refl, refl, refl, refl)
 
 -- the same in words, of which one is set: the places are those of docs/LAYOUT.md with N 2 and M 1
 ranges-in-words :
@@ -644,9 +693,43 @@ ranges-in-words :
     (readAnswer (set (area (receiving idle Suc)) 32 (pos 257)) 0 ≡ Reading.Refused 21) ×
     (readAnswer (set (area (receiving idle Suc)) 32 (minus 1)) 0 ≡ Reading.Refused 21) ×
     (readAnswer (set (area (receiving idle Suc)) 33 (pos 1)) 0 ≡ Reading.Refused 25) ×  -- father of 2
-    (readAnswer (set (area (receiving idle Suc)) 33 (pos 2)) 0 ≡ Reading.Refused 21)
+    (readAnswer (set (area (receiving idle Suc)) 33 (pos 2)) 0 ≡ Reading.Refused 21) ×
+    (readAnswer (set (area (receiving idle Suc)) 34 (pos 128)) 0 ≡ Reading.Refused 25) ×  -- the second sum of 2 (02, N3)
+    (readAnswer (set (area (receiving idle Suc)) 34 (pos 129)) 0 ≡ Reading.Refused 21) ×
+    (readAnswer (set (area (receiving idle Suc)) 34 (minus 128)) 0 ≡ Reading.Refused 25) ×
+    (readAnswer (set (area (receiving idle Suc)) 34 (minus 129)) 0 ≡ Reading.Refused 21) ×
+    (readAnswer (set (area (receiving idle Suc)) 35 (pos 1)) 0 ≡ Reading.Refused 21) ×  -- a free word
+    (readAnswer (set (area (receiving idle Suc)) 34 (minus 5)) 2 ≡ Found (processOf 0 0 0 (pos 0) 0 0 (minus 5)))
 unfolding computing
-ranges-in-words = (refl, refl, refl, refl, refl, refl, refl, refl, refl, refl, refl, refl, refl, refl, refl, refl, refl, refl, refl, refl, refl)
+ranges-in-words = (
+  refl,
+  refl,
+  refl,
+  refl,
+  refl,
+  refl,
+  refl,
+  refl,
+  refl,
+  refl,
+  refl,
+  refl,
+  refl,
+  refl,
+  refl,
+  refl,
+  refl,
+  refl,
+  refl,
+  refl,
+  refl,
+  refl,
+  refl,
+  refl,
+  refl,
+  refl,
+  refl,
+)
 
 -- "the edition, 1 or 2": "In an area it gives 21" (02, N4); its word is the fourth
 edition-ranges :
@@ -662,19 +745,25 @@ edition-ranges :
 unfolding computing
 edition-ranges = (refl, refl, refl, refl, refl, refl, refl, refl, refl)
 
--- a message in one word: 1 a suc probe, 2 a pre probe, 256 + c an acknowledgement with count c
+-- a message in one word: 1 a suc probe, 2 a pre probe, 256 + c + 512 (256 + d) an acknowledgement with count c and second count d (02, N3)
 messages-in-words :
     (runIn (set (area (receiving idle Suc)) 36 (pos 1)) .link 1 2 ≡ Suc ∷ []) ×
     (runIn (set (area (receiving idle Suc)) 36 (pos 2)) .link 1 2 ≡ Pre ∷ []) ×
-    (runIn (set (area (receiving idle Suc)) 36 (pos 255)) .link 1 2 ≡ Ack (minus 1) ∷ []) ×
+    (runIn (set (area (receiving idle Suc)) 36 (pos 131327)) .link 1 2 ≡ Ack (only (minus 1)) ∷ []) ×
+    (runIn (set (area (receiving idle Suc)) 36 (pos 130818)) .link 1 2 ≡ Ack (counted (pos 2) (minus 1)) ∷ []) ×
+    (area (receiving idle (Ack (counted (pos 2) (minus 1)))) ≡ set (area (receiving idle Suc)) 36 (pos 130818)) ×
     (readAnswer (set (area (receiving idle Suc)) 36 (pos 2)) 0 ≡ Reading.Refused 25) ×
     (readAnswer (set (area (receiving idle Suc)) 36 (pos 3)) 0 ≡ Reading.Refused 21) ×
-    (readAnswer (set (area (receiving idle Suc)) 36 (pos 127)) 0 ≡ Reading.Refused 21) ×
-    (readAnswer (set (area (receiving idle Suc)) 36 (pos 128)) 0 ≡ Reading.Refused 25) ×
-    (readAnswer (set (area (receiving idle Suc)) 36 (pos 384)) 0 ≡ Reading.Refused 25) ×
-    (readAnswer (set (area (receiving idle Suc)) 36 (pos 385)) 0 ≡ Reading.Refused 21)
+    (readAnswer (set (area (receiving idle Suc)) 36 (pos 256)) 0 ≡ Reading.Refused 21) ×  -- an acknowledgement as it was without second counts
+    (readAnswer (set (area (receiving idle Suc)) 36 (pos 65664)) 0 ≡ Reading.Refused 25) ×  -- the least of both counts: 128 + 512 · 128
+    (readAnswer (set (area (receiving idle Suc)) 36 (pos 65663)) 0 ≡ Reading.Refused 21) ×
+    (readAnswer (set (area (receiving idle Suc)) 36 (pos 65152)) 0 ≡ Reading.Refused 21) ×
+    (readAnswer (set (area (receiving idle Suc)) 36 (pos 196992)) 0 ≡ Reading.Refused 25) ×  -- the largest: 384 + 512 · 384
+    (readAnswer (set (area (receiving idle Suc)) 36 (pos 196993)) 0 ≡ Reading.Refused 21) ×
+    (readAnswer (set (area (receiving idle Suc)) 36 (pos 197504)) 0 ≡ Reading.Refused 21) ×
+    (readAnswer (set (area (receiving idle Suc)) 36 (minus 131072)) 0 ≡ Reading.Refused 21)
 unfolding computing
-messages-in-words = (refl, refl, refl, refl, refl, refl, refl, refl, refl)
+messages-in-words = (refl, refl, refl, refl, refl, refl, refl, refl, refl, refl, refl, refl, refl, refl, refl)
 
 -- ==== "A refusal returns its number, zeros elsewhere"
 
@@ -689,9 +778,9 @@ table-zeros n = (refl, refl, refl, refl, refl, refl, refl, refl)
 -- a refused pick makes no delivery; running on gives "their number" (with 21 it is 0: running-in-order)
 call-zeros : (n made : ℕ) →
     (deliveryNumber (Delivery.Refused n) ≡ n) × (deliveryMade (Delivery.Refused n) ≡ 0) ×
-    (deliveryKind (Delivery.Refused n) ≡ 0) × (deliveryCount (Delivery.Refused n) ≡ pos 0) ×
+    (deliveryKind (Delivery.Refused n) ≡ 0) × (deliveryCounts (Delivery.Refused n) ≡ only (pos 0)) ×
     (ranNumber (Ran.Refused n made) ≡ n) × (ranOver (Ran.Refused n made) ≡ 0) × (ranMade (Ran.Refused n made) ≡ made) ×
-    (readingNumber (Reading.Refused n) ≡ n) × (readingProcess (Reading.Refused n) ≡ processOf 0 0 0 (pos 0) 0 0)
+    (readingNumber (Reading.Refused n) ≡ n) × (readingProcess (Reading.Refused n) ≡ plain 0 0 0 (pos 0) 0 0)
 unfolding computing
 call-zeros n made = (refl, refl, refl, refl, refl, refl, refl, refl, refl)
 
@@ -715,25 +804,28 @@ accepted-numbers :
     (openedNumber (Opened.At 5) ≡ 0) × (openedArc (Opened.At 5) ≡ 5) × (nextArc (Next.Arc 5) ≡ 5) × (nextArc Next.End ≡ 0) ×
     (startedNumber Started.Ready ≡ 0) × (deliveryNumber (Delivered Suc) ≡ 0) × (deliveryMade (Delivered Suc) ≡ 1) ×
     (readingNumber (Found idle) ≡ 0) × (readingProcess (Found (root (pos 5) 6)) ≡ root (pos 5) 6) ×
-    (steppedNumber (Taken idle Sucs (To 5 (pos 6))) ≡ 0) × (steppedProbes (Taken idle Sucs (To 5 (pos 6))) ≡ Sucs) ×
-    (steppedReply (Taken idle Sucs (To 5 (pos 6))) ≡ To 5 (pos 6))
+    (steppedNumber (Taken idle Sucs (To 5 (only (pos 6)))) ≡ 0) × (steppedProbes (Taken idle Sucs (To 5 (only (pos 6)))) ≡ Sucs) ×
+    (steppedReply (Taken idle Sucs (To 5 (only (pos 6)))) ≡ To 5 (only (pos 6)))
 unfolding computing
 accepted-numbers = (refl, refl, refl, refl, refl, refl, refl, refl, refl, refl, refl, refl, refl, refl, refl, refl, refl)
 
--- kinds: a suc probe 1, a pre probe 2, an acknowledgement 3 with its count; any other kind is refused with 21, as a count out of range is
+-- kinds: a suc probe 1, a pre probe 2, an acknowledgement 3 with its counts; any other kind is refused with 21, as a count out of range is
 kinds :
-    (deliveryKind (Delivered Suc) ≡ 1) × (deliveryCount (Delivered Suc) ≡ pos 0) × (messageOf 1 (pos 5) ≡ Suc) ×
-    (deliveryKind (Delivered Pre) ≡ 2) × (deliveryCount (Delivered Pre) ≡ pos 0) × (messageOf 2 (pos 5) ≡ Pre) ×
-    (deliveryKind (Delivered (Ack (minus 5))) ≡ 3) × (deliveryCount (Delivered (Ack (minus 5))) ≡ minus 5) × (messageOf 3 (minus 5) ≡ Ack (minus 5)) ×
-    (stepped (messageOf 0 (pos 0)) 0 0 1 idle ≡ Stepped.Refused 21) × (stepped (messageOf 4 (pos 0)) 0 0 1 idle ≡ Stepped.Refused 21)
+    (deliveryKind (Delivered Suc) ≡ 1) × (deliveryCounts (Delivered Suc) ≡ only (pos 0)) × (messageOf 1 (counted (pos 5) (pos 6)) ≡ Suc) ×
+    (deliveryKind (Delivered Pre) ≡ 2) × (deliveryCounts (Delivered Pre) ≡ only (pos 0)) × (messageOf 2 (counted (pos 5) (pos 6)) ≡ Pre) ×
+    (deliveryKind (Delivered (Ack (counted (minus 5) (pos 6)))) ≡ 3) ×
+    (deliveryCounts (Delivered (Ack (counted (minus 5) (pos 6)))) ≡ counted (minus 5) (pos 6)) ×
+    (messageOf 3 (counted (minus 5) (pos 6)) ≡ Ack (counted (minus 5) (pos 6))) ×
+    (stepped (messageOf 0 (only (pos 0))) 0 0 1 idle ≡ Stepped.Refused 21) × (stepped (messageOf 4 (only (pos 0))) 0 0 1 idle ≡ Stepped.Refused 21)
 unfolding computing
 kinds = (refl, refl, refl, refl, refl, refl, refl, refl, refl, refl, refl)
 
--- chains: 0 the out-chain, any other the in-chain. Probes: 0 none, 1 suc, 2 pre. The acknowledgement: to whom and its count, 0 and 0 if there is none
+-- chains: 0 the out-chain, any other the in-chain. Probes: 0 none, 1 suc, 2 pre. The acknowledgement: to whom and its counts, 0s if there is none
 chains-and-probes :
     (chainOf 0 ≡ Out) × (chainOf 1 ≡ In) × (chainOf 2 ≡ In) ×
     (probesNumber Probes.Nothing ≡ 0) × (probesNumber Sucs ≡ 1) × (probesNumber Pres ≡ 2) ×
-    (replyTo Reply.Nothing ≡ 0) × (replyCount Reply.Nothing ≡ pos 0) × (replyTo (To 5 (minus 6)) ≡ 5) × (replyCount (To 5 (minus 6)) ≡ minus 6)
+    (replyTo Reply.Nothing ≡ 0) × (replyCounts Reply.Nothing ≡ only (pos 0)) × (replyTo (To 5 (only (minus 6))) ≡ 5) ×
+    (replyCounts (To 5 (counted (minus 6) (pos 7))) ≡ counted (minus 6) (pos 7))
 unfolding computing
 chains-and-probes = (refl, refl, refl, refl, refl, refl, refl, refl, refl, refl)
 
@@ -753,14 +845,14 @@ ends = (refl, refl, refl, refl, refl, refl, refl, refl, refl, refl, refl, refl, 
 -- "In 1-2, 2-1, when both probes reach 2 before its acknowledgements, 2 returns counts 1 and −1": the picks, and what each answers
 counts-1-and-minus-1 :
     answers (startRun (waitsOf (fieldOf both)) 1 1) ((1, 2) ∷ (1, 2) ∷ (2, 1) ∷ (2, 1) ∷ (2, 1) ∷ (1, 2) ∷ (1, 2) ∷ (2, 1) ∷ (2, 1) ∷ [])
-    ≡ Delivered Suc ∷ Delivered Pre ∷ Delivered Suc ∷ Delivered (Ack (pos 1)) ∷ Delivered Pre ∷
-    Delivered (Ack (pos 0)) ∷ Delivered (Ack (pos 0)) ∷ Delivered (Ack (minus 1)) ∷ Delivery.Refused 23 ∷ []
+    ≡ Delivered Suc ∷ Delivered Pre ∷ Delivered Suc ∷ Delivered (Ack (only (pos 1))) ∷ Delivered Pre ∷
+    Delivered (Ack (only (pos 0))) ∷ Delivered (Ack (only (pos 0))) ∷ Delivered (Ack (only (minus 1))) ∷ Delivery.Refused 23 ∷ []
 unfolding computing
 counts-1-and-minus-1 = refl
 
 -- "22 never occurs in a run made by start and deliveries": the number that a delivery meets is none of those that a list can answer
 never-22-is-met-by-no-list : (w : Waits) (s ed : ℕ) (p : Passed Run) → Promise w s ed p
-    → List·Memᴰ (deliveryNumber (pick (receiving idle (Ack (pos 0))) 1 2 1 .answer)) (p .numbers) → ⊥
+    → List·Memᴰ (deliveryNumber (pick (receiving idle (Ack (only (pos 0)))) 1 2 1 .answer)) (p .numbers) → ⊥
 unfolding computing
 never-22-is-met-by-no-list w s ed p h m = none (h .answers 22 m)
   where

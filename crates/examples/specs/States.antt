@@ -4,10 +4,13 @@
 --   table n m ps ks     == the bytes of a table: N, M, first-out and first-in of each process, from, to, next-out and next-in of each arc
 --   one, both, fork     == accepted tables: 1-2 with N 2; 1-2 and 2-1 with N 2; 1-2 and 1-3 with N 3
 --   alone, loop         == accepted tables of one process: without waits; 1-1
+--   beside              == the accepted table of 02, N3: 1-2, 2-3 and 3-2 with N 3
 --   met1 .. met7        == bytes that meet row 1 .. 7 of "Refused because of the input", and later rows too
 --   input s ed bs       == the check program's input: the start process, the edition, then these bytes
 --   words k             == k words, each 9
---   root c n            == a start's record, with this cs and this num
+--   counted c d, only c == a count and a second count; a count alone, with 0 as second count
+--   plain s p b c n f   == a record with these values and second sum 0
+--   root c n, rootWith c d n   == a start's record, with this cs and this num; with this second sum too
 --   two s d x y forth back   == a run on the waits of one, with start s, edition 1 and d accepted deliveries: x and y are the records of 1 and
 --                          of 2, forth the messages from 1 to 2, back those from 2 to 1
 --   under ed r          == a run with another edition
@@ -29,6 +32,7 @@ use Rattle.tables.specs.Waits.{waitsOf}
 use Rattle.steps.specs.declared.Message.{Message}
 use Rattle.steps.specs.declared.Message.the-variants.{Suc, Pre, Ack}
 use Rattle.steps.specs.declared.Process.{Process}
+use Rattle.steps.specs.declared.TwoCounts.{TwoCounts}
 use Rattle.steps.specs.Step.{idle}
 use Rattle.checks.specs.declared.Delivery.{Delivery}
 use Rattle.checks.specs.Run.{Run}
@@ -74,6 +78,10 @@ alone = table 1 0 ((0, 0) ∷ []) []
 unfoldable pub loop : List ℕ
 loop = table 1 1 ((1, 1) ∷ []) ((1, 1, 0, 0) ∷ [])
 
+-- 02, N3: "Waits 1-2, 2-3, 3-2"
+unfoldable pub beside : List ℕ
+beside = table 3 3 ((1, 0) ∷ (2, 3) ∷ (3, 2) ∷ []) ((1, 2, 0, 0) ∷ (2, 3, 0, 0) ∷ (3, 2, 0, 1) ∷ [])
+
 -- met7 to met1: each is the one above it spoilt once more, and meets its own row and every later one; met1 alone misses 5 and 6
 
 -- two arcs 1-2
@@ -113,9 +121,22 @@ input s ed bs = lowFirst (s ∷ ed ∷ []) ++ bs
 unfoldable pub words : ℕ → List ℤ
 words k = replicate k (pos 9)
 
+-- "Acknowledgements carry a second count" (02, N3)
+abbrev pub counted : ℤ → ℤ → TwoCounts
+counted c d = record { count = c; second = d }
+
+abbrev pub only : ℤ → TwoCounts
+only c = counted c (pos 0)
+
+abbrev pub plain : ℕ → ℕ → ℕ → ℤ → ℕ → ℕ → Process
+plain s p b c n f = processOf s p b c n f (pos 0)
+
 -- "s gets succeeding and preceding"
+unfoldable pub rootWith : ℤ → ℤ → ℕ → Process
+rootWith c d n = processOf 1 1 0 c n 0 d
+
 unfoldable pub root : ℤ → ℕ → Process
-root c n = processOf 1 1 0 c n 0
+root c n = rootWith c (pos 0) n
 
 unfoldable pub two : ℕ → ℕ → Process → Process → List Message → List Message → Run
 two s d x y forth back =
@@ -136,7 +157,7 @@ receiving y m = two 1 0 (root (pos 0) 1) y (m ∷ []) []
 
 -- three messages wait from 1 to 2, which has both flags and is busy, so that it only acknowledges the probes
 unfoldable pub three : Run
-three = two 1 0 (root (pos 0) 3) (processOf 1 1 0 (pos 0) 2 1) (Suc ∷ Pre ∷ Ack (pos 5) ∷ []) []
+three = two 1 0 (root (pos 0) 3) (plain 1 1 0 (pos 0) 2 1) (Suc ∷ Pre ∷ Ack (only (pos 5)) ∷ []) []
 
 -- nobody waits for anybody, so there is no link, and yet a message from 2 to 1
 unfoldable pub unlinked : Run
@@ -147,7 +168,7 @@ unlinked =
       edition = 1;
       count = 0;
       process = λ p. choose (eqb p 1) (root (pos 0) 1) idle;
-      link = λ a b. choose (eqb a 2 && eqb b 1) (Ack (pos 0) ∷ []) [];
+      link = λ a b. choose (eqb a 2 && eqb b 1) (Ack (only (pos 0)) ∷ []) [];
     }
 
 -- N is 2 and M is 1: "8N + 20M + 16" words

@@ -1,8 +1,6 @@
 // The answers of the calls on a run, each compared with what the search expects.
 use crate::Expected;
-use crate::editions;
 use crate::faults;
-use crate::starts;
 use checks::Delivery;
 use checks::Mark;
 use checks::Reading;
@@ -14,6 +12,7 @@ use ordering::Call;
 use ordering::Course;
 use steps::Message;
 use steps::Process;
+use steps::TwoCounts;
 
 // The course with a difference if the test fails. Only the first one counts.
 pub fn expect(c: Course, test: bool, fault: u32) -> Course {
@@ -54,12 +53,25 @@ fn refusal(found: &[bool; 16899], call: Call, c: Course) -> u32 {
     24
 }
 
-// A message that can be on a link: a suc along a wait, a pre against one, an acknowledgement with a count in range.
-fn is_message(found: &[bool; 16899], call: Call, message: Message) -> bool {
+// Whether a second sum or count can be: in cs's range, and never below 0 in a run made by start and deliveries (02, N3).
+fn is_second(second: i32) -> bool {
+    0 <= second && second <= 128
+}
+
+// Counts that an acknowledgement can carry: in range, and 0 from the start, which passes nothing on.
+fn are_counts(counts: TwoCounts, from_start: bool) -> bool {
+    if from_start {
+        return counts.count == 0 && counts.second == 0;
+    }
+    -128 <= counts.count && counts.count <= 128 && is_second(counts.second)
+}
+
+// A message that can be on a link: a suc along a wait, a pre against one, an acknowledgement with counts that can be.
+fn is_message(found: &[bool; 16899], call: Call, message: Message, start: usize) -> bool {
     match message {
         Message::Suc => searching::is_wait(found, call.from, call.to),
         Message::Pre => searching::is_wait(found, call.to, call.from),
-        Message::Ack(count) => -128 <= count && count <= 128,
+        Message::Ack(counts) => are_counts(counts, call.from == start),
     }
 }
 
@@ -79,7 +91,10 @@ fn is_refused(call: Call, number: u32, refusal: u32, c: Course) -> bool {
 fn is_picked(found: &[bool; 16899], call: Call, answer: Delivery, refusal: u32, c: Course) -> bool {
     match answer {
         Delivery::Delivered(message) => {
-            refusal == 24 && 0 < call.place && call.place <= 4 && is_message(found, call, message)
+            refusal == 24
+                && 0 < call.place
+                && call.place <= 4
+                && is_message(found, call, message, c.start)
         }
         Delivery::Refused(number) => is_refused(call, number, refusal, c),
     }
@@ -118,9 +133,9 @@ fn is_of(answer: Delivery, expected: u32) -> bool {
     }
 }
 
-// Whether a pick before the first delivery took what the start sent. Until then the receiver of the course is the start.
+// Whether a pick before the first delivery took what the start sent.
 fn is_sent(found: &[bool; 16899], call: Call, answer: Delivery, c: Course) -> bool {
-    c.made > 0 || is_of(answer, first_kind(found, call, c.receiver))
+    c.made > 0 || is_of(answer, first_kind(found, call, c.start))
 }
 
 // The place below that of the order's own pick, 0 below place 1 and for another pick.
@@ -213,12 +228,17 @@ pub fn ran(k: u32, answer: Ran, c: Course) -> Course {
     expect(d, is_run(answer, k, left(c)), faults::RUNNING_ON)
 }
 
-// What holds of every record at any time: flags, and "subordinate is 1 if succeeding and not preceding".
-fn is_fair(x: Process) -> bool {
+// Flags, and "subordinate is 1 if succeeding and not preceding".
+fn are_flags(x: Process) -> bool {
     if x.succeeding == 1 && x.preceding == 0 {
         return x.subordinate == 1;
     }
     x.subordinate == 0 && x.succeeding < 2 && x.preceding < 2
+}
+
+// What holds of every record at any time.
+fn is_fair(x: Process) -> bool {
+    is_second(x.second) && are_flags(x)
 }
 
 // A record is found exactly for the processes; 25 for other numbers.
@@ -256,17 +276,11 @@ fn is_knot(e: Expected) -> bool {
     e.second
 }
 
-// Knot exactly if there is one, and returned exactly with knot.
-fn is_verdict(verdict: Verdict, mark: Mark, knot: bool) -> bool {
+// Knot exactly if there is one.
+fn is_verdict(verdict: Verdict, knot: bool) -> bool {
     match verdict {
-        Verdict::Knot => match mark {
-            Mark::Returned => knot,
-            Mark::Held => false,
-        },
-        Verdict::Free => match mark {
-            Mark::Returned => false,
-            Mark::Held => !knot,
-        },
+        Verdict::Knot => knot,
+        Verdict::Free => !knot,
     }
 }
 
@@ -279,15 +293,38 @@ fn is_judged(report: Report, e: Expected) -> bool {
             verdict,
             outside: _,
             escape: _,
+            mark: _,
+        } => is_verdict(verdict, is_knot(e)),
+    }
+}
+
+// Whether a mark is right if so many of those reachable wait for nobody.
+fn is_mark(mark: Mark, idlers: i32) -> bool {
+    match mark {
+        Mark::Returned => idlers == 0,
+        Mark::Held => idlers != 0,
+    }
+}
+
+// "a payment is returned exactly if every process reachable from the start, itself included, waits for somebody" (02, N3)
+fn is_marked(report: Report, e: Expected) -> bool {
+    match report {
+        Report::Refused(_) => false,
+        Report::Over {
+            deliveries: _,
+            verdict: _,
+            outside: _,
+            escape: _,
             mark,
-        } => is_verdict(verdict, mark, is_knot(e)),
+        } => is_mark(mark, e.idlers),
     }
 }
 
 // After the report of the end.
 pub fn last_reported(report: Report, e: Expected, c: Course) -> Course {
     let told = expect(c, is_last_report(report, e, c.due), faults::REPORT);
-    expect(told, is_judged(report, e), faults::VERDICT)
+    let judged = expect(told, is_judged(report, e), faults::VERDICT);
+    expect(judged, is_marked(report, e), faults::MARK)
 }
 
 // Whether a report refuses an area as not well formed.
@@ -304,36 +341,36 @@ fn is_not_formed(report: Report) -> bool {
     }
 }
 
-// After a report in an area with a word that is no edition, and one with the other edition.
-pub fn exchanged(none: Report, other: Report, e: Expected, c: Course) -> Course {
-    let f = starts::under(e, editions::other(e.edition));
-    let right = is_last_report(other, f, c.due) && is_judged(other, f);
-    let refused = expect(c, is_not_formed(none), faults::NO_EDITION);
-    expect(refused, right, faults::OTHER_EDITION)
+// After a report in an area with a word in the place of another that makes it not well formed, and one with a word by which that is expected
+// at the end.
+pub fn exchanged(none: Report, other: Report, e: Expected, fault: u32, c: Course) -> Course {
+    let right = is_last_report(other, e, c.due) && is_judged(other, e) && is_marked(other, e);
+    let refused = expect(c, is_not_formed(none), fault);
+    expect(refused, right, fault)
 }
 
-// "cs 0, but the start's cs is outside"
-fn last_cs(e: Expected, p: usize) -> i32 {
+// The sums of p at the end: "cs 0, but the start's cs is outside"; the second sum "0 everywhere but at the start, which has the number of such
+// processes" (02, N3)
+fn are_last_sums(x: Process, e: Expected, p: usize) -> bool {
     if p == e.start {
-        return e.outside;
+        return x.cs == e.outside && x.second == e.idlers;
     }
-    0
+    x.cs == 0 && x.second == 0
 }
 
-// The values of p at the end; father is left open.
-fn is_last(x: Process, found: &[bool; 16899], p: usize, cs: i32) -> bool {
+// The flags and num of p at the end; father is left open.
+fn is_last(x: Process, found: &[bool; 16899], p: usize) -> bool {
     x.succeeding == searching::flag(found, searching::AFTER, p)
         && x.preceding == searching::flag(found, searching::BEFORE, p)
         && x.subordinate == searching::outsider(found, p)
         && x.num == 0
-        && x.cs == cs
 }
 
 // The record of p at the end.
 pub fn is_last_record(answer: Reading, found: &[bool; 16899], e: Expected, p: usize) -> bool {
     match answer {
         Reading::Refused(_) => false,
-        Reading::Found(x) => is_last(x, found, p, last_cs(e, p)),
+        Reading::Found(x) => is_last(x, found, p) && are_last_sums(x, e, p),
     }
 }
 

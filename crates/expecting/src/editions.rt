@@ -1,7 +1,7 @@
 // Editions (02, N4): "1 or 2"; numbers that are none, and the word of an area that holds one (docs/LAYOUT.md).
 
 // Where an area holds its edition.
-const EDITION: usize = 3;
+pub const PLACE: usize = 3;
 
 // The other edition.
 pub fn other(edition: usize) -> usize {
@@ -41,11 +41,5 @@ pub fn no_word(x: usize) -> i32 {
         4 => 65538,
         5 => -2147483647,
         _ => 0,
-    }
-}
-
-pub fn put(area: &mut [i32], word: i32) {
-    if EDITION < area.len() {
-        area[EDITION] = word;
     }
 }

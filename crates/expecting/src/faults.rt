@@ -35,9 +35,19 @@ pub const SURPLUS: u32 = 15;
 pub const PLACE: u32 = 16;
 // A start under an edition that is neither 1 nor 2 is not refused with 30, or not in 30's place: after 8 and before 9.
 pub const REFUSED_EDITION: u32 = 17;
-// The verdict or the mark of the end is not that of the edition which the start named.
+// The verdict of the end is not that of the edition which the start named.
 pub const VERDICT: u32 = 18;
-// A report in an area whose edition is neither 1 nor 2 is not refused with 21.
-pub const NO_EDITION: u32 = 19;
-// The report of the end in an area whose edition was exchanged for the other is not that of the other.
-pub const OTHER_EDITION: u32 = 20;
+// A report in an area whose edition is neither 1 nor 2 is not refused with 21, or that of the end in one whose edition was exchanged for the
+// other is not that of the other.
+pub const OTHER_EDITION: u32 = 19;
+// The mark of the end is not returned where every process reachable from the start waits for somebody, or not held where one does not.
+pub const MARK: u32 = 20;
+// At some moment the second sums and the waiting second counts do not come to the number of succeeding processes that wait for nobody, or one
+// is below 0; or after a probe a process did not pass its second sum on.
+pub const SECONDS: u32 = 21;
+// A report in an area whose start has a second sum out of range is not refused with 21, or that of the end in one with another second sum in
+// range is not marked by it.
+pub const OTHER_SUM: u32 = 22;
+// A report in an area with a message whose second count is out of range is not refused with 21, or that of the end in one with a message
+// whose counts are in range is another.
+pub const OTHER_COUNT: u32 = 23;

@@ -30,16 +30,24 @@ pub fn found_of(table: &[u8], found: &[bool; 16899], start: usize) -> Expected {
         pres: searching::waits_for(found),
         outside: signed(searching::outsiders(found)),
         escape: searching::lowest_outsider(found),
+        idlers: signed(searching::idlers(found)),
         first: searching::is_knot(found, 1),
         second: searching::is_knot(found, 2),
         edition: 1,
     }
 }
 
-// The same under an edition: all but the verdict and the mark is the same.
+// The same under an edition: all but the verdict is the same.
 pub fn under(e: Expected, edition: usize) -> Expected {
     let mut d = e;
     d.edition = edition;
+    d
+}
+
+// The same with another second sum of the start: all but the mark is the same.
+pub fn with_idlers(e: Expected, idlers: i32) -> Expected {
+    let mut d = e;
+    d.idlers = idlers;
     d
 }
 
@@ -47,6 +55,7 @@ pub fn under(e: Expected, edition: usize) -> Expected {
 pub fn course(e: Expected, x: usize, fault: u32) -> Course {
     let arcs = numbers::sum(e.sucs, e.pres);
     Course {
+        start: e.start,
         made: 0,
         due: numbers::sum(arcs, arcs),
         sucs: 0,

@@ -1,4 +1,4 @@
-// The words of an area: filled before a start, and watched for change.
+// The words of an area: filled before a start, read, exchanged, and watched for change.
 
 // What every word holds before a start.
 const MARK: i32 = 20000003;
@@ -8,6 +8,21 @@ pub fn fill(area: &mut [i32]) {
     while k < area.len() {
         area[k] = MARK;
         k += 1;
+    }
+}
+
+// The word at a place, 0 past the last.
+pub fn at(area: &[i32], place: usize) -> i32 {
+    if place < area.len() {
+        return area[place];
+    }
+    0
+}
+
+// Another word at a place.
+pub fn put(area: &mut [i32], place: usize, word: i32) {
+    if place < area.len() {
+        area[place] = word;
     }
 }
 

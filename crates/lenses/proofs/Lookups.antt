@@ -3,17 +3,16 @@
 --   num-is                    == what `number` says of the word of num in a record
 --   link-none, link-here      == the messages on a link: none between two who are not neighbours, else those of its words
 --   none-here, beyond-here    == what waits at a place of a link, by their number, where no message is there
---   WordAt w i k ms           == the word of place k of the link at i stands inside, has 16 bits and is the message's; word-at, if there is one
+--   WordAt w i k ms           == the word of place k of the link at i stands inside and is the message's; word-at, if there is one
 -- Assumes nothing.
-use Prim.Native.Nat.{ℕ, suc, _+_, _-_, _^_, _≤_, _<_}
+use Prim.Native.Nat.{ℕ, _+_, _-_, _^_, _≤_, _<_}
 use mathlib.Core.Bool.{true, false}
 use mathlib.Core.List.{List, []}
 use mathlib.Core.Path.{_≡_, sym, ap, _∙_}
 use mathlib.Core.Logic.{_⊎_, inl, inr, ⊎-elim}
 use native.Mathlib.Omega.{arith}
-use borrow.Author.Tests.{leb-true, le-ltb}
 use lib.ListN.{length, getD}
-use lib.IntN.{ℤ, pos, negsuc, natAbs}
+use lib.IntN.{ℤ, pos, natAbs}
 use lib.Signed.{mag}
 use mir.Syntax.{w32}
 use mir.Val.{toZ, ofZ}
@@ -21,8 +20,7 @@ use Rattle.tables.specs.Table.{mostProcesses, mostArcs}
 use Rattle.tables.specs.Waits.{neighbours}
 use Rattle.steps.specs.declared.Message.{Message}
 use Rattle.steps.specs.declared.Process.{Process}
-use Rattle.steps.specs.declared.Message.the-variants.{Suc, Pre, Ack}
-use Rattle.steps.specs.Step.{mostCount, small, inRange, countSmall}
+use Rattle.steps.specs.Step.{inRange, countSmall}
 use Rattle.checks.specs.Run.{knot}
 use Rattle.machine.specs.FormedLaws.{wellFormed-P}
 use Rattle.machine.specs.Among.{Here}
@@ -45,21 +43,10 @@ use Rattle.lenses.specs.StandingLaws.{standing-none, standing-beyond, st
 use Rattle.lenses.proofs.Stores.{read-process, link-is, slot-word, link-place, link-small, link-within}
 use Rattle.steps.proofs.Counts.{signed-back}
 
--- the word of a message whose count is in range has 16 bits
-code-fits : (m : Message) → countSmall m ≡ true → natAbs (codeOf m) ≤ 65535
-unfolding codeOf countSmall small
-code-fits Suc e = omega arith
-code-fits Pre e = omega arith
-code-fits (Ack (pos n)) e = omega (arith, leb-true n mostCount e)
-code-fits (Ack (negsuc n)) e =
-    let l : suc n ≤ mostCount = leb-true (suc n) mostCount e in
-    rw (le-ltb 256 (suc n) (omega arith)) (omega arith)
-
 -- the word of place k of the link at i, on which ms wait
 pub record WordAt (w : List ℤ) (i k : ℕ) (ms : List Message) : Type 0 where
   pub small : i + k ≤ areaLength mostProcesses mostArcs
   pub within : i + k - 1 < length w
-  pub fits : natAbs (getD w (i + k - 1) (pos 0)) ≤ 65535
   pub says : AtPlace.Message (messageOf (getD w (i + k - 1) (pos 0))) ≡ standing k ms
 
 module _ {w : List ℤ} {sq : List ℕ} {n m : ℕ} (y : Ready w sq n m) where
@@ -118,7 +105,6 @@ module _ {w : List ℤ} {sq : List ℕ} {n m : ℕ} (y : Ready w sq n m) where
             record {
               small = omega (arith, few-here, link-small y j l u e);
               within = omega (arith, lo, few-here, link-within y j l u e);
-              fits = rw word-is (code-fits (here .message) message-small);
               says =
                   ap (λ (z : ℤ). AtPlace.Message (messageOf z)) word-is
                   ∙ ap AtPlace.Message (messageOf-codeOf (here .message) message-small)

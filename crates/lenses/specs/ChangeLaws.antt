@@ -19,7 +19,6 @@ use native.Mathlib.Omega.{arith}
 use borrow.Author.Tests.{eqb-true, eq-eqb, leb-true, leb-false, le-leb, lt-leb}
 use lib.Dec.{eqb, leb}
 use lib.ListN.{length, length-append}
-use lib.IntN.{ℤ}
 use Rattle.machine.specs.Machine as Machines
 use Rattle.base.specs.Choice.{choose}
 use Rattle.base.specs.ChoiceLaws.{and-both, and-right, or-left, or-right, or-cases, same?, tested}
@@ -34,9 +33,10 @@ use Rattle.tables.specs.Chains.{joins}
 use Rattle.steps.specs.declared.Message.{Message}
 use Rattle.steps.specs.declared.Message.the-variants.{Ack}
 use Rattle.steps.specs.declared.Process.{Process}
+use Rattle.steps.specs.declared.TwoCounts.{TwoCounts}
 use Rattle.steps.specs.declared.Reply.{Reply}
 use Rattle.steps.specs.declared.Reply.the-variants.{To}
-use Rattle.steps.specs.Step.{inRange, small, countSmall, replyFits}
+use Rattle.steps.specs.Step.{inRange, small, bothSmall, countSmall, replyFits}
 use Rattle.machine.specs.Calls.{Cut, behind, atPlace}
 use Rattle.machine.specs.FormedLaws.{wellFormed-P, allRight-append}
 use Rattle.machine.specs.Among.{Among, Placed, there, not-there, Here}
@@ -215,10 +215,10 @@ module _ (t : Fields) (r : Run) (f : Storable t r) where
       storable-link a b (without k (r .link a b)) j (h .0) (h .1)
 
   pub storable-answered : (b : ℕ) (y : Reply) → replyFits y ≡ true
-      → ((p : ℕ) (c : ℤ) → y ≡ To p c → (neighbours (r .waits) b p ≡ true) × (length (r .link b p) ≤ linkSlots - 1)) → Storable t (answered r b y)
+      → ((p : ℕ) (c : TwoCounts) → y ≡ To p c → (neighbours (r .waits) b p ≡ true) × (length (r .link b p) ≤ linkSlots - 1)) → Storable t (answered r b y)
   unfolding answered replyFits countSmall
   storable-answered b Reply.Nothing k h = f
-  storable-answered b (To p c) k h = storable-push b p (Ack c) (h p c refl .0) (and-right (leb 1 p) (small c) k) (h p c refl .1)
+  storable-answered b (To p c) k h = storable-push b p (Ack c) (h p c refl .0) (and-right (leb 1 p) (bothSmall c) k) (h p c refl .1)
 
 -- ---- the probes of a broadcast, one by one
 

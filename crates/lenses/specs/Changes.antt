@@ -15,7 +15,6 @@ use mathlib.Core.List.{List, [], _∷_, _++_}
 use mathlib.Core.Path.{_≡_}
 use lib.Dec.{eqb, leb}
 use lib.ListN.{length}
-use lib.IntN.{ℤ}
 use Rattle.base.specs.Choice.{choose}
 use Rattle.tables.specs.declared.Chain.{Chain}
 use Rattle.tables.specs.declared.Chain.the-variants.{Out, In}
@@ -23,6 +22,7 @@ use Rattle.tables.specs.Waits.{neighbours}
 use Rattle.tables.specs.Chains.{joins}
 use Rattle.steps.specs.declared.Message.{Message}
 use Rattle.steps.specs.declared.Message.the-variants.{Suc, Pre, Ack}
+use Rattle.steps.specs.declared.TwoCounts.{TwoCounts}
 use Rattle.steps.specs.declared.Reply.{Reply}
 use Rattle.steps.specs.declared.Reply.the-variants.{To}
 use Rattle.machine.specs.Calls.{Cut, nowhere, cut, atPlace}
@@ -69,4 +69,4 @@ abbrev pub Spreadable : Chain → Run → ℕ → ℕ → Type 0
 Spreadable c r n b = (q : ℕ) → 1 ≤ q → q ≤ n → joins c (r .waits) b q ≡ true → HasSlot r b q
 
 abbrev pub Answerable : Run → ℕ → ℕ → Reply → Type 0
-Answerable r n b y = (p : ℕ) (c : ℤ) → y ≡ To p c → (p ≤ n) × (neighbours (r .waits) b p ≡ true) × HasSlot r b p
+Answerable r n b y = (p : ℕ) (c : TwoCounts) → y ≡ To p c → (p ≤ n) × (neighbours (r .waits) b p ≡ true) × HasSlot r b p

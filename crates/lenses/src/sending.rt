@@ -62,8 +62,16 @@ pub fn acknowledge(
 {
     match reply {
         Reply::Nothing => {}
-        Reply::To { process, count } => {
-            links::push(area, square, n, m, b, process as usize, Message::Ack(count));
+        Reply::To { process, counts } => {
+            links::push(
+                area,
+                square,
+                n,
+                m,
+                b,
+                process as usize,
+                Message::Ack(counts),
+            );
         }
     }
 }

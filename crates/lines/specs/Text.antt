@@ -7,13 +7,14 @@
 --   lineEnd             == "each line ends with byte 10"
 --   who own             == "pick or own": own if the program chose the link
 --   linkText own a b    == "pick or own, sender, receiver"
---   messageText m       == " suc", " pre", or " ack" with its count
+--   messageText m       == " suc", " pre", or " ack" with its count and, at the end, its second count (02, N3)
 --   deliveryLine own a b m     == "pick or own, sender, receiver, kind, count for ack"
 --   refusedPickLine a b n      == "A refused pick prints its number"
 --   numberLine w n      == a line of a word and a number
 --   refusedLine n       == "An input refusal prints only `refused` and the number"
 --   flagsText x         == "succeeding, preceding, subordinate"
---   processLine p x     == "process, succeeding, preceding, subordinate, cs, num"
+--   sumsText x          == "cs, num", and at the end the second sum (02, N3)
+--   processLine p x     == "process, succeeding, preceding, subordinate, cs, num", and at the end the second sum (02, N3)
 --   reportText d v o e m   == "deliveries; the report": the five lines overLine, verdictLine, outsideLine, escapeLine and markLine
 -- Assumes nothing.
 use Prim.Native.Nat.{ℕ, zero, suc, _+_, _/_, _%_}
@@ -74,13 +75,13 @@ who false = bytes "pick"
 unfoldable pub linkText : Bool → ℕ → ℕ → List ℕ
 linkText own a b = who own ++ field a ++ field b
 
--- " suc", " pre", " ack" with its count
+-- " suc", " pre", " ack" with its count; "`ack` and `process` lines end with the second number" (02, N3)
 unfoldable pub messageText : Message → List ℕ
 messageText Suc = bytes " suc"
 messageText Pre = bytes " pre"
-messageText (Ack c) = bytes " ack" ++ countField c
+messageText (Ack c) = bytes " ack" ++ countField (c .count) ++ countField (c .second)
 
--- `pick 1 2 suc`, `own 2 1 ack 1`
+-- `pick 1 2 suc`, `own 2 1 ack 1 1`
 unfoldable pub deliveryLine : Bool → ℕ → ℕ → Message → List ℕ
 deliveryLine own a b m = linkText own a b ++ messageText m ++ lineEnd
 
@@ -100,9 +101,13 @@ refusedLine n = numberLine (bytes "refused") n
 unfoldable pub flagsText : Process → List ℕ
 flagsText x = field (x .succeeding) ++ field (x .preceding) ++ field (x .subordinate)
 
--- `process 1 1 1 0 1 0`: "process, succeeding, preceding, subordinate, cs, num"
+-- "cs, num"; "`ack` and `process` lines end with the second number" (02, N3)
+unfoldable pub sumsText : Process → List ℕ
+sumsText x = countField (x .cs) ++ field (x .num) ++ countField (x .second)
+
+-- `process 1 1 1 0 1 0 1`: "process, succeeding, preceding, subordinate, cs, num", and the second sum (02, N3)
 unfoldable pub processLine : ℕ → Process → List ℕ
-processLine p x = bytes "process" ++ field p ++ flagsText x ++ countField (x .cs) ++ field (x .num) ++ lineEnd
+processLine p x = bytes "process" ++ field p ++ flagsText x ++ sumsText x ++ lineEnd
 
 -- `over 2`
 unfoldable pub overLine : ℕ → List ℕ

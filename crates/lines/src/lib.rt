@@ -9,6 +9,7 @@ use pieces::put_flags;
 use pieces::put_link;
 use pieces::put_message;
 use pieces::put_number_line;
+use pieces::put_sums;
 use pieces::put_word;
 use steps::Message;
 use steps::Process;
@@ -19,7 +20,7 @@ ghost use Rattle.lines.specs.Adding.{Added, Line};
 
 mod pieces;
 
-// `pick 1 2 suc`, `own 2 1 ack 1`
+// `pick 1 2 suc`, `own 2 1 ack 1 1`
 pub fn delivery_line(out: &mut [u8], own: bool, from: u32, to: u32, message: Message) -> usize
     requires { ⌜ 128 ≤ length (now out) ⌝ }
     ensures { λ r. ⌜ Line (deliveryLine own from to message) (now (out .entry)) (now (out .exit)) r ⌝ }
@@ -48,7 +49,7 @@ pub fn refused_line(out: &mut [u8], number: u32) -> usize
     put_number_line(out, 0, b"refused", number)
 }
 
-// `process 1 1 1 0 1 0`
+// `process 1 1 1 0 1 0 1`
 pub fn process_line(out: &mut [u8], p: u32, x: Process) -> usize
     requires { ⌜ 128 ≤ length (now out) ⌝ }
     ensures { λ r. ⌜ Line (processLine p x) (now (out .entry)) (now (out .exit)) r ⌝ }
@@ -56,8 +57,7 @@ pub fn process_line(out: &mut [u8], p: u32, x: Process) -> usize
     let mut end = put_word(out, 0, b"process");
     end = put_field(out, end, p);
     end = put_flags(out, end, x);
-    end = put_count_field(out, end, x.cs);
-    end = put_field(out, end, x.num);
+    end = put_sums(out, end, x);
     put_word(out, end, b"\n")
 }
 

@@ -6,7 +6,7 @@ use steps::Process;
 ghost use Prim.Native.Nat.{_+_, _≤_, _<_};
 ghost use mathlib.Core.List.{[], _∷_};
 ghost use lib.ListN.{length};
-ghost use Rattle.lines.specs.Text.{digit, decimal, signed, field, countField, who, linkText, messageText, flagsText, numberLine};
+ghost use Rattle.lines.specs.Text.{digit, decimal, signed, field, countField, who, linkText, messageText, flagsText, sumsText, numberLine};
 ghost use Rattle.lines.specs.Adding.{Added};
 
 pub fn put_word(out: &mut [u8], at: usize, word: &[u8]) -> usize
@@ -100,17 +100,18 @@ pub fn put_link(out: &mut [u8], at: usize, own: bool, from: u32, to: u32) -> usi
     put_field(out, end, to)
 }
 
-// "kind, count for ack"
+// "kind, count for ack", and at the end the second count (02, N3)
 pub fn put_message(out: &mut [u8], at: usize, message: Message) -> usize
-    requires { ⌜ at + 16 ≤ length (now out) ⌝ }
-    ensures { λ r. ⌜ Added 16 (now (out .entry)) at (messageText message) (now (out .exit)) r ⌝ }
+    requires { ⌜ at + 28 ≤ length (now out) ⌝ }
+    ensures { λ r. ⌜ Added 28 (now (out .entry)) at (messageText message) (now (out .exit)) r ⌝ }
 {
     match message {
         Message::Suc => put_word(out, at, b" suc"),
         Message::Pre => put_word(out, at, b" pre"),
-        Message::Ack(count) => {
-            let end = put_word(out, at, b" ack");
-            put_count_field(out, end, count)
+        Message::Ack(counts) => {
+            let mut end = put_word(out, at, b" ack");
+            end = put_count_field(out, end, counts.count);
+            put_count_field(out, end, counts.second)
         }
     }
 }
@@ -123,6 +124,16 @@ pub fn put_flags(out: &mut [u8], at: usize, x: Process) -> usize
     let mut end = put_field(out, at, x.succeeding);
     end = put_field(out, end, x.preceding);
     put_field(out, end, x.subordinate)
+}
+
+// "cs, num", and at the end the second sum (02, N3)
+pub fn put_sums(out: &mut [u8], at: usize, x: Process) -> usize
+    requires { ⌜ at + 35 ≤ length (now out) ⌝ }
+    ensures { λ r. ⌜ Added 35 (now (out .entry)) at (sumsText x) (now (out .exit)) r ⌝ }
+{
+    let mut end = put_count_field(out, at, x.cs);
+    end = put_field(out, end, x.num);
+    put_count_field(out, end, x.second)
 }
 
 // A whole line of a word and a number.

@@ -58,11 +58,12 @@ pub struct Way {
     pub patience: usize,
 }
 
-// How a run stands: A of 01; D, as the search found it; the sucs and pres that picks delivered, and how many deliveries overtook; the last
-// random number; the link tried last, as its place in the list, and the place below the one tried there, 0 if no message is known to wait on
-// that link; the receiver of the last delivery by a pick and the tries since; which call past the end is next, 0 before the end; the first
-// difference.
+// How a run stands: its start; A of 01; D, as the search found it; the sucs and pres that picks delivered, and how many deliveries overtook;
+// the last random number; the link tried last, as its place in the list, and the place below the one tried there, 0 if no message is known to
+// wait on that link; the receiver of the last delivery by a pick, before it the start, and the tries since; which call past the end is next, 0
+// before the end; the first difference.
 pub struct Course {
+    pub start: usize,
     pub made: u32,
     pub due: u32,
     pub sucs: u32,

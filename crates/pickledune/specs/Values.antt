@@ -1,7 +1,7 @@
 -- For each case of an answer 01's values as the C interface gives them, zeros elsewhere. The numbers that demand 3 speaks of
 -- stand beside their answers (checks, Calls; machine, Calls).
 --   kindOf m            == the kind of a message as a number: 1 a suc probe, 2 a pre probe, 3 an acknowledgement
---   deliveryKind, deliveryCount   == "It answers with that message": its kind and its count
+--   deliveryKind, deliveryCounts   == "It answers with that message": its kind and its two counts (02, N3)
 --   ranOver             == "It says over, or spent": 1 if over
 --   knotBit, returnedBit   == 1 for the verdict knot, and for the mark returned
 --   reportCount, reportKnot, reportOutside, reportEscape, reportReturned   == "over count", the verdict, "outside = cs of s", the escape, the mark
@@ -19,8 +19,9 @@ use Rattle.steps.specs.declared.Probes.{Probes}
 use Rattle.steps.specs.declared.Reply.{Reply}
 use Rattle.steps.specs.declared.Stepped.{Stepped}
 use Rattle.steps.specs.declared.Stepped.the-variants.{Taken}
-use Rattle.steps.specs.Step.{idle}
-use Rattle.steps.specs.Effect.{countOf}
+use Rattle.steps.specs.declared.TwoCounts.{TwoCounts}
+use Rattle.steps.specs.Step.{idle, noCounts}
+use Rattle.steps.specs.Effect.{countsOf}
 use Rattle.checks.specs.declared.Delivery.{Delivery}
 use Rattle.checks.specs.declared.Delivery.the-variants.{Delivered}
 use Rattle.checks.specs.declared.Verdict.{Verdict}
@@ -37,14 +38,14 @@ kindOf Suc = 1
 kindOf Pre = 2
 kindOf (Ack c) = 3
 
--- "It answers with that message": its kind and its count
+-- "It answers with that message": its kind and its two counts (02, N3)
 abbrev pub deliveryKind : Delivery → ℕ
 deliveryKind (Delivered m) = kindOf m
 deliveryKind (Delivery.Refused n) = 0
 
-abbrev pub deliveryCount : Delivery → ℤ
-deliveryCount (Delivered m) = countOf m
-deliveryCount (Delivery.Refused n) = pos 0
+abbrev pub deliveryCounts : Delivery → TwoCounts
+deliveryCounts (Delivered m) = countsOf m
+deliveryCounts (Delivery.Refused n) = noCounts
 
 -- "It says over, or spent": 1 if over
 abbrev pub ranOver : Ran → ℕ

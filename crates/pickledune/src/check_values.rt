@@ -1,4 +1,5 @@
 // The answers of a check's calls, as numbers: 01's number and values, zeros elsewhere.
+use crate::step_values;
 use checks::Delivery;
 use checks::Mark;
 use checks::Reading;
@@ -8,10 +9,11 @@ use machine::Ran;
 use starting::Started;
 use steps::Message;
 use steps::Process;
+use steps::TwoCounts;
 ghost use mathlib.Core.Path.{_≡_};
-ghost use Rattle.pickledune.specs.Values.{kindOf, deliveryKind, deliveryCount, knotBit, returnedBit};
+ghost use Rattle.pickledune.specs.Values.{kindOf, deliveryKind, deliveryCounts, knotBit, returnedBit};
 ghost use Rattle.pickledune.specs.Values.{reportCount, reportKnot, reportOutside, reportEscape, reportReturned, readingProcess, ranOver};
-ghost use Rattle.steps.specs.Effect.{countOf};
+ghost use Rattle.steps.specs.Effect.{countsOf};
 ghost use Rattle.checks.specs.Calls.{deliveryNumber, reportNumber, readingNumber};
 ghost use Rattle.machine.specs.Calls.{ranNumber, ranMade};
 ghost use Rattle.pickledune.specs.TableValues.{startedNumber};
@@ -19,7 +21,7 @@ ghost use Rattle.pickledune.specs.TableValues.{startedNumber};
 pub struct DeliveryValues {
     pub number: u32,
     pub kind: u32,
-    pub count: i32,
+    pub counts: TwoCounts,
 }
 
 pub struct RanValues {
@@ -62,30 +64,30 @@ fn kind_of(message: Message) -> u32
     }
 }
 
-// The count of an acknowledgement, 0 for a probe.
-pub fn carried(message: Message) -> i32
-    ensures { λ r. ⌜ r ≡ countOf message ⌝ }
+// The counts of an acknowledgement, 0 for a probe.
+pub fn carried(message: Message) -> TwoCounts
+    ensures { λ r. ⌜ r ≡ countsOf message ⌝ }
 {
     match message {
-        Message::Suc => 0,
-        Message::Pre => 0,
-        Message::Ack(count) => count,
+        Message::Suc => step_values::no_counts(),
+        Message::Pre => step_values::no_counts(),
+        Message::Ack(counts) => counts,
     }
 }
 
 pub fn delivery_values(answer: Delivery) -> DeliveryValues
-    ensures { λ r. ⌜ (r .number ≡ deliveryNumber answer) × (r .kind ≡ deliveryKind answer) × (r .count ≡ deliveryCount answer) ⌝ }
+    ensures { λ r. ⌜ (r .number ≡ deliveryNumber answer) × (r .kind ≡ deliveryKind answer) × (r .counts ≡ deliveryCounts answer) ⌝ }
 {
     match answer {
         Delivery::Delivered(message) => DeliveryValues {
             number: 0,
             kind: kind_of(message),
-            count: carried(message),
+            counts: carried(message),
         },
         Delivery::Refused(number) => DeliveryValues {
             number,
             kind: 0,
-            count: 0,
+            counts: step_values::no_counts(),
         },
     }
 }
@@ -176,6 +178,7 @@ pub fn record_values(answer: Reading) -> RecordValues
                 cs: 0,
                 num: 0,
                 father: 0,
+                second: 0,
             },
         },
     }

@@ -7,13 +7,14 @@ mod table_values;
 use runs::picking;
 use runs::running;
 use steps::Process;
+use steps::TwoCounts;
 ghost use mathlib.Core.Path.{_≡_};
 ghost use Rattle.tables.specs.Reading.{readingOf};
 ghost use Rattle.pickledune.specs.TableValues.{numberOf, nFound, mFound, writingNumber, writtenLength, startedNumber};
 ghost use Rattle.table_writer.specs.Writing.{writingOf, written};
 ghost use Rattle.tables.specs.Walking.{openedOf, openedNumber, openedArc, nextOf, nextArc};
 ghost use Rattle.checks.specs.Calls.{deliveryNumber, reportNumber, readingNumber};
-ghost use Rattle.pickledune.specs.Values.{deliveryKind, deliveryCount, ranOver, reportCount, reportKnot, reportOutside, reportEscape};
+ghost use Rattle.pickledune.specs.Values.{deliveryKind, deliveryCounts, ranOver, reportCount, reportKnot, reportOutside, reportEscape};
 ghost use Rattle.pickledune.specs.Values.{reportReturned, readingProcess};
 ghost use Rattle.machine.specs.Calls.{ranNumber, ranMade};
 ghost use Rattle.starting.specs.StartCall.{startAnswer, startArea};
@@ -87,7 +88,7 @@ pub extern "C" fn pickledune_start(
     check_values::started_number(starting::start(table, start, edition, area))
 }
 
-// Delivers the message at a place of one link, 1 for the oldest: its kind and count. 21, 25, 23, 24, 31, 22.
+// Delivers the message at a place of one link, 1 for the oldest: its kind and its two counts. 21, 25, 23, 24, 31, 22.
 #[no_mangle]
 pub extern "C" fn pickledune_pick(
     area: &mut [i32],
@@ -96,16 +97,21 @@ pub extern "C" fn pickledune_pick(
     place: usize,
     kind: &mut u32,
     count: &mut i32,
+    second: &mut i32,
 ) -> u32
     ensures number { λ r. ⌜ r ≡ deliveryNumber (pickAnswer (now (area .entry)) from to place) ⌝ }
     ensures kind { λ _. ⌜ now (kind .exit) ≡ deliveryKind (pickAnswer (now (area .entry)) from to place) ⌝ }
-    ensures count { λ _. ⌜ now (count .exit) ≡ deliveryCount (pickAnswer (now (area .entry)) from to place) ⌝ }
+    ensures count { λ _. ⌜ now (count .exit) ≡ deliveryCounts (pickAnswer (now (area .entry)) from to place) .count ⌝ }
+    ensures second { λ _. ⌜ now (second .exit) ≡ deliveryCounts (pickAnswer (now (area .entry)) from to place) .second ⌝ }
     ensures area { λ _. ⌜ now (area .exit) ≡ pickArea (now (area .entry)) from to place ⌝ }
 {
     let v = check_values::delivery_values(picking::pick(area, from, to, place));
     *kind = v.kind;
-    let carried = v.count;
-    *count = carried;
+    let carried = v.counts;
+    let first = carried.count;
+    *count = first;
+    let last = carried.second;
+    *second = last;
     v.number
 }
 
@@ -161,6 +167,7 @@ pub extern "C" fn pickledune_read_record(
     cs: &mut i32,
     num: &mut u32,
     father: &mut u32,
+    second: &mut i32,
 ) -> u32
     ensures number { λ r. ⌜ r ≡ readingNumber (readAnswer (now (area .entry)) process) ⌝ }
     ensures succeeding { λ _. ⌜ now (succeeding .exit) ≡ readingProcess (readAnswer (now (area .entry)) process) .succeeding ⌝ }
@@ -169,6 +176,7 @@ pub extern "C" fn pickledune_read_record(
     ensures cs { λ _. ⌜ now (cs .exit) ≡ readingProcess (readAnswer (now (area .entry)) process) .cs ⌝ }
     ensures num { λ _. ⌜ now (num .exit) ≡ readingProcess (readAnswer (now (area .entry)) process) .num ⌝ }
     ensures father { λ _. ⌜ now (father .exit) ≡ readingProcess (readAnswer (now (area .entry)) process) .father ⌝ }
+    ensures second { λ _. ⌜ now (second .exit) ≡ readingProcess (readAnswer (now (area .entry)) process) .second ⌝ }
 {
     let v = check_values::record_values(reports::read_record(area, process));
     let x = v.process;
@@ -179,10 +187,12 @@ pub extern "C" fn pickledune_read_record(
     *cs = sum;
     *num = x.num;
     *father = x.father;
+    let second_sum = x.second;
+    *second = second_sum;
     v.number
 }
 
-// The step of one process other than the start, on the record that the first six references hold; a refusal leaves them as they were.
+// The step of one process other than the start, on the record that the first seven references hold; a refusal leaves them as they were.
 // 21, 25, 22.
 #[no_mangle]
 pub extern "C" fn pickledune_step(
@@ -192,22 +202,28 @@ pub extern "C" fn pickledune_step(
     cs: &mut i32,
     num: &mut u32,
     father: &mut u32,
+    second: &mut i32,
     kind: u32,
     count: i32,
+    second_count: i32,
     out_degree: u32,
     in_degree: u32,
     sender: u32,
     probes: &mut u32,
     reply_to: &mut u32,
     reply_count: &mut i32,
+    reply_second: &mut i32,
 ) -> u32
     ensures { λ r.
-        ⌜ StepTold (messageOf kind count) «out_degree» «in_degree» sender
-        (processOf (now (succeeding .entry)) (now (preceding .entry)) (now (subordinate .entry)) (now (cs .entry)) (now (num .entry)) (now (father .entry)))
-        (processOf (now (succeeding .exit)) (now (preceding .exit)) (now (subordinate .exit)) (now (cs .exit)) (now (num .exit)) (now (father .exit)))
-        r (now (probes .exit)) (now («reply_to» .exit)) (now («reply_count» .exit)) ⌝ }
+        ⌜ StepTold (messageOf kind (record { count = count; second = «second_count» })) «out_degree» «in_degree» sender
+        (processOf (now (succeeding .entry)) (now (preceding .entry)) (now (subordinate .entry)) (now (cs .entry)) (now (num .entry)) (now (father .entry))
+        (now (second .entry)))
+        (processOf (now (succeeding .exit)) (now (preceding .exit)) (now (subordinate .exit)) (now (cs .exit)) (now (num .exit)) (now (father .exit))
+        (now (second .exit)))
+        r (now (probes .exit)) (now («reply_to» .exit)) (record { count = now («reply_count» .exit); second = now («reply_second» .exit) }) ⌝ }
 {
     let sum = *cs;
+    let second_sum = *second;
     let lent = Process {
         succeeding: *succeeding,
         preceding: *preceding,
@@ -215,8 +231,13 @@ pub extern "C" fn pickledune_step(
         cs: sum,
         num: *num,
         father: *father,
+        second: second_sum,
     };
-    let message = step_values::message_of(kind, count);
+    let given = TwoCounts {
+        count,
+        second: second_count,
+    };
+    let message = step_values::message_of(kind, given);
     let answer = steps::step(lent, message, out_degree, in_degree, sender);
     let v = step_values::step_values(answer, lent);
     let x = v.process;
@@ -227,9 +248,14 @@ pub extern "C" fn pickledune_step(
     *cs = new_sum;
     *num = x.num;
     *father = x.father;
+    let new_second = x.second;
+    *second = new_second;
     *probes = v.probes;
     *reply_to = v.reply_to;
-    let returned = v.reply_count;
-    *reply_count = returned;
+    let returned = v.reply_counts;
+    let first = returned.count;
+    *reply_count = first;
+    let last = returned.second;
+    *reply_second = last;
     v.number
 }

@@ -31,6 +31,6 @@ allowedIn r = editionAllows (r .waits) (r .start) (r .edition)
 abbrev pub knotBy : Process → Bool → Bool
 knotBy x a = isZero (x .cs) && a
 
--- "outside = cs of s; .. mark *returned* if the verdict is knot, else *held*"
+-- "outside = cs of s"; 02, N3: the mark by the start's second sum
 abbrev pub toldOf : Process → Bool → ℕ → ℕ → Report
-toldOf x k d e = Report.Over d (choose k Knot Free) (x .cs) e (markOf (choose k Knot Free))
+toldOf x k d e = Report.Over d (choose k Knot Free) (x .cs) e (markOf x)

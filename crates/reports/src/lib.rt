@@ -15,7 +15,7 @@ use tables::is_process;
 ghost use mathlib.Core.Path.{_≡_};
 ghost use Prim.Native.Nat.{_+_};
 ghost use Rattle.areas.specs.Area.{runIn};
-ghost use Rattle.checks.specs.Calls.{escapeOf};
+ghost use Rattle.checks.specs.Calls.{escapeOf, markOf};
 ghost use Rattle.lenses.specs.Ready.{Ready};
 ghost use Rattle.area_calls.specs.AreaCalls.{reportAnswer, readAnswer};
 ghost use Rattle.reports.specs.Told.{wayOut, allowedIn, knotBy, toldOf};
@@ -76,26 +76,38 @@ fn is_knot(start: Process, allowed: bool) -> bool
     allowed
 }
 
+// 02, N3: "The report marks returned if the start's second sum is 0, else held."
+fn mark_of(start: Process) -> Mark
+    ensures { λ r. ⌜ r ≡ markOf start ⌝ }
+{
+    let second = start.second;
+    if second == 0 {
+        return Mark::Returned;
+    }
+    Mark::Held
+}
+
 // The report by the start's record and the verdict.
 fn told(start: Process, knot: bool, deliveries: u32, escape: u32) -> Report
     ensures { λ r. ⌜ r ≡ toldOf start knot deliveries escape ⌝ }
 {
-    let cs = start.cs;
+    let outside = start.cs;
+    let mark = mark_of(start);
     if knot {
         return Report::Over {
             deliveries,
             verdict: Verdict::Knot,
-            outside: cs,
+            outside,
             escape,
-            mark: Mark::Returned,
+            mark,
         };
     }
     Report::Over {
         deliveries,
         verdict: Verdict::Free,
-        outside: cs,
+        outside,
         escape,
-        mark: Mark::Held,
+        mark,
     }
 }
 

@@ -1,7 +1,7 @@
 // A plain search of a wait graph, written apart from the library that it judges: its own reader of the waits in a table's bytes, its own
-// reachability, and the numbers of "The end of a check" (01; escape: 02, N1) and the verdict by each edition (02, N4) found from them. It
-// stands on no other crate and refuses nothing: past the bytes, or for numbers that are no process, it finds nothing. It promises only that
-// it is safe and ends.
+// reachability, and the numbers of "The end of a check" (01; escape: 02, N1; those who wait for nobody: 02, N3) and the verdict by each
+// edition (02, N4) found from them. It stands on no other crate and refuses nothing: past the bytes, or for numbers that are no process, it
+// finds nothing. It promises only that it is safe and ends.
 //
 // What it finds stands in 131 rows of 129 cells: in row p for whom p waits, in row 129 who is reachable from the start, in row 130 who
 // reaches it.
@@ -189,6 +189,25 @@ pub fn lowest_outsider(found: &[bool; 16899]) -> u32 {
         }
     }
     0
+}
+
+// Whether p waits for nobody.
+pub fn is_idle(found: &[bool; 16899], p: usize) -> bool {
+    for q in 1..129 {
+        if is_wait(found, p, q) {
+            return false;
+        }
+    }
+    true
+}
+
+// How many are reachable from the start, itself included, and wait for nobody (02, N3).
+pub fn idlers(found: &[bool; 16899]) -> u32 {
+    let mut count = 0;
+    for p in 1..129 {
+        count = counted(count, cell(found, AFTER, p) && is_idle(found, p));
+    }
+    count
 }
 
 // Whether someone is reached from the start by one arc or more: an arc leads there from one who is reachable.

@@ -81,7 +81,8 @@ module _ (t : Fields) (s ed : ℕ) where
   idle-word (suc zero) = refl
   idle-word (suc (suc zero)) = refl
   idle-word (suc (suc (suc zero))) = refl
-  idle-word (suc (suc (suc (suc j)))) = refl
+  idle-word (suc (suc (suc (suc zero)))) = refl
+  idle-word (suc (suc (suc (suc (suc j))))) = refl
 
   quiet-record : (p j : ℕ) → recordWord (quiet t s ed .process p) j ≡ pos 0
   unfolding quiet

@@ -23,7 +23,7 @@ use Rattle.tables.specs.Table.{Fields, fieldOf, nOf, mOf, IsProcess}
 use Rattle.tables.specs.Layout.{MeetsLayout}
 use Rattle.tables.specs.Waits.{waitsOf}
 use Rattle.steps.specs.declared.Process.{Process}
-use Rattle.steps.specs.Step.{idle}
+use Rattle.steps.specs.Step.{idle, ownCount}
 use Rattle.checks.specs.Run.{Run, IsEdition, started, startRun}
 use Rattle.areas.specs.Places.{headSize, fieldPlace, areaLength}
 use Rattle.areas.specs.Area.{fieldsIn, runIn}
@@ -51,7 +51,7 @@ startOf t s ed = startRun (waitsOf t) s ed
 abbrev pub begunIn : List ℤ → ℕ → Run
 begunIn w s = startOf (fieldsIn w) s (runIn w .edition)
 
--- "num is the number sent"
+-- "num is the number sent"; "the start adds its own at once" (02, N3)
 unfoldable pub startedFrom : List ℕ → ℕ → ℕ → Process
 startedFrom sq n s =
     record {
@@ -61,6 +61,7 @@ startedFrom sq n s =
       cs = pos 0;
       num = countTo n (λ q. joinsBy sq Out s q) + countTo n (λ q. joinsBy sq In s q);
       father = 0;
+      second = pos (ownCount (countTo n (λ q. joinsBy sq Out s q)));
     }
 
 -- start "1 to 9", 30 "after 8 and before 9" (02, N4): what startNumber (StartCall) says of an accepted table

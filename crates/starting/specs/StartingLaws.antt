@@ -14,11 +14,11 @@ use native.Mathlib.Omega.{arith}
 use borrow.Author.Tests.{ltb-false, leb-false, le-leb}
 use lib.Dec.{eqb, ltb, leb}
 use lib.ListN.{length, getD, List·getD-eq-default}
-use lib.IntN.{ℤ}
+use lib.IntN.{ℤ, pos}
 use Rattle.machine.specs.Machine as Machines
 use Rattle.tables.specs.TableLaws.{isProcess-P}
 use Rattle.base.specs.Choice.{choose}
-use Rattle.base.specs.ChoiceLaws.{tested, same?}
+use Rattle.base.specs.ChoiceLaws.{tested, same?, and-both}
 use Rattle.base.specs.Checks.{Tested, passed, failed, Same, same, apart}
 use Rattle.base.specs.SumLaws.{countTo-most}
 use Rattle.tables.specs.declared.Chain.{Chain}
@@ -33,7 +33,8 @@ use Rattle.tables.specs.WaitsLaws.{waitsOf-sound}
 use Rattle.tables.specs.Chains.{joins}
 use Rattle.steps.specs.declared.Message.{Message}
 use Rattle.steps.specs.declared.Message.the-variants.{Suc, Pre}
-use Rattle.steps.specs.Step.{mostNum, inRange, small}
+use Rattle.steps.specs.Step.{mostNum, inRange, small, ownCount}
+use Rattle.steps.specs.StepLaws.{ownCount-small}
 use Rattle.checks.specs.Run.{IsEdition, isEdition, knot, fatherRight, one, started, startRun}
 use Rattle.checks.specs.RunLaws.{isEdition-P}
 use Rattle.areas.specs.Places.{areaLength}
@@ -54,8 +55,10 @@ use Rattle.starting.specs.Starting.{quiet, begun, sucSent, startedFrom, 
 pub started-inRange : (w : Waits) → Sound w → (s : ℕ) → inRange (started w s) ≡ true
 unfolding inRange small started outDegree inDegree
 started-inRange w d s =
-    le-leb (outDegree w s + inDegree w s) mostNum
-    (omega (arith, countTo-most (w .n) (λ q. w .waits s q), countTo-most (w .n) (λ q. w .waits q s), d .few))
+    and-both (leb (outDegree w s + inDegree w s) mostNum) (small (pos (ownCount (outDegree w s))))
+    (le-leb (outDegree w s + inDegree w s) mostNum
+    (omega (arith, countTo-most (w .n) (λ q. w .waits s q), countTo-most (w .n) (λ q. w .waits q s), d .few)))
+    (ownCount-small (outDegree w s))
 
 pub started-father : (w v : Waits) (s : ℕ) → fatherRight v s (started w s) ≡ true
 unfolding fatherRight started

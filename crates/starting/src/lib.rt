@@ -61,7 +61,7 @@ fn lay_out(table: &[u8], n: usize, m: usize, s: usize, edition: usize, area: &mu
     area[places::EDITION] = named;
 }
 
-// The start's record: both flags, and the number of probes that it sends.
+// The start's record: both flags, the number of probes that it sends, and "the start adds its own at once" (02, N3).
 fn first_record(square: &[u16; tables::SQUARE_SIZE], n: usize, s: usize) -> Process
     requires { ⌜ (n ≤ mostProcesses) × (s ≤ mostProcesses) ⌝ }
     ensures { λ r. ⌜ r ≡ startedFrom (now (square .entry)) n s ⌝ }
@@ -75,6 +75,7 @@ fn first_record(square: &[u16; tables::SQUARE_SIZE], n: usize, s: usize) -> Proc
         cs: 0,
         num: successors + predecessors,
         father: 0,
+        second: steps::own_count(successors),
     }
 }
 

@@ -1,10 +1,11 @@
 // Runs stored cases of one process's step on a record that is lent (01, "Steps") through the crate `lending`, and prints what each gives.
 //
-// Standard input is a sequence of cases of 44 bytes each: eleven numbers of 32 bits, low byte first. Six are the record: succeeding,
-// preceding, subordinate, cs, num and father. Two are the message: its kind, 1 for a suc probe, 2 for a pre probe and 3 for an
-// acknowledgement, and its count. The last are the out-degree, the in-degree and the sender. cs and the count are signed.
-// A case prints a line: the number of the answer, 0 if the step was taken; the six values of the record afterwards; the probes to
-// broadcast, `suc`, `pre` or `none`; and the acknowledgement to send, `ack TO COUNT` or `none`. A case of another kind prints
+// Standard input is a sequence of cases of 52 bytes each: thirteen numbers of 32 bits, low byte first. Seven are the record: succeeding,
+// preceding, subordinate, cs, num, father and the second sum. Three are the message: its kind, 1 for a suc probe, 2 for a pre probe and 3
+// for an acknowledgement, its count and its second count. The last are the out-degree, the in-degree and the sender. The sums and the
+// counts are signed.
+// A case prints a line: the number of the answer, 0 if the step was taken; the seven values of the record afterwards; the probes to
+// broadcast, `suc`, `pre` or `none`; and the acknowledgement to send, `ack TO COUNT SECOND` or `none`. A case of another kind prints
 // `no such case`. If bytes are left that make no whole case, `input ends early` is the last line.
 //
 // The program promises only that it is safe and ends: what it prints is held to the file stdout, which tools/step_cases.py makes with the
@@ -16,6 +17,7 @@ use steps::Message;
 use steps::Probes;
 use steps::Process;
 use steps::Reply;
+use steps::TwoCounts;
 
 fn print(text: &[u8]) {
     io::write_all(libc::STDOUT_FILENO, text);
@@ -68,6 +70,7 @@ fn print_process(process: Process) {
     print_signed(process.cs);
     print_field(process.num);
     print_field(process.father);
+    print_signed(process.second);
 }
 
 fn print_probes(probes: Probes) {
@@ -81,10 +84,11 @@ fn print_probes(probes: Probes) {
 fn print_reply(reply: Reply) {
     match reply {
         Reply::Nothing => print(b" none"),
-        Reply::To { process, count } => {
+        Reply::To { process, counts } => {
             print(b" ack");
             print_field(process);
-            print_signed(count);
+            print_signed(counts.count);
+            print_signed(counts.second);
         }
     }
 }
@@ -117,32 +121,40 @@ fn record_of(s: &[u8]) -> Process {
         cs: signed(word(s, 3)),
         num: word(s, 4),
         father: word(s, 5),
+        second: signed(word(s, 6)),
+    }
+}
+
+fn counts_of(s: &[u8]) -> TwoCounts {
+    TwoCounts {
+        count: signed(word(s, 8)),
+        second: signed(word(s, 9)),
     }
 }
 
 // Lends the record in the bytes with that message.
 fn step_case(s: &[u8], message: Message) {
     let record = record_of(s);
-    print_outcome(lending::lend(record, message, word(s, 8), word(s, 9), word(s, 10)));
+    print_outcome(lending::lend(record, message, word(s, 10), word(s, 11), word(s, 12)));
 }
 
 fn run_case(s: &[u8]) {
-    match word(s, 6) {
+    match word(s, 7) {
         1 => step_case(s, Message::Suc),
         2 => step_case(s, Message::Pre),
-        3 => step_case(s, Message::Ack(signed(word(s, 7)))),
+        3 => step_case(s, Message::Ack(counts_of(s))),
         _ => print(b"no such case\n"),
     }
 }
 
 // One case; gives whether to go on.
 fn next_case() -> bool {
-    let mut bytes = [0u8; 44];
+    let mut bytes = [0u8; 52];
     let got = io::read_full(libc::STDIN_FILENO, &mut bytes);
     if got == 0 {
         return false;
     }
-    if got < 44 {
+    if got < 52 {
         print(b"input ends early\n");
         return false;
     }

@@ -6,6 +6,7 @@
 --   small-sum                      == the sum of two counts in range fits 32 bits
 --   small-change                   == new minus old of two flags is a count in range
 --   flag-back                      == a flag cast to a signed number is that number
+--   both-small                     == the parts of bothSmall
 --   newSubordinate-flag            == the new subordinate is 0 or 1
 --   newSubordinate-product         == of two flags it is succeeding times (1 minus preceding)
 -- Assumes nothing.
@@ -21,11 +22,12 @@ use mir.Syntax.{w32}
 use mir.Val.{toZ, ofZ}
 use mir.Facts.{toZ-ofZ}
 use borrow.Author.Tests.{leb-true, le-leb, lt-leb, ltb-true, ltb-false}
-use Rattle.base.specs.ChoiceLaws.{tested}
+use Rattle.base.specs.ChoiceLaws.{tested, and-left, and-right}
 use Rattle.base.specs.Checks.{Tested, passed, failed}
 use Rattle.base.specs.Choice.{choose}
 use Rattle.steps.specs.declared.Process.{Process}
-use Rattle.steps.specs.Step.{mostCount, small, newSubordinate}
+use Rattle.steps.specs.declared.TwoCounts.{TwoCounts}
+use Rattle.steps.specs.Step.{mostCount, small, bothSmall, newSubordinate}
 use Rattle.steps.specs.StepLaws.{newSubordinate-both}
 
 pub signed-back : (z : ℤ) → mag z < 2 ^ 31 → toZ w32 (ofZ w32 z) ≡ z
@@ -75,6 +77,10 @@ pub small-change : (new old : ℕ) → new ≤ 1 → old ≤ 1 → small (pos ne
 unfolding small
 small-change new zero p q = le-leb (new + 0) mostCount (omega arith)
 small-change new (suc old) p q = le-leb (natAbs (subℕ new (suc old))) mostCount (omega (arith, sub-abs new (suc old)))
+
+pub both-small : (c : TwoCounts) → bothSmall c ≡ true → (small (c .count) ≡ true) × (small (c .second) ≡ true)
+unfolding bothSmall
+both-small c e = (and-left (small (c .count)) (small (c .second)) e, and-right (small (c .count)) (small (c .second)) e)
 
 -- a flag as a signed number
 pub flag-back : (v : ℕ) → v ≤ 1 → toZ w32 v ≡ pos v

@@ -1,35 +1,32 @@
 -- The rules of a step: what their callers need of them, and how they are put together.
 --   lent                        == the parts of what is lent in range
---   rule1-num, rule1-ready      == rule 1 leaves num as it is, and a sum and flags that rule 3 can compute with
+--   rule1-num, rule1-second, rule1-ready   == rule 1 leaves num as it is, a second sum in range, and a sum and flags that rule 3 can compute with
 --   setSucceeding-ready, setPreceding-ready   == so does rule 2
---   acknowledgeable             == an acknowledgement in range finds a sum and a num that it can change
+--   acknowledgeable             == an acknowledgement in range finds sums and a num that it can change
 --   rule3-made                  == a turn with the new subordinate and the sum that gained the difference is rule 3's
 --   settled-answer              == where num suffices, settled answers as 01 says: 22, or the step
 -- Assumes nothing.
-use Prim.Native.Nat.{ℕ, _^_, _≤_, _<_}
+use Prim.Native.Nat.{ℕ, _≤_}
 use mathlib.Core.Bool.{Bool, true, not, _&&_}
 use mathlib.Core.Path.{_≡_, refl, _∙_}
 use native.Mathlib.Omega.{arith}
 use lib.Dec.{leb}
 use lib.IntN.{ℤ, natAbs}
-use lib.Signed.{mag}
-use mir.Syntax.{w32}
-use mir.Val.{toZ, ofZ}
 use borrow.Author.Tests.{leb-true, le-leb}
 use Rattle.base.specs.Choice.{choose}
-use Rattle.base.specs.ChoiceLaws.{same?, and-left, and-right}
+use Rattle.base.specs.ChoiceLaws.{same?, and-both, and-left, and-right}
 use Rattle.base.specs.Checks.{Same, same, apart}
 use Rattle.tables.specs.Table.{mostProcesses}
 use Rattle.steps.specs.declared.Message.{Message}
 use Rattle.steps.specs.declared.Message.the-variants.{Ack}
 use Rattle.steps.specs.declared.Process.{Process}
+use Rattle.steps.specs.declared.TwoCounts.{TwoCounts}
 use Rattle.steps.specs.declared.Stepped.{Stepped}
 use Rattle.steps.specs.Step.{Turn, withSubordinate, withCs, small, inRange, countSmall, lentInRange, numSuffices, fitting, answer}
-use Rattle.steps.specs.Step.{mostCount, newSubordinate, gained, rule1, setSucceeding, setPreceding, rule3}
+use Rattle.steps.specs.Step.{mostCount, bothSmall, sumsOf, newSubordinate, gained, rule1, setSucceeding, setPreceding, rule3}
 use Rattle.steps.specs.Effect.{RecordInRange}
 use Rattle.steps.specs.StepLaws.{inRange-P}
 use Rattle.steps.specs.Within.{Addable, settled}
-use Rattle.steps.proofs.Counts.{signed-back}
 
 -- the parts of a conjunction of five
 and-five : (a b c d e : Bool) → (a && b && c && d && e) ≡ true → (a ≡ true) × (b ≡ true) × (c ≡ true) × (d ≡ true) × (e ≡ true)
@@ -57,6 +54,14 @@ rule1-num p x = at (same? (x .num) 0)
   where
     at : Same (x .num) 0 → rule1 p x .process .num ≡ x .num
     at (same _ f) = rw f
+    at (apart _ f) = rw f
+
+pub rule1-second : (p : ℕ) (x : Process) → inRange x ≡ true → small (rule1 p x .process .second) ≡ true
+unfolding rule1 small
+rule1-second p x e = at (same? (x .num) 0)
+  where
+    at : Same (x .num) 0 → small (rule1 p x .process .second) ≡ true
+    at (same _ f) = rw f (le-leb (natAbs (x .second)) mostCount (inRange-P x e .second))
     at (apart _ f) = rw f
 
 -- what rule 3 asks of a record: a sum that it can add to, and two flags
@@ -90,14 +95,16 @@ setPreceding-ready i t h = at (same? (t .process .preceding) 0)
     at (same _ f) = rw f (record { flag = h .0 .flag; count = h .0 .count }, (h .1 .0, omega arith))
     at (apart _ f) = rw f h
 
--- what an acknowledgement asks of the record and of its count, which is read back
-pub acknowledgeable : (m : Message) (c : ℤ) (x : Process) → m ≡ Ack c → mag c < 2 ^ 31 → inRange x ≡ true → countSmall m ≡ true → numSuffices m x ≡ true
-    → (small (toZ w32 (ofZ w32 c)) ≡ true) × ((small (x .cs) ≡ true) × (1 ≤ x .num))
-unfolding countSmall numSuffices small
-acknowledgeable m c x e h r s n =
+-- what an acknowledgement asks of the record and of its counts
+pub acknowledgeable : (m : Message) (c : TwoCounts) (x : Process) → m ≡ Ack c → inRange x ≡ true → countSmall m ≡ true → numSuffices m x ≡ true
+    → (bothSmall c ≡ true) × ((bothSmall (sumsOf x) ≡ true) × (1 ≤ x .num))
+unfolding countSmall numSuffices bothSmall small
+acknowledgeable m c x e r s n =
     let few : leb 1 (x .num) ≡ true = rw e at n in
-    let count : small c ≡ true = rw e at s in
-    (rw (signed-back c h) count, (le-leb (natAbs (x .cs)) mostCount (inRange-P x r .cs), leb-true 1 (x .num) few))
+    let h = inRange-P x r in (
+      rw e at s,
+      (and-both _ _ (le-leb (natAbs (x .cs)) mostCount (h .cs)) (le-leb (natAbs (x .second)) mostCount (h .second)), leb-true 1 (x .num) few),
+    )
 
 pub rule3-made : (t : Turn) (v : ℕ) (z : ℤ) → v ≡ newSubordinate (t .process) → z ≡ gained v (t .process)
     → (record { process = withSubordinate v (withCs z (t .process)); probes = t .probes; reply = t .reply }) ≡ rule3 t

@@ -1,11 +1,12 @@
 -- What a step does, in numbers: the one description that all laws above go by.
 --   isProbe, isSuc, isPre     == which kind a message is
---   countOf m                 == the count that a message carries, 0 for a probe
+--   countsOf m                == the count and the second count that a message carries, 0 and 0 for a probe
 --   kindSucs, kindPres, sucsOf t, presOf t   == 1 if a step broadcasts suc, 1 if it broadcasts pre
---   replyCount y, acksTo y q  == the count of a step's acknowledgement (0 if none), and 1 if it is for q
+--   replyCounts y, acksTo y q == the counts of a step's acknowledgement (0 and 0 if none), and 1 if it is for q
 --   heirTo root x q           == 1 if a process that is not the start (root) is busy (its num is above 0) and q is its father
 --   both x                    == 1 if a process is succeeding and preceding
 --   Known root m x            == what is known of the receiver x of a message m before its step (root: the receiver is the start)
+--   Balanced ..               == one of the two sums: how far it and the count sent differ from the sum before and the count received
 --   Effect root m o i a x t   == what the step t of x on message m from a does, with o successors and i predecessors
 --   Named a x t               == whom the step t of any record x takes as father, and whom it acknowledges
 --   Grown o i x t             == where the step t of any record x broadcasts, num gains the probes sent
@@ -17,7 +18,7 @@ use mathlib.Core.Bool.{Bool, true, false, not}
 use mathlib.Core.Path.{_≡_}
 use mathlib.Core.Logic.{_⊎_}
 use lib.Dec.{eqb}
-use lib.IntN.{ℤ, pos, natAbs}
+use lib.IntN.{ℤ, natAbs}
 use Rattle.base.specs.Choice.{choose, bit}
 use Rattle.base.specs.Sums.{spot}
 use Rattle.base.specs.Parts.{above, below}
@@ -29,7 +30,8 @@ use Rattle.steps.specs.declared.Probes.{Probes}
 use Rattle.steps.specs.declared.Probes.the-variants.{Sucs, Pres}
 use Rattle.steps.specs.declared.Reply.{Reply}
 use Rattle.steps.specs.declared.Reply.the-variants.{To}
-use Rattle.steps.specs.Step.{mostCount, mostNum, Turn, newSubordinate}
+use Rattle.steps.specs.declared.TwoCounts.{TwoCounts}
+use Rattle.steps.specs.Step.{mostCount, mostNum, sumsOf, noCounts, ownCount, Turn, newSubordinate}
 
 -- a suc probe or a pre probe; every other message is an acknowledgement
 abbrev pub isProbe : Message → Bool
@@ -47,10 +49,10 @@ isPre Suc = 0
 isPre Pre = 1
 isPre (Ack c) = 0
 
-abbrev pub countOf : Message → ℤ
-countOf Suc = pos 0
-countOf Pre = pos 0
-countOf (Ack c) = c
+abbrev pub countsOf : Message → TwoCounts
+countsOf Suc = noCounts
+countsOf Pre = noCounts
+countsOf (Ack c) = c
 
 abbrev pub kindSucs : Probes → ℕ
 kindSucs Probes.Nothing = 0
@@ -68,9 +70,9 @@ sucsOf t = kindSucs (t .probes)
 abbrev pub presOf : Turn → ℕ
 presOf t = kindPres (t .probes)
 
-abbrev pub replyCount : Reply → ℤ
-replyCount Reply.Nothing = pos 0
-replyCount (To p c) = c
+abbrev pub replyCounts : Reply → TwoCounts
+replyCounts Reply.Nothing = noCounts
+replyCounts (To p c) = c
 
 abbrev pub acksTo : Reply → ℕ → ℕ
 acksTo Reply.Nothing q = 0
@@ -91,6 +93,11 @@ pub record Known (root : Bool) (m : Message) (x : Process) : Type 0 where
   -- an acknowledgement reaches only a process that waits for one
   pub num-suffices : bit (not (isProbe m)) ≤ x .num
 
+-- new + sent = old + received + worth′ − worth, without minus; negative parts grow at most by what slack grows
+pub record Balanced (old received new sent : ℤ) (worth worth′ slack slack′ : ℕ) : Type 0 where
+  pub balance : above new + above sent + below old + below received + worth ≡ below new + below sent + above old + above received + worth′
+  pub falls : below new + below sent + slack ≤ below old + below received + slack′
+
 pub record Effect (root : Bool) (m : Message) (o i a : ℕ) (x : Process) (t : Turn) : Type 0 where
   -- the flags
   pub succeeding : t .process .succeeding ≡ x .succeeding + sucsOf t
@@ -106,24 +113,25 @@ pub record Effect (root : Bool) (m : Message) (o i a : ℕ) (x : Process) (t : T
   pub num : t .process .num + bit (not (isProbe m)) ≡ x .num + (sucsOf t * o + presOf t * i)
   -- a probe from a becomes an acknowledgement to a, or makes a the father; a father is acknowledged when num falls to 0
   pub heir : (q : ℕ) → heirTo root (t .process) q + acksTo (t .reply) q ≡ heirTo root x q + spot a (bit (isProbe m)) q
-  -- cs + count sent = old cs + count received + new subordinate − old, without minus
-  pub balance :
-      above (t .process .cs) + above (replyCount (t .reply)) + below (x .cs) + below (countOf m) + x .subordinate ≡
-      below (t .process .cs) + below (replyCount (t .reply)) + above (x .cs) + above (countOf m) + t .process .subordinate
-  -- negative parts grow only where a succeeding process becomes preceding too
-  pub falls :
-      below (t .process .cs) + below (replyCount (t .reply)) + both x ≤ below (x .cs) + below (countOf m) + both (t .process)
-  pub at-rest : root ≡ false → t .process .num ≡ 0 → t .process .cs ≡ pos 0
+  -- cs gains new subordinate − old; negative parts grow only where a succeeding process becomes preceding too
+  pub sums :
+      Balanced (x .cs) (countsOf m .count) (t .process .cs) (replyCounts (t .reply) .count) (x .subordinate) (t .process .subordinate) (both x)
+      (both (t .process))
+  -- the second sum gains 1 where a process that waits for nobody becomes succeeding (02, N3); no negative part grows
+  pub seconds :
+      Balanced (x .second) (countsOf m .second) (t .process .second) (replyCounts (t .reply) .second) (x .succeeding * ownCount o)
+      (t .process .succeeding * ownCount o) 0 0
+  pub at-rest : root ≡ false → t .process .num ≡ 0 → sumsOf (t .process) ≡ noCounts
   -- the father changes only where num was 0
   pub father-root : root ≡ true → t .process .father ≡ x .father
   pub father-kept : 1 ≤ x .num → t .process .father ≡ x .father
   pub father-new : root ≡ false → x .num ≡ 0 → t .process .father ≡ a
   -- whom the step acknowledges
-  pub replies : (p : ℕ) (c : ℤ) → t .reply ≡ To p c → (p ≡ a) ⊎ ((root ≡ false) × (1 ≤ x .num) × (p ≡ x .father))
+  pub replies : (p : ℕ) (c : TwoCounts) → t .reply ≡ To p c → (p ≡ a) ⊎ ((root ≡ false) × (1 ≤ x .num) × (p ≡ x .father))
 
 pub record Named (a : ℕ) (x : Process) (t : Turn) : Type 0 where
   pub father : (t .process .father ≡ x .father) ⊎ (t .process .father ≡ a)
-  pub reply : (q : ℕ) (c : ℤ) → t .reply ≡ To q c → (q ≡ a) ⊎ (q ≡ t .process .father)
+  pub reply : (q : ℕ) (c : TwoCounts) → t .reply ≡ To q c → (q ≡ a) ⊎ (q ≡ t .process .father)
 
 -- "A suc probe when not succeeding .. sends suc to all successors"; "A pre probe does the same with preceding and predecessors"
 abbrev pub outNeeded : Message → Process → ℕ → ℕ
@@ -140,10 +148,11 @@ inNeeded (Ack c) x i = 0
 abbrev pub Grown : ℕ → ℕ → Process → Turn → Type 0
 Grown o i x t = 1 ≤ sucsOf t + presOf t → t .process .num ≡ x .num + (sucsOf t * o + presOf t * i)
 
--- "succeeding, preceding, subordinate (0 or 1 each), cs (−128 to 128), num (0 to 256)", part by part
+-- "succeeding, preceding, subordinate (0 or 1 each), cs (−128 to 128), num (0 to 256)", second in cs's range, part by part
 pub record RecordInRange (x : Process) : Type 0 where
   pub succeeding : x .succeeding ≤ 1
   pub preceding : x .preceding ≤ 1
   pub subordinate : x .subordinate ≤ 1
   pub cs : natAbs (x .cs) ≤ mostCount
   pub num : x .num ≤ mostNum
+  pub second : natAbs (x .second) ≤ mostCount

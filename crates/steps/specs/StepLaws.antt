@@ -6,6 +6,7 @@
 --   turn-named, startTurn-named     == whom a step of any record takes as father, and whom it acknowledges
 --   turn-grown, startTurn-grown, grown-sucs, grown-pres   == where the step of any record broadcasts, num grows by the number of probes
 --   stepped-needed    == a step does not depend on a degree that it does not use
+--   ownCount-small    == the 1 or 0 that a process adds to its second sum is a count in range
 --   inRange-P         == what `inRange x` says of the values of a record
 --   stepped-inside    == a step of what is in range, from a process: 22, or the turn
 -- Assumes nothing.
@@ -28,22 +29,23 @@ use Rattle.base.specs.PartLaws.{parts-sum, parts-sum-below, parts-diff, parts-d
 use Rattle.steps.specs.declared.Message.{Message}
 use Rattle.steps.specs.declared.Message.the-variants.{Suc, Pre, Ack}
 use Rattle.steps.specs.declared.Process.{Process}
+use Rattle.steps.specs.declared.TwoCounts.{TwoCounts}
 use Rattle.steps.specs.declared.Probes.{Probes}
 use Rattle.steps.specs.declared.Probes.the-variants.{Sucs, Pres}
 use Rattle.steps.specs.declared.Reply.{Reply}
 use Rattle.steps.specs.declared.Reply.the-variants.{To}
 use Rattle.tables.specs.Table.{mostProcesses}
 use Rattle.steps.specs.Step.{small, inRange, Turn, newSubordinate, gained, rule1, setSucceeding, setPreceding, rule3, rule4, acknowledged, turn}
-use Rattle.steps.specs.Step.{mostCount, mostNum, startTurn, lentInRange, fitting, stepNumber, answer, stepped}
-use Rattle.steps.specs.Effect.{Grown, RecordInRange, kindSucs, kindPres, isProbe, isSuc, isPre, countOf, sucsOf, presOf, replyCount, acksTo}
-use Rattle.steps.specs.Effect.{heirTo, both, Known, Effect, Named, outNeeded, inNeeded}
+use Rattle.steps.specs.Step.{mostCount, mostNum, sumsOf, noCounts, ownCount, gaining, startTurn, lentInRange, fitting, stepNumber, answer, stepped}
+use Rattle.steps.specs.Effect.{Grown, RecordInRange, kindSucs, kindPres, isProbe, isSuc, isPre, countsOf, sucsOf, presOf, replyCounts, acksTo}
+use Rattle.steps.specs.Effect.{heirTo, both, Known, Balanced, Effect, Named, outNeeded, inNeeded}
 
 -- ---- rules 1 and 2
 
 -- rule 1 at a process with num 0, and at one that waits for acknowledgements
 data Asked (a : ℕ) (x : Process) (t : Turn) : Type 0 where
   first : x .num ≡ 0 → t .process .father ≡ a → t .process .cs ≡ x .cs → t .reply ≡ Reply.Nothing → Asked a x t
-  busy : (x .num ≡ 0 → ⊥) → t .process .father ≡ x .father → t .process .cs ≡ pos 0 → t .reply ≡ To a (x .cs) → Asked a x t
+  busy : (x .num ≡ 0 → ⊥) → t .process .father ≡ x .father → t .process .cs ≡ pos 0 → t .reply ≡ To a (sumsOf x) → Asked a x t
 
 rule1-asked : (a : ℕ) (x : Process) → Asked a x (rule1 a x)
 unfolding rule1
@@ -52,6 +54,20 @@ rule1-asked a x = at (same? (x .num) 0)
     at : Same (x .num) 0 → Asked a x (rule1 a x)
     at (same e f) = rw f (first e refl refl refl)
     at (apart n f) = rw f (busy n refl refl refl)
+
+-- the second sum after rules 1 and 2, with what rule 1 sent: it gains 1 where a process that waits for nobody becomes succeeding
+abbrev Second : ℕ → Process → Turn → Type 0
+Second o x t =
+    Balanced (x .second) (pos 0) (t .process .second) (replyCounts (t .reply) .second) (x .succeeding * ownCount o)
+    (t .process .succeeding * ownCount o) 0 0
+
+rule1-second : (o a : ℕ) (x : Process) → Second o x (rule1 a x)
+unfolding rule1
+rule1-second o a x = at (same? (x .num) 0)
+  where
+    at : Same (x .num) 0 → Second o x (rule1 a x)
+    at (same _ f) = rw f (record { balance = omega arith; falls = omega arith })
+    at (apart _ f) = rw f (record { balance = omega arith; falls = omega arith })
 
 -- rule 1 touches neither flags nor num, and sends no probe
 record Plain (x : Process) (t : Turn) : Type 0 where
@@ -102,6 +118,29 @@ module _ {a : ℕ} {x : Process} {t : Turn} where
       at (same _ f) (busy n d c y) = rw f (busy n d c y)
       at (apart _ f) h = rw f h
 
+module _ (o : ℕ) (x : Process) (t : Turn) (h : Second o x t) where
+  setSucceeding-second : Second o x (setSucceeding o t)
+  unfolding setSucceeding
+  setSucceeding-second = at (same? (t .process .succeeding) 0)
+    where
+      at : Same (t .process .succeeding) 0 → Second o x (setSucceeding o t)
+      at (same e f) =
+          let none : t .process .succeeding * ownCount o ≡ 0 = rw e (omega arith) in
+          rw f
+          (record {
+            balance = omega (arith, h .balance, parts-sum (t .process .second) (pos (ownCount o)));
+            falls = omega (arith, h .falls, parts-sum-below (t .process .second) (pos (ownCount o)));
+          })
+      at (apart _ f) = rw f h
+
+  setPreceding-second : (i : ℕ) → Second o x (setPreceding i t)
+  unfolding setPreceding
+  setPreceding-second i = at (same? (t .process .preceding) 0)
+    where
+      at : Same (t .process .preceding) 0 → Second o x (setPreceding i t)
+      at (same _ f) = rw f (record { balance = h .balance; falls = h .falls })
+      at (apart _ f) = rw f h
+
 module _ (o i : ℕ) (x : Process) (t : Turn) (p : Plain x t) where
   none-sent : x .num ≡ x .num + (sucsOf t * o + presOf t * i)
   none-sent = rw (p .sucs, p .pres) (omega arith)
@@ -138,20 +177,21 @@ newSubordinate-both x h k = only-both (x .succeeding) (x .preceding) h k
 
 -- ---- a probe: rules 3 and 4
 
-unanswered : (p : ℕ) (c : ℤ) → Reply.Nothing ≡ To p c → ⊥
+unanswered : (p : ℕ) (c : TwoCounts) → Reply.Nothing ≡ To p c → ⊥
 unanswered p c r = let clash : _≡_ {A = ℕ} 0 1 = cc in omega arith
 
--- what rules 3 and 4 leave, with sum c and reply y
-abbrev final : ℤ → Reply → Turn → Turn
+-- what rules 3 and 4 leave, with sums c and reply y
+abbrev final : TwoCounts → Reply → Turn → Turn
 final c y t =
     record {
       process = record {
         succeeding = t .process .succeeding;
         preceding = t .process .preceding;
         subordinate = newSubordinate (t .process);
-        cs = c;
+        cs = c .count;
         num = t .process .num;
         father = t .process .father;
+        second = c .second;
       };
       probes = t .probes;
       reply = y;
@@ -162,9 +202,16 @@ record Gained (x : Process) (t : Turn) (c z : ℤ) : Type 0 where
   balance : above z + below c + x .subordinate ≡ below z + above c + newSubordinate (t .process)
   falls : below z + both x ≤ below c + both (t .process)
 
--- the sum after rule 3
+-- the sum after rule 3, and both sums
 abbrev sum3 : Turn → ℤ
 sum3 t = gained (newSubordinate (t .process)) (t .process)
+
+abbrev sums3 : Turn → TwoCounts
+sums3 t = record { count = sum3 t; second = t .process .second }
+
+-- rule 4: what was the sum is sent, and the sum is 0
+passed-on : {old received z : ℤ} {u v p q : ℕ} → Balanced old received z (pos 0) u v p q → Balanced old received (pos 0) z u v p q
+passed-on h = record { balance = omega (arith, h .balance); falls = omega (arith, h .falls) }
 
 module _ {m : Message} {o i : ℕ} {x : Process} {t : Turn} (k : Known false m x) (h : Marked m o i x t) where
   marked-succ : t .process .succeeding ≤ 1
@@ -193,22 +240,20 @@ rule3-gained {x = x} {t = t} k h c e =
     )
 
 module _ {m : Message} {o i : ℕ} (a : ℕ) {x : Process} {t : Turn} (k : Known false m x) (h : Marked m o i x t) (probe : isProbe m ≡ true)
-    (no-count : countOf m ≡ pos 0) where
+    (no-counts : countsOf m ≡ noCounts) where
   -- the flags and num of every case, and what the cases differ in
   assembled :
-      (c : ℤ) (y : Reply) →
+      (c : TwoCounts) (y : Reply) →
       ((q : ℕ) → heirTo false (final c y t .process) q + acksTo y q ≡ heirTo false x q + spot a 1 q) →
-      above c + above (replyCount y) + below (x .cs) + x .subordinate ≡ below c + below (replyCount y) + above (x .cs) + newSubordinate (t .process) →
-      below c + below (replyCount y) + both x ≤ below (x .cs) + both (t .process) →
-      (t .process .num ≡ 0 → c ≡ pos 0) →
+      Balanced (x .cs) (pos 0) (c .count) (replyCounts y .count) (x .subordinate) (newSubordinate (t .process)) (both x) (both (t .process)) →
+      Balanced (x .second) (pos 0) (c .second) (replyCounts y .second) (x .succeeding * ownCount o) (t .process .succeeding * ownCount o) 0 0 →
+      (t .process .num ≡ 0 → c ≡ noCounts) →
       (1 ≤ x .num → t .process .father ≡ x .father) →
       (x .num ≡ 0 → t .process .father ≡ a) →
-      ((p : ℕ) (z : ℤ) → y ≡ To p z → p ≡ a) →
+      ((p : ℕ) (z : TwoCounts) → y ≡ To p z → p ≡ a) →
       Effect false m o i a x (final c y t)
   unfolding newSubordinate
-  assembled c y heirs balance falls rests kept new replies =
-      let up : above (countOf m) ≡ 0 = ap above no-count in
-      let down : below (countOf m) ≡ 0 = ap below no-count in
+  assembled c y heirs sums seconds rests kept new replies =
       record {
         succeeding = h .succeeding;
         preceding = h .preceding;
@@ -221,8 +266,8 @@ module _ {m : Message} {o i : ℕ} (a : ℕ) {x : Process} {t : Turn} (k : Known
         sub-is = refl;
         num = rw probe (omega (arith, h .num));
         heir = λ q. rw probe (heirs q);
-        balance = omega arith;
-        falls = omega arith;
+        sums = rw no-counts sums;
+        seconds = rw no-counts seconds;
         at-rest = λ _. rests;
         father-root = λ r. absurd (false≢true r);
         father-kept = kept;
@@ -230,64 +275,77 @@ module _ {m : Message} {o i : ℕ} (a : ℕ) {x : Process} {t : Turn} (k : Known
         replies = λ p z r. inl (replies p z r);
       }
 
-  rules34-effect : Asked a x t → Effect false m o i a x (rule4 (rule3 t))
+  rules34-effect : Second o x t → Asked a x t → Effect false m o i a x (rule4 (rule3 t))
   unfolding rule3 rule4
-  rules34-effect w = at w (same? (t .process .num) 0)
+  rules34-effect s w = at w (same? (t .process .num) 0)
     where
       at : Asked a x t → Same (t .process .num) 0 → Effect false m o i a x (rule4 (rule3 t))
       -- nobody else is asked: a is acknowledged at once
       at (first e d c y) (same n f) =
           let g : Gained x t (x .cs) (sum3 t) = rule3-gained k h (x .cs) c in
-          let z : Reply = To (t .process .father) (sum3 t) in
-          let heirs : (q : ℕ) → heirTo false (final (pos 0) z t .process) q + acksTo z q ≡ heirTo false x q + spot a 1 q =
+          let z : Reply = To (t .process .father) (sums3 t) in
+          let none : replyCounts (t .reply) .second ≡ pos 0 = rw y in
+          let b = rw none at s in
+          let heirs : (q : ℕ) → heirTo false (final noCounts z t .process) q + acksTo z q ≡ heirTo false x q + spot a 1 q =
           λ q. omega (arith, heir-none (t .process .num) (t .process .father) q n, heir-none (x .num) (x .father) q e, ap (λ (p : ℕ). spot p 1 q) d) in
-          rw f (assembled (pos 0) z heirs (omega arith) (omega arith) (λ _. refl) (λ l. absurd (omega arith)) (λ _. d) (λ p u r. cc))
+          rw f
+          (assembled noCounts z heirs (record { balance = omega arith; falls = omega arith }) (passed-on b) (λ _. refl)
+          (λ l. absurd (omega arith)) (λ _. d) (λ p u r. cc))
       -- a becomes the father
       at (first e d c y) (apart n f) =
+          let none : replyCounts (t .reply) .second ≡ pos 0 = rw y in
+          let b = rw none at s in
           let g : Gained x t (x .cs) (sum3 t) = rule3-gained k h (x .cs) c in
-          let heirs : (q : ℕ) → heirTo false (final (sum3 t) Reply.Nothing t .process) q + 0 ≡ heirTo false x q + spot a 1 q =
+          let heirs : (q : ℕ) → heirTo false (final (sums3 t) Reply.Nothing t .process) q + 0 ≡ heirTo false x q + spot a 1 q =
           λ q. omega (arith, heir-some (t .process .num) (t .process .father) q n, heir-none (x .num) (x .father) q e, ap (λ (p : ℕ). spot p 1 q) d) in
-          rw (f, y) (assembled (sum3 t) Reply.Nothing heirs (omega arith) (omega arith) (λ l. absurd (n l)) (λ l. absurd (omega arith)) (λ _. d)
+          rw (f, y)
+          (assembled (sums3 t) Reply.Nothing heirs (record { balance = omega arith; falls = omega arith }) b (λ l. absurd (n l))
+          (λ l. absurd (omega arith)) (λ _. d)
           (λ p u r. absurd (unanswered p u r)))
       at (busy e d c y) (same n f) = absurd (e (omega arith))
       -- a is acknowledged with the old sum
       at (busy e d c y) (apart n f) =
           let g : Gained x t (pos 0) (sum3 t) = rule3-gained k h (pos 0) c in
-          let z : Reply = To a (x .cs) in
-          let heirs : (q : ℕ) → heirTo false (final (sum3 t) z t .process) q + acksTo z q ≡ heirTo false x q + spot a 1 q =
+          let z : Reply = To a (sumsOf x) in
+          let sent : replyCounts (t .reply) .second ≡ x .second = rw y in
+          let b = rw sent at s in
+          let heirs : (q : ℕ) → heirTo false (final (sums3 t) z t .process) q + acksTo z q ≡ heirTo false x q + spot a 1 q =
           λ q. omega (arith, heir-some (t .process .num) (t .process .father) q n, heir-some (x .num) (x .father) q e, ap (λ (p : ℕ). spot p 1 q) d) in
-          rw (f, y) (assembled (sum3 t) z heirs (omega arith) (omega arith) (λ l. absurd (n l)) (λ _. d) (λ l. absurd (e l)) (λ p u r. cc))
+          rw (f, y)
+          (assembled (sums3 t) z heirs (record { balance = omega arith; falls = omega arith }) b (λ l. absurd (n l)) (λ _. d)
+          (λ l. absurd (e l)) (λ p u r. cc))
 
 -- ---- a step that sets no flag: an acknowledgement, and every step of the start
 
--- what such a step leaves, with sum z, num n and reply y
-abbrev quiet : ℤ → ℕ → Reply → Process → Turn
+-- what such a step leaves, with sums z, num n and reply y
+abbrev quiet : TwoCounts → ℕ → Reply → Process → Turn
 quiet z n y x =
     record {
       process = record {
         succeeding = x .succeeding;
         preceding = x .preceding;
         subordinate = x .subordinate;
-        cs = z;
+        cs = z .count;
         num = n;
         father = x .father;
+        second = z .second;
       };
       probes = Probes.Nothing;
       reply = y;
     }
 
 quiet-effect :
-    (root : Bool) (m : Message) (o i a : ℕ) (x : Process) → Known root m x → (z : ℤ) (n : ℕ) (y : Reply) →
+    (root : Bool) (m : Message) (o i a : ℕ) (x : Process) → Known root m x → (z : TwoCounts) (n : ℕ) (y : Reply) →
     isSuc m ≤ x .succeeding → isPre m ≤ x .preceding → n + bit (not (isProbe m)) ≡ x .num →
     ((q : ℕ) → heirTo root (quiet z n y x .process) q + acksTo y q ≡ heirTo root x q + spot a (bit (isProbe m)) q) →
-    above z + above (replyCount y) + below (x .cs) + below (countOf m) ≡ below z + below (replyCount y) + above (x .cs) + above (countOf m) →
-    below z + below (replyCount y) ≤ below (x .cs) + below (countOf m) →
-    (root ≡ false → n ≡ 0 → z ≡ pos 0) →
+    ((u p : ℕ) → Balanced (x .cs) (countsOf m .count) (z .count) (replyCounts y .count) u u p p) →
+    ((u p : ℕ) → Balanced (x .second) (countsOf m .second) (z .second) (replyCounts y .second) u u p p) →
+    (root ≡ false → n ≡ 0 → z ≡ noCounts) →
     (root ≡ false → x .num ≡ 0 → x .father ≡ a) →
-    ((p : ℕ) (c : ℤ) → y ≡ To p c → (p ≡ a) ⊎ ((root ≡ false) × (1 ≤ x .num) × (p ≡ x .father))) →
+    ((p : ℕ) (c : TwoCounts) → y ≡ To p c → (p ≡ a) ⊎ ((root ≡ false) × (1 ≤ x .num) × (p ≡ x .father))) →
     Effect root m o i a x (quiet z n y x)
 unfolding newSubordinate
-quiet-effect root m o i a x k z n y sucs pres num heirs balance falls rests new replies =
+quiet-effect root m o i a x k z n y sucs pres num heirs sums seconds rests new replies =
     record {
       succeeding = omega arith;
       preceding = omega arith;
@@ -300,8 +358,8 @@ quiet-effect root m o i a x k z n y sucs pres num heirs balance falls rests new 
       sub-is = k .sub-is;
       num = omega arith;
       heir = heirs;
-      balance = omega arith;
-      falls = omega arith;
+      sums = sums (x .subordinate) (both x);
+      seconds = seconds (x .succeeding * ownCount o) 0;
       at-rest = rests;
       father-root = λ _. refl;
       father-kept = λ _. refl;
@@ -309,23 +367,26 @@ quiet-effect root m o i a x k z n y sucs pres num heirs balance falls rests new 
       replies = replies;
     }
 
--- the parts of a sum that gains a count
-acknowledged-balance : (c : ℤ) (x : Process)
-    → (above (x .cs +ℤ c) + below (x .cs) + below c ≡ below (x .cs +ℤ c) + above (x .cs) + above c) × (below (x .cs +ℤ c) ≤ below (x .cs) + below c)
-acknowledged-balance c x = (parts-sum (x .cs) c, parts-sum-below (x .cs) c)
+-- a sum that gains a count, and is kept or passed on
+gains : (z c : ℤ) (u p : ℕ) → Balanced z c (z +ℤ c) (pos 0) u u p p
+gains z c u p = record { balance = omega (arith, parts-sum z c); falls = omega (arith, parts-sum-below z c) }
 
-acknowledged-effect : (c : ℤ) (o i a : ℕ) (x : Process) → Known false (Ack c) x → Effect false (Ack c) o i a x (rule4 (acknowledged c x))
+-- a sum that stays
+stays : (z : ℤ) (u p : ℕ) → Balanced z (pos 0) z (pos 0) u u p p
+stays z u p = record { balance = omega arith; falls = omega arith }
+
+acknowledged-effect : (c : TwoCounts) (o i a : ℕ) (x : Process) → Known false (Ack c) x → Effect false (Ack c) o i a x (rule4 (acknowledged c x))
 unfolding acknowledged rule4
 acknowledged-effect c o i a x k = at (same? (x .num - 1) 0)
   where
-    z : ℤ
-    z = x .cs +ℤ c
+    z : TwoCounts
+    z = gaining c x
 
     had : x .num ≡ 0 → ⊥
     had e = omega arith
 
     heir-zero : (q : ℕ) → x .num - 1 ≡ 0
-        → heirTo false (quiet (pos 0) (x .num - 1) (To (x .father) z) x .process) q + acksTo (To (x .father) z) q ≡ heirTo false x q + spot a 0 q
+        → heirTo false (quiet noCounts (x .num - 1) (To (x .father) z) x .process) q + acksTo (To (x .father) z) q ≡ heirTo false x q + spot a 0 q
     heir-zero q n = omega (arith, heir-none (x .num - 1) (x .father) q n, heir-some (x .num) (x .father) q had, spot-zero a q)
 
     heir-more : (q : ℕ) → (x .num - 1 ≡ 0 → ⊥) → heirTo false (quiet z (x .num - 1) Reply.Nothing x .process) q + 0 ≡ heirTo false x q + spot a 0 q
@@ -333,39 +394,44 @@ acknowledged-effect c o i a x k = at (same? (x .num - 1) 0)
 
     at : Same (x .num - 1) 0 → Effect false (Ack c) o i a x (rule4 (acknowledged c x))
     at (same n f) =
-        rw f (quiet-effect false (Ack c) o i a x k (pos 0) (x .num - 1) (To (x .father) z) (omega arith) (omega arith) (omega arith)
-        (λ q. heir-zero q n) (omega (arith, acknowledged-balance c x)) (omega (arith, acknowledged-balance c x)) (λ _ _. refl) (λ _ e. absurd (had e))
+        rw f (quiet-effect false (Ack c) o i a x k noCounts (x .num - 1) (To (x .father) z) (omega arith) (omega arith) (omega arith)
+        (λ q. heir-zero q n) (λ u p. passed-on (gains (x .cs) (c .count) u p)) (λ u p. passed-on (gains (x .second) (c .second) u p))
+        (λ _ _. refl) (λ _ e. absurd (had e))
         (λ p u r. inr (refl, omega arith, cc)))
     at (apart n f) =
         rw f (quiet-effect false (Ack c) o i a x k z (x .num - 1) Reply.Nothing (omega arith) (omega arith) (omega arith) (λ q. heir-more q n)
-        (omega (arith, acknowledged-balance c x)) (omega (arith, acknowledged-balance c x)) (λ _ e. absurd (n e)) (λ _ e. absurd (had e))
+        (gains (x .cs) (c .count)) (gains (x .second) (c .second)) (λ _ e. absurd (n e)) (λ _ e. absurd (had e))
         (λ p u r. absurd (unanswered p u r)))
 
 -- ---- the steps
 
 pub turn-effect : (m : Message) (o i a : ℕ) (x : Process) → Known false m x → Effect false m o i a x (turn m o i a x)
 unfolding turn
-turn-effect Suc o i a x k = rules34-effect a k (setSucceeding-marked o i x (rule1 a x) (rule1-plain a x)) refl refl (setSucceeding-asked o (rule1-asked a x))
-turn-effect Pre o i a x k = rules34-effect a k (setPreceding-marked o i x (rule1 a x) (rule1-plain a x)) refl refl (setPreceding-asked i (rule1-asked a x))
+turn-effect Suc o i a x k =
+    rules34-effect a k (setSucceeding-marked o i x (rule1 a x) (rule1-plain a x)) refl refl (setSucceeding-second o x (rule1 a x) (rule1-second o a x))
+    (setSucceeding-asked o (rule1-asked a x))
+turn-effect Pre o i a x k =
+    rules34-effect a k (setPreceding-marked o i x (rule1 a x) (rule1-plain a x)) refl refl (setPreceding-second o x (rule1 a x) (rule1-second o a x) i)
+    (setPreceding-asked i (rule1-asked a x))
 turn-effect (Ack c) o i a x k = acknowledged-effect c o i a x k
 
 pub startTurn-effect : (m : Message) (o i a : ℕ) (x : Process) → Known true m x → Effect true m o i a x (startTurn m a x)
 unfolding startTurn acknowledged
 startTurn-effect Suc o i a x k =
-    quiet-effect true Suc o i a x k (x .cs) (x .num) (To a (pos 0)) (omega (arith, k .root-succ refl)) (omega arith) (omega arith) (λ q. omega arith)
-    (omega arith) (omega arith) (λ r. absurd (true≢false r)) (λ r. absurd (true≢false r)) (λ p u r. inl (cc))
+    quiet-effect true Suc o i a x k (sumsOf x) (x .num) (To a noCounts) (omega (arith, k .root-succ refl)) (omega arith) (omega arith) (λ q. omega arith)
+    (stays (x .cs)) (stays (x .second)) (λ r. absurd (true≢false r)) (λ r. absurd (true≢false r)) (λ p u r. inl (cc))
 startTurn-effect Pre o i a x k =
-    quiet-effect true Pre o i a x k (x .cs) (x .num) (To a (pos 0)) (omega arith) (omega (arith, k .root-prec refl)) (omega arith) (λ q. omega arith)
-    (omega arith) (omega arith) (λ r. absurd (true≢false r)) (λ r. absurd (true≢false r)) (λ p u r. inl (cc))
+    quiet-effect true Pre o i a x k (sumsOf x) (x .num) (To a noCounts) (omega arith) (omega (arith, k .root-prec refl)) (omega arith) (λ q. omega arith)
+    (stays (x .cs)) (stays (x .second)) (λ r. absurd (true≢false r)) (λ r. absurd (true≢false r)) (λ p u r. inl (cc))
 startTurn-effect (Ack c) o i a x k =
-    quiet-effect true (Ack c) o i a x k (x .cs +ℤ c) (x .num - 1) Reply.Nothing (omega arith) (omega arith) (omega arith)
+    quiet-effect true (Ack c) o i a x k (gaining c x) (x .num - 1) Reply.Nothing (omega arith) (omega arith) (omega arith)
     (λ q. omega (arith, spot-zero a q, heir-start (x .num - 1) (x .father) q, heir-start (x .num) (x .father) q))
-    (omega (arith, acknowledged-balance c x)) (omega (arith, acknowledged-balance c x)) (λ r. absurd (true≢false r)) (λ r. absurd (true≢false r))
+    (gains (x .cs) (c .count)) (gains (x .second) (c .second)) (λ r. absurd (true≢false r)) (λ r. absurd (true≢false r))
     (λ p u r. absurd (unanswered p u r))
 
 -- ---- father and acknowledgement, of any record
 
-to-same : {p q : ℕ} {c d : ℤ} → To p c ≡ To q d → q ≡ p
+to-same : {p q : ℕ} {c d : TwoCounts} → To p c ≡ To q d → q ≡ p
 to-same r = cc
 
 asked-named : {a : ℕ} {x : Process} {t : Turn} → Asked a x t → Named a x t
@@ -386,7 +452,7 @@ module _ {a : ℕ} {x : Process} {t : Turn} (h : Named a x t) where
   unfolding rule3
   rule3-named = record { father = h .father; reply = h .reply }
 
-acknowledged-named : (a : ℕ) (c : ℤ) (x : Process) → Named a x (acknowledged c x)
+acknowledged-named : (a : ℕ) (c : TwoCounts) (x : Process) → Named a x (acknowledged c x)
 unfolding acknowledged
 acknowledged-named a c x = record { father = inl refl; reply = λ q d r. absurd (unanswered q d r) }
 
@@ -423,7 +489,7 @@ rules34-grown {o = o} {i = i} {x = x} {t = t} h = at (tested (eqb (t .process .n
     at (passed e) = rw e (λ _. h .num)
     at (failed e) = rw e (λ _. h .num)
 
-acknowledged-grown : (o i : ℕ) (c : ℤ) (x : Process) → Grown o i x (rule4 (acknowledged c x))
+acknowledged-grown : (o i : ℕ) (c : TwoCounts) (x : Process) → Grown o i x (rule4 (acknowledged c x))
 unfolding acknowledged rule4
 acknowledged-grown o i c x = at (tested (eqb (x .num - 1) 0))
   where
@@ -503,6 +569,14 @@ stepped-inside m o i p x e n h = rw (e, ne-eqb p 0 n, le-ltb mostProcesses p h)
 
 -- ---- a record in range
 
+pub ownCount-small : (o : ℕ) → small (pos (ownCount o)) ≡ true
+unfolding ownCount small
+ownCount-small o = at (eqb o 0)
+  where
+    at : (b : Bool) → leb (bit b) mostCount ≡ true
+    at true = refl
+    at false = refl
+
 pub inRange-P : (x : Process) → inRange x ≡ true → RecordInRange x
 unfolding inRange small
 inRange-P x e =
@@ -511,7 +585,9 @@ inRange-P x e =
     let u : Bool = leb (x .subordinate) 1 in
     let c : Bool = leb (natAbs (x .cs)) mostCount in
     let n : Bool = leb (x .num) mostNum in
-    let e₄ : (s && p && u && c) ≡ true = and-left (s && p && u && c) n e in
+    let d : Bool = leb (natAbs (x .second)) mostCount in
+    let e₅ : (s && p && u && c && n) ≡ true = and-left (s && p && u && c && n) d e in
+    let e₄ : (s && p && u && c) ≡ true = and-left (s && p && u && c) n e₅ in
     let e₃ : (s && p && u) ≡ true = and-left (s && p && u) c e₄ in
     let e₂ : (s && p) ≡ true = and-left (s && p) u e₃ in
     record {
@@ -519,5 +595,6 @@ inRange-P x e =
       preceding = leb-true (x .preceding) 1 (and-right s p e₂);
       subordinate = leb-true (x .subordinate) 1 (and-right (s && p) u e₃);
       cs = leb-true (natAbs (x .cs)) mostCount (and-right (s && p && u) c e₄);
-      num = leb-true (x .num) mostNum (and-right (s && p && u && c) n e);
+      num = leb-true (x .num) mostNum (and-right (s && p && u && c) n e₅);
+      second = leb-true (natAbs (x .second)) mostCount (and-right (s && p && u && c && n) d e);
     }

@@ -6,8 +6,9 @@ ghost use mathlib.Core.Bool.{true};
 ghost use Prim.Native.Nat.{_≤_};
 ghost use lib.IntN.{pos, _+ℤ_, _-ℤ_};
 ghost use Rattle.tables.specs.Table.{mostProcesses};
-ghost use Rattle.steps.specs.Step.{mostNum, small, inRange, countSmall, lentInRange, numSuffices, replyFits, newSubordinate, rule1};
-ghost use Rattle.steps.specs.Step.{setSucceeding, setPreceding, rule3, rule4, acknowledged, turn, stepped, startTurn, startStepped};
+ghost use Rattle.steps.specs.Step.{mostNum, small, bothSmall, inRange, countSmall, lentInRange, numSuffices, replyFits, sumsOf, ownCount};
+ghost use Rattle.steps.specs.Step.{newSubordinate, rule1, setSucceeding, setPreceding, rule3, rule4, acknowledged, turn, stepped, startTurn};
+ghost use Rattle.steps.specs.Step.{startStepped};
 ghost use Rattle.steps.specs.Within.{Addable, settled};
 
 // "cs (−128 to 128), num (0 to 256)"
@@ -20,10 +21,16 @@ pub const MOST_NUM: u32 = 256;
 // The largest number of a process, and of its successors or predecessors, as a record holds them.
 const MOST_PROCESSES: u32 = tables::MOST_PROCESSES as u32;
 
+// "Acknowledgements carry a second count .. of reachable processes that wait for nobody" (02, N3): the count, and the second one.
+pub struct TwoCounts {
+    pub count: i32,
+    pub second: i32,
+}
+
 pub enum Message {
     Suc,
     Pre,
-    Ack(i32),
+    Ack(TwoCounts),
 }
 
 pub struct Process {
@@ -33,6 +40,7 @@ pub struct Process {
     pub cs: i32,
     pub num: u32,
     pub father: u32,
+    pub second: i32, // "processes a second sum" (02, N3)
 }
 
 // The probes that a step broadcasts: suc to all successors, pre to all predecessors, or none.
@@ -42,10 +50,10 @@ pub enum Probes {
     Pres,
 }
 
-// The acknowledgement that a step sends: to whom and with which count, or none.
+// The acknowledgement that a step sends: to whom and with which counts, or none.
 pub enum Reply {
     Nothing,
-    To { process: u32, count: i32 },
+    To { process: u32, counts: TwoCounts },
 }
 
 // What a step leaves: the process's new record and what it sends.
@@ -75,6 +83,16 @@ fn is_small(count: i32) -> bool
     count <= MOST_COUNT
 }
 
+// "it and the second count have cs's range" (02, N3)
+fn are_both_small(counts: TwoCounts) -> bool
+    ensures { λ r. ⌜ r ≡ bothSmall counts ⌝ }
+{
+    if !is_small(counts.count) {
+        return false;
+    }
+    is_small(counts.second)
+}
+
 // The sum of two counts in range.
 fn sum(a: i32, b: i32) -> i32
     requires { ⌜ small a ≡ true ⌝ }
@@ -93,7 +111,14 @@ fn change(new: u32, old: u32) -> i32
     new as i32 - old as i32
 }
 
-// "succeeding, preceding, subordinate (0 or 1 each), cs (−128 to 128), num (0 to 256)"
+// "Such a process adds 1" (02, N3): 1 for a process that waits for nobody.
+pub fn own_count(out_degree: u32) -> i32
+    ensures { λ r. ⌜ r ≡ pos (ownCount «out_degree») ⌝ }
+{
+    if out_degree == 0 { 1 } else { 0 }
+}
+
+// "succeeding, preceding, subordinate (0 or 1 each), cs (−128 to 128), num (0 to 256)", and the second sum in cs's range
 pub fn is_in_range(process: Process) -> bool
     ensures { λ r. ⌜ r ≡ inRange process ⌝ }
 {
@@ -109,7 +134,10 @@ pub fn is_in_range(process: Process) -> bool
     if !is_small(process.cs) {
         return false;
     }
-    process.num <= MOST_NUM
+    if process.num > MOST_NUM {
+        return false;
+    }
+    is_small(process.second)
 }
 
 // A probe has no count to be out of range.
@@ -119,7 +147,7 @@ pub fn is_count_small(message: Message) -> bool
     match message {
         Message::Suc => true,
         Message::Pre => true,
-        Message::Ack(count) => is_small(count),
+        Message::Ack(counts) => are_both_small(counts),
     }
 }
 
@@ -142,20 +170,30 @@ fn is_lent_in_range(process: Process, message: Message, out_degree: u32, in_degr
     in_degree <= MOST_PROCESSES
 }
 
-// Rule 1: "If num is 0, father becomes p. Otherwise it acknowledges to p with cs, and cs becomes 0."
+// What an acknowledgement carries: "The second sum is passed on .. with cs" (02, N3).
+fn sums_of(process: Process) -> TwoCounts
+    ensures { λ r. ⌜ r ≡ sumsOf process ⌝ }
+{
+    let count = process.cs;
+    let second = process.second;
+    TwoCounts { count, second }
+}
+
+// Rule 1: "If num is 0, father becomes p. Otherwise it acknowledges to p with cs, and cs becomes 0."; so does the second sum
 fn rule1(sender: u32, process: Process) -> Turn
     ensures { λ r. ⌜ r ≡ rule1 sender process ⌝ }
 {
-    let cs = process.cs;
+    let sums = sums_of(process);
     if process.num == 0 {
         Turn {
             process: Process {
                 succeeding: process.succeeding,
                 preceding: process.preceding,
                 subordinate: process.subordinate,
-                cs,
+                cs: sums.count,
                 num: process.num,
                 father: sender,
+                second: sums.second,
             },
             probes: Probes::Nothing,
             reply: Reply::Nothing, // the father hears by rule 4, once the probes are counted
@@ -169,20 +207,23 @@ fn rule1(sender: u32, process: Process) -> Turn
                 cs: 0,
                 num: process.num,
                 father: process.father, // stays while num is above 0
+                second: 0,
             },
             probes: Probes::Nothing,
             reply: Reply::To {
                 process: sender,
-                count: cs,
+                counts: sums,
             },
         }
     }
 }
 
-// Rule 2: "A suc probe when not succeeding sets it, sends suc to all successors and adds their number to num."
+// Rule 2: "A suc probe when not succeeding sets it, sends suc to all successors and adds their number to num."; "Such a process adds 1 when it
+// first becomes succeeding" (02, N3)
 fn set_succeeding(out_degree: u32, turn: Turn) -> Turn
     requires { ⌜ «out_degree» ≤ mostProcesses ⌝ }
     requires { ⌜ turn .process .num ≤ mostNum ⌝ }
+    requires { ⌜ small (turn .process .second) ≡ true ⌝ }
     ensures { λ r. ⌜ r ≡ setSucceeding «out_degree» turn ⌝ }
 {
     let process = turn.process;
@@ -196,6 +237,7 @@ fn set_succeeding(out_degree: u32, turn: Turn) -> Turn
                 cs: process.cs,
                 num: process.num + out_degree,
                 father: process.father,
+                second: sum(process.second, own_count(out_degree)),
             },
             probes: Probes::Sucs,
             reply,
@@ -222,6 +264,7 @@ fn set_preceding(in_degree: u32, turn: Turn) -> Turn
                 cs: process.cs,
                 num: process.num + in_degree,
                 father: process.father,
+                second: process.second,
             },
             probes: Probes::Pres,
             reply,
@@ -259,20 +302,21 @@ fn rule3(turn: Turn) -> Turn
             cs: sum(process.cs, change(new, process.subordinate)),
             num: process.num,
             father: process.father,
+            second: process.second,
         },
         probes,
         reply,
     }
 }
 
-// Rule 4: "If num is 0 it acknowledges to father with cs, and cs becomes 0."
+// Rule 4: "If num is 0 it acknowledges to father with cs, and cs becomes 0."; so does the second sum
 fn rule4(turn: Turn) -> Turn
     ensures { λ r. ⌜ r ≡ rule4 turn ⌝ }
 {
     let process = turn.process;
     let probes = turn.probes;
     let num = process.num;
-    let cs = process.cs;
+    let sums = sums_of(process);
     if num != 0 {
         return turn;
     }
@@ -284,30 +328,32 @@ fn rule4(turn: Turn) -> Turn
             cs: 0,
             num,
             father: process.father,
+            second: 0,
         },
         probes,
         reply: Reply::To {
             process: process.father,
-            count: cs,
+            counts: sums,
         },
     }
 }
 
-// "cs gains c, num loses 1"
-fn acknowledged(count: i32, process: Process) -> Turn
-    requires { ⌜ small count ≡ true ⌝ }
-    requires { ⌜ small (process .cs) ≡ true ⌝ }
+// "cs gains c, num loses 1", and the second sum gains the second count
+fn acknowledged(counts: TwoCounts, process: Process) -> Turn
+    requires { ⌜ bothSmall counts ≡ true ⌝ }
+    requires { ⌜ bothSmall (sumsOf process) ≡ true ⌝ }
     requires { ⌜ 1 ≤ process .num ⌝ }
-    ensures { λ r. ⌜ r ≡ acknowledged count process ⌝ }
+    ensures { λ r. ⌜ r ≡ acknowledged counts process ⌝ }
 {
     Turn {
         process: Process {
             succeeding: process.succeeding,
             preceding: process.preceding,
             subordinate: process.subordinate,
-            cs: sum(process.cs, count),
+            cs: sum(process.cs, counts.count),
             num: process.num - 1,
             father: process.father,
+            second: sum(process.second, counts.second),
         },
         probes: Probes::Nothing,
         reply: Reply::Nothing,
@@ -331,11 +377,11 @@ fn is_reply_fitting(reply: Reply) -> bool
 {
     match reply {
         Reply::Nothing => true,
-        Reply::To { process, count } => {
+        Reply::To { process, counts } => {
             if process < 1 {
                 return false;
             }
-            is_small(count)
+            are_both_small(counts)
         }
     }
 }
@@ -355,11 +401,11 @@ fn take_turn(
     match message {
         Message::Suc => rule4(rule3(set_succeeding(out_degree, rule1(sender, process)))),
         Message::Pre => rule4(rule3(set_preceding(in_degree, rule1(sender, process)))),
-        Message::Ack(count) => rule4(acknowledged(count, process)),
+        Message::Ack(counts) => rule4(acknowledged(counts, process)),
     }
 }
 
-// "s receives a probe: it acknowledges with 0."
+// "s receives a probe: it acknowledges with 0.": with 0 as second count too, since s passes nothing on
 fn greeted(process: Process, sender: u32) -> Turn
     ensures { λ r. ⌜ r ≡ startTurn Message.Suc sender process ⌝ }
 {
@@ -368,7 +414,10 @@ fn greeted(process: Process, sender: u32) -> Turn
         probes: Probes::Nothing,
         reply: Reply::To {
             process: sender,
-            count: 0,
+            counts: TwoCounts {
+                count: 0,
+                second: 0,
+            },
         },
     }
 }
@@ -383,7 +432,7 @@ fn take_start_turn(process: Process, message: Message, sender: u32) -> Turn
     match message {
         Message::Suc => greeted(process, sender),
         Message::Pre => greeted(process, sender),
-        Message::Ack(count) => acknowledged(count, process),
+        Message::Ack(counts) => acknowledged(counts, process),
     }
 }
 

@@ -9,13 +9,14 @@ use expecting::starts;
 use ordering::Course;
 use table_writer::Writing;
 
-// What a family adds up to: its cases, how many of them the search finds to be knots by the first edition and by the second, the runs, their
-// deliveries and how many of these overtook; the last random number. The case at hand: N, the start and how many runs it is to have;
-// edition, order, A, D and difference of the last run.
+// What a family adds up to: its cases, how many of them the search finds to be knots by the first edition and by the second, and to be returned
+// (02, N3), the runs, their deliveries and how many of these overtook; the last random number. The case at hand: N, the start and how many runs
+// it is to have; edition, order, A, D and difference of the last run.
 pub struct Tally {
     pub cases: u64,
     pub first: u64,
     pub second: u64,
+    pub returned: u64,
     pub runs: u64,
     pub deliveries: u64,
     pub overtaking: u64,
@@ -35,6 +36,7 @@ pub fn begun(seed: usize) -> Tally {
         cases: 0,
         first: 0,
         second: 0,
+        returned: 0,
         runs: 0,
         deliveries: 0,
         overtaking: 0,
@@ -56,19 +58,20 @@ fn faulty(t: Tally, fault: u32) -> Tally {
     u
 }
 
-// One more, if it is a knot.
-fn counted(knots: u64, knot: bool) -> u64 {
-    if knot {
-        return numbers::total(knots, 1);
+// One more, if the test holds.
+fn counted(count: u64, test: bool) -> u64 {
+    if test {
+        return numbers::total(count, 1);
     }
-    knots
+    count
 }
 
-// The knots with those that the search expects.
+// The knots and the returned cases with what the search expects.
 fn searched(t: Tally, e: Expected) -> Tally {
     let mut u = t;
     u.first = counted(t.first, e.first);
     u.second = counted(t.second, e.second);
+    u.returned = counted(t.returned, e.idlers == 0);
     u
 }
 

@@ -6,12 +6,14 @@
 // The last run of each case overtakes: its picks take younger messages first wherever two wait on a link (02, N5), and the line of a family
 // says how many deliveries did. In small areas the messages on a link are looked at, in a copy, before and after some picks.
 // The runs of a case name the two editions in turn (02, N4), and the line of a family says how many cases are knots by each; all else is
-// expected to be the same under both.
+// expected to be the same under both. It also says how many cases are returned (02, N3): every knot by the second edition is among them, those
+// that are knots by the first alone are not, and the others are no knots.
 // Before each run the starts that are to be refused are. After every delivery a report is refused exactly while fewer than D were made. At
 // the end the report and every record are compared with the search; then come fixed and drawn calls past the end, which are refused or
-// make nothing, and in small areas reports with other words for the edition, and the end is compared again. No call that delivers nothing
-// changes a word or what a report says (looked at after each call in small areas and past the end, and now and then in large ones), and no
-// call changes a surplus word.
+// make nothing, and in small areas reports with other words for the edition, the start's second sum and a message, and the end is compared
+// again. No call that delivers nothing changes a word or what a report says, and all second sums and waiting second counts come to the number
+// of succeeding processes that wait for nobody (both looked at after each call in small areas and past the end, and now and then in large
+// ones); and no call changes a surplus word.
 //
 // It prints a line for each family of cases, and a last line that names the first difference or says that there is none. It stops at the
 // first difference. Random numbers come from fixed seeds, so a difference is found again. It promises only that it is safe and ends.
@@ -36,6 +38,7 @@ fn print_tally(f: Family, t: Tally) {
     print_number(b" processes: cases ", t.cases);
     print_number(b", knots ", t.first);
     print_number(b", by the second edition ", t.second);
+    print_number(b", returned ", t.returned);
     print_number(b", runs ", t.runs);
     print_number(b", deliveries ", t.deliveries);
     print_number(b", overtaking ", t.overtaking);

@@ -1,4 +1,4 @@
--- `pickledune_read_record` meets its contract: the values of the record that reading answers; the sum comes back from its bits as it was.
+-- `pickledune_read_record` meets its contract: the values of the record that reading answers; the sums come back from their bits as they were.
 -- Assumes nothing.
 use mathlib.Core.Path.{ap, _∙_}
 use borrow.Author.Needs.{needs}
@@ -11,8 +11,9 @@ use Rattle.pickledune.proofs.pickledune_read_record.Tie as tie
 
 returns : tie.Need-returns
 returns c =
-    let d = c .before .before .record-values in
-    let e = c .before .before .before .read-record .ensures in
+    let first = c .before in
+    let d = first .before .before .record-values in
+    let e = first .before .before .before .read-record .ensures in
     let x = d .ensures .1 ∙ ap readingProcess e in (
       d .ensures .0 ∙ ap readingNumber e,
       (
@@ -22,8 +23,14 @@ returns c =
           (
             ap (λ (p : Process). p .subordinate) x,
             (
-              signed-back (d .result .process .cs) (c .struct-told .given .1 .1 .1 .0 .1) ∙ ap (λ (p : Process). p .cs) x,
-              (ap (λ (p : Process). p .num) x, ap (λ (p : Process). p .father) x),
+              signed-back (d .result .process .cs) (first .struct-told .given .1 .1 .1 .0 .1) ∙ ap (λ (p : Process). p .cs) x,
+              (
+                ap (λ (p : Process). p .num) x,
+                (
+                  ap (λ (p : Process). p .father) x,
+                  signed-back (d .result .process .second) (c .struct-told2 .given .1 .1 .1 .1 .1 .1 .0 .1) ∙ ap (λ (p : Process). p .second) x,
+                ),
+              ),
             ),
           ),
         ),

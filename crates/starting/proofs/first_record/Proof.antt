@@ -6,6 +6,7 @@ use Rattle.tables.specs.declared.Chain.the-variants.{Out, In}
 use Rattle.areas.specs.Squares.{joinsBy}
 use Rattle.starting.specs.Starting.{startedFrom}
 use Rattle.base.specs.SumLaws.{countTo-most}
+use Rattle.steps.proofs.Counts.{signed-back}
 use Rattle.starting.proofs.first_record.Statement.{statement}
 use Rattle.starting.proofs.first_record.Tie as tie
 
@@ -24,7 +25,10 @@ add-t7 c =
 
 returns : tie.Need-returns
 unfolding startedFrom
-returns c = rw (c .before .degree .ensures, c .degree2 .ensures)
+returns c =
+    let d = c .before in
+    let own = c .own-count in
+    rw (signed-back (own .result) (own .ok), own .ensures, d .before .degree .ensures, d .degree2 .ensures)
 
 pub first-record-spec : {M : Type 1} → statement M
-first-record-spec = tie.close (tie.spec (λ c κs. search needs) (λ c κs. search needs) add-t7 returns)
+first-record-spec = tie.close (tie.spec (λ c κs. search needs) (λ c κs. search needs) add-t7 (λ c κs. search needs) returns)

@@ -2,7 +2,6 @@
 -- Assumes nothing.
 use borrow.Author.Needs.{needs}
 use Rattle.steps.specs.Step.{countSmall}
-use Rattle.steps.proofs.Counts.{small-back}
 use Rattle.steps.proofs.is_count_small.Statement.{statement}
 use Rattle.steps.proofs.is_count_small.Tie as tie
 
@@ -17,8 +16,7 @@ returns-2 c = search needs
 returns-3 : tie.Need-returns-3
 unfolding countSmall
 returns-3 c =
-    let e = c .before .before .message .given in
-    rw (e .1) (small-back (e .0 .0) (c .before .known-told .given .0 .1) (c .is-small .ensures))
+    rw (c .before .before .message .given .1) (c .are-both-small .ensures)
 
 pub is-count-small-spec : {M : Type 1} → statement M
 is-count-small-spec = tie.close (tie.spec (λ c. search needs) (λ c. search needs) (λ c. search needs) (λ c κs. search needs) returns returns-2 returns-3)

@@ -1,9 +1,8 @@
--- `steps::is_reply_fitting` meets its contract: no acknowledgement, or one to a process with a count in range.
+-- `steps::is_reply_fitting` meets its contract: no acknowledgement, or one to a process with counts in range.
 -- Assumes nothing.
 use borrow.Author.Needs.{needs}
 use borrow.Author.Tests.{le-leb, lt-leb}
 use Rattle.steps.specs.Step.{replyFits}
-use Rattle.steps.proofs.Counts.{small-back}
 use Rattle.steps.proofs.is_reply_fitting.Statement.{statement}
 use Rattle.steps.proofs.is_reply_fitting.Tie as tie
 
@@ -19,7 +18,7 @@ returns-3 : tie.Need-returns-3
 unfolding replyFits
 returns-3 c =
     let e = c .before .before .before .reply .given in
-    rw (e .1, le-leb _ _ (c .before .if1 .left)) (small-back (e .0 .1 .0) (c .before .before .known-told .given .1 .0 .1) (c .is-small .ensures))
+    rw (e .1, le-leb _ _ (c .before .if1 .left)) (c .are-both-small .ensures)
 
 pub is-reply-fitting-spec : {M : Type 1} → statement M
 is-reply-fitting-spec = tie.close (tie.spec (λ c. search needs) (λ c. search needs) returns (λ c κs. search needs) returns-2 returns-3)

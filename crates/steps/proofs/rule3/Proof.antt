@@ -3,7 +3,6 @@
 use mathlib.Core.Bool.{true}
 use mathlib.Core.Path.{_≡_, ap₂, _∙_}
 use lib.IntN.{_+ℤ_}
-use borrow.Author.Needs.{needs}
 use Rattle.steps.specs.Step.{small, gained}
 use Rattle.steps.proofs.Counts.{signed-back, small-fits, small-change, newSubordinate-flag}
 use Rattle.steps.proofs.Rules.{rule3-made}
@@ -32,13 +31,15 @@ sum-requires c κs =
 returns : tie.Need-returns
 unfolding gained
 returns c =
-    let start = c .before .before .before .before .before in
+    let added = c .before in
+    let start = added .before .before .before .before .before in
     let x = start .args .turn .process in
-    let v = c .before .before .before .new-subordinate in
-    let d = c .before .before .change in
-    rule3-made (start .args .turn) (v .result) _ (v .ensures)
-    (signed-back (c .sum .result) (c .sum .ok) ∙ c .sum .ensures
-    ∙ ap₂ _+ℤ_ (signed-back (x .cs) (small-fits (x .cs) (start .pre .0 .count))) (signed-back (d .result) (d .ok) ∙ d .ensures))
+    let v = added .before .before .before .new-subordinate in
+    let d = added .before .before .change in
+    rw (signed-back (x .second) (c .struct-told2 .given .1 .1 .1 .1 .1 .1 .0 .1))
+    (rule3-made (start .args .turn) (v .result) _ (v .ensures)
+    (signed-back (added .sum .result) (added .sum .ok) ∙ added .sum .ensures
+    ∙ ap₂ _+ℤ_ (signed-back (x .cs) (small-fits (x .cs) (start .pre .0 .count))) (signed-back (d .result) (d .ok) ∙ d .ensures)))
 
 pub rule3-spec : {M : Type 1} → statement M
 rule3-spec = tie.close (tie.spec (λ c κs. c .before .pre .1) change-requires sum-requires returns)

@@ -1,8 +1,8 @@
--- `steps::rule4` meets its contract: the test is rule 4's, and the sum comes back from its bits as it was.
+-- `steps::rule4` meets its contract: the test is rule 4's, and what is sent are the sums of the process.
 -- Assumes nothing.
+use borrow.Author.Needs.{needs}
 use borrow.Author.Tests.{eq-eqb, ne-eqb}
 use Rattle.steps.specs.Step.{rule4}
-use Rattle.steps.proofs.Counts.{signed-back}
 use Rattle.steps.proofs.rule4.Statement.{statement}
 use Rattle.steps.proofs.rule4.Tie as tie
 
@@ -14,7 +14,7 @@ returns-2 : tie.Need-returns-2
 unfolding rule4
 returns-2 c =
     let x = c .before .before .before .args .turn .process in
-    rw (signed-back (x .cs) (c .before .struct-told .given .1 .1 .1 .0 .1), eq-eqb (x .num) 0 (c .if1 .left))
+    rw (c .before .sums-of .ensures, eq-eqb (x .num) 0 (c .if1 .left))
 
 pub rule4-spec : {M : Type 1} → statement M
-rule4-spec = tie.close (tie.spec returns returns-2)
+rule4-spec = tie.close (tie.spec (λ c κs. search needs) returns returns-2)

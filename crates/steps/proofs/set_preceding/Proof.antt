@@ -14,7 +14,11 @@ returns : tie.Need-returns
 unfolding setPreceding
 returns c =
     let x = c .before .before .before .before .before .args .turn .process in
-    rw (signed-back (x .cs) (c .struct-told .given .1 .1 .1 .0 .1), eq-eqb (x .preceding) 0 (c .before .before .if1 .taken))
+    rw (
+      signed-back (x .cs) (c .struct-told .given .1 .1 .1 .0 .1),
+      signed-back (x .second) (c .struct-told .given .1 .1 .1 .1 .1 .1 .0 .1),
+      eq-eqb (x .preceding) 0 (c .before .before .if1 .taken),
+    )
 
 returns-2 : tie.Need-returns-2
 unfolding setPreceding

@@ -2,7 +2,6 @@
 -- Assumes nothing.
 use borrow.Author.Needs.{needs}
 use Rattle.steps.specs.Step.{startTurn}
-use Rattle.steps.proofs.Counts.{signed-back}
 use Rattle.steps.proofs.Rules.{acknowledgeable}
 use Rattle.steps.proofs.take_start_turn.Statement.{statement}
 use Rattle.steps.proofs.take_start_turn.Tie as tie
@@ -11,7 +10,7 @@ acknowledged-requires : tie.Need-acknowledged-requires
 acknowledged-requires c κs =
     let start = c .before .before .before in
     let e = c .before .message .given in
-    acknowledgeable (start .args .message) (e .0 .0) (start .args .process) (e .1) (c .known-told .given .0 .1) (start .pre .0) (start .pre .1 .0)
+    acknowledgeable (start .args .message) (e .0 .0) (start .args .process) (e .1) (start .pre .0) (start .pre .1 .0)
     (start .pre .1 .1)
 
 returns : tie.Need-returns
@@ -25,9 +24,7 @@ returns-2 c = rw (c .before .enum-told2 .given .1) (c .greeted2 .ensures)
 returns-3 : tie.Need-returns-3
 unfolding startTurn
 returns-3 c =
-    let e = c .before .before .message .given in
-    let back = signed-back (e .0 .0) (c .before .known-told .given .0 .1) in
-    rw (e .1) (rw back at (c .acknowledged .ensures))
+    rw (c .before .before .message .given .1) (c .acknowledged .ensures)
 
 pub take-start-turn-spec : {M : Type 1} → statement M
 take-start-turn-spec =

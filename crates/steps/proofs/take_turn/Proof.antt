@@ -5,8 +5,7 @@ use native.Mathlib.Omega.{arith}
 use mathlib.Core.Path.{ap, _∙_}
 use Rattle.steps.specs.Step.{rule1, setSucceeding, setPreceding, rule3, rule4, turn}
 use Rattle.steps.specs.StepLaws.{inRange-P}
-use Rattle.steps.proofs.Counts.{signed-back}
-use Rattle.steps.proofs.Rules.{lent, rule1-num, rule1-ready, setSucceeding-ready, setPreceding-ready, acknowledgeable}
+use Rattle.steps.proofs.Rules.{lent, rule1-num, rule1-second, rule1-ready, setSucceeding-ready, setPreceding-ready, acknowledgeable}
 use Rattle.steps.proofs.take_turn.Statement.{statement}
 use Rattle.steps.proofs.take_turn.Tie as tie
 
@@ -14,8 +13,13 @@ set-succeeding-requires : tie.Need-set-succeeding-requires
 set-succeeding-requires c κs =
     let start = c .before .before .before in
     let x = start .args .process in
-    let h = lent (start .args .message) (start .args .out-degree) (start .args .in-degree) x (start .pre .0) in
-    (omega arith, rw (c .rule1 .ensures, rule1-num (start .args .sender) x) (inRange-P x (h .process) .num))
+    let h = lent (start .args .message) (start .args .out-degree) (start .args .in-degree) x (start .pre .0) in (
+      omega arith,
+      (
+        rw (c .rule1 .ensures, rule1-num (start .args .sender) x) (inRange-P x (h .process) .num),
+        rw (c .rule1 .ensures) (rule1-second (start .args .sender) x (h .process)),
+      ),
+    )
 
 rule3-requires : tie.Need-rule3-requires
 rule3-requires c κs =
@@ -47,7 +51,7 @@ acknowledged-requires c κs =
     let m = start .args .message in
     let h = lent m (start .args .out-degree) (start .args .in-degree) x (start .pre .0) in
     let e = c .before .message .given in
-    acknowledgeable m (e .0 .0) x (e .1) (c .known-told .given .0 .1) (h .process) (h .count) (start .pre .1)
+    acknowledgeable m (e .0 .0) x (e .1) (h .process) (h .count) (start .pre .1)
 
 returns : tie.Need-returns
 unfolding turn
@@ -68,9 +72,7 @@ returns-2 c =
 returns-3 : tie.Need-returns-3
 unfolding turn
 returns-3 c =
-    let e = c .before .before .before .message .given in
-    let back = signed-back (e .0 .0) (c .before .before .known-told .given .0 .1) in
-    rw (e .1) (c .rule43 .ensures ∙ ap rule4 (rw back at (c .before .acknowledged .ensures)))
+    rw (c .before .before .before .message .given .1) (c .rule43 .ensures ∙ ap rule4 (c .before .acknowledged .ensures))
 
 pub take-turn-spec : {M : Type 1} → statement M
 take-turn-spec =

@@ -124,7 +124,7 @@ impl Calls for Proved {
     }
 
     fn pick(&self, area: &mut [i32], from: usize, to: usize, place: usize) -> Answer {
-        let (mut kind, mut count) = (Slot::unset(), Slot::unset());
+        let (mut kind, mut count, mut second) = (Slot::unset(), Slot::unset(), Slot::unset());
         let number = unsafe {
             pickledune_pick(
                 area.as_mut_ptr(),
@@ -134,9 +134,10 @@ impl Calls for Proved {
                 place,
                 kind.place(),
                 count.place(),
+                second.place(),
             )
         };
-        Answer::new(number, [kind.get(), count.get()])
+        Answer::new(number, [kind.get(), count.get(), second.get()])
     }
 
     fn run_on(&self, area: &mut [i32], k: u32) -> Answer {
@@ -167,7 +168,8 @@ impl Calls for Proved {
 
     fn read_record(&self, area: &mut [i32], process: usize) -> Answer {
         let mut flags = [Slot::unset(), Slot::unset(), Slot::unset()];
-        let (mut cs, mut num, mut father) = (Slot::unset(), Slot::unset(), Slot::unset());
+        let (mut cs, mut num) = (Slot::unset(), Slot::unset());
+        let (mut father, mut second) = (Slot::unset(), Slot::unset());
         let number = unsafe {
             pickledune_read_record(
                 area.as_mut_ptr(),
@@ -179,11 +181,12 @@ impl Calls for Proved {
                 cs.place(),
                 num.place(),
                 father.place(),
+                second.place(),
             )
         };
         let [succeeding, preceding, subordinate] = flags.map(|flag| flag.get());
-        let values = [succeeding, preceding, subordinate, cs.get(), num.get(), father.get()];
-        Answer::new(number, values)
+        let [cs, num, father, second] = [cs.get(), num.get(), father.get(), second.get()];
+        Answer::new(number, [succeeding, preceding, subordinate, cs, num, father, second])
     }
 
     fn step(&self, record: LentRecord, received: Received) -> Answer {
@@ -195,7 +198,9 @@ impl Calls for Proved {
         let mut cs = Slot::holding(record.cs);
         let mut num = Slot::holding(record.num);
         let mut father = Slot::holding(record.father);
-        let (mut probes, mut to, mut count) = (Slot::unset(), Slot::unset(), Slot::unset());
+        let mut second = Slot::holding(record.second);
+        let (mut probes, mut to) = (Slot::unset(), Slot::unset());
+        let (mut reply_count, mut reply_second) = (Slot::unset(), Slot::unset());
         let number = unsafe {
             pickledune_step(
                 flags[0].place(),
@@ -204,20 +209,23 @@ impl Calls for Proved {
                 cs.place(),
                 num.place(),
                 father.place(),
+                second.place(),
                 received.kind,
                 received.count,
+                received.second_count,
                 received.out_degree,
                 received.in_degree,
                 received.sender,
                 probes.place(),
                 to.place(),
-                count.place(),
+                reply_count.place(),
+                reply_second.place(),
             )
         };
         let [succeeding, preceding, subordinate] = flags.map(|flag| flag.get());
-        let [cs, num, father] = [cs.get(), num.get(), father.get()];
-        let [probes, to, count] = [probes.get(), to.get(), count.get()];
-        let values = [succeeding, preceding, subordinate, cs, num, father, probes, to, count];
-        Answer { number, values }
+        let [cs, num, father, second] = [cs.get(), num.get(), father.get(), second.get()];
+        let record = [succeeding, preceding, subordinate, cs, num, father, second];
+        let sent = [probes.get(), to.get(), reply_count.get(), reply_second.get()];
+        Answer::of_step(number, record, sent)
     }
 }

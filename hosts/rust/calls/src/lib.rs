@@ -16,13 +16,20 @@ pub const STANDIN: bool = cfg!(feature = "standin");
 #[derive(Clone, Copy, Debug, Default, PartialEq, Eq)]
 pub struct Answer {
     pub number: u32,
-    pub values: [i64; 9],
+    pub values: [i64; 11],
 }
 
 impl Answer {
     pub fn new<const K: usize>(number: u32, values: [i64; K]) -> Answer {
-        let mut answer = Answer { number, values: [0; 9] };
+        let mut answer = Answer { number, ..Answer::default() };
         answer.values[..K].copy_from_slice(&values);
+        answer
+    }
+
+    /// The answer of a step: the record afterwards, and what is sent.
+    fn of_step(number: u32, record: [i64; 7], sent: [i64; 4]) -> Answer {
+        let mut answer = Answer::new(number, record);
+        answer.values[7..].copy_from_slice(&sent);
         answer
     }
 }
@@ -36,6 +43,7 @@ pub struct LentRecord {
     pub cs: i32,
     pub num: u32,
     pub father: u32,
+    pub second: i32,
 }
 
 /// What a step gets beside the record.
@@ -43,6 +51,7 @@ pub struct LentRecord {
 pub struct Received {
     pub kind: u32,
     pub count: i32,
+    pub second_count: i32,
     pub out_degree: u32,
     pub in_degree: u32,
     pub sender: u32,
@@ -60,14 +69,14 @@ pub trait Calls {
     /// arc; the number is always 0
     fn next(&self, table: &mut [u8], chain: u32, arc: usize) -> Answer;
     fn start(&self, table: &mut [u8], start: usize, edition: usize, area: &mut [i32]) -> Answer;
-    /// kind, count
+    /// kind, count, second count
     fn pick(&self, area: &mut [i32], from: usize, to: usize, place: usize) -> Answer;
     /// over, made
     fn run_on(&self, area: &mut [i32], k: u32) -> Answer;
     /// deliveries, knot, outside, escape, returned
     fn report(&self, area: &mut [i32]) -> Answer;
-    /// succeeding, preceding, subordinate, cs, num, father
+    /// succeeding, preceding, subordinate, cs, num, father, second sum
     fn read_record(&self, area: &mut [i32], process: usize) -> Answer;
-    /// the record afterwards (six values), probes, reply to, reply count
+    /// the record afterwards (seven values), probes, reply to, reply count, reply's second count
     fn step(&self, record: LentRecord, received: Received) -> Answer;
 }

@@ -1,7 +1,7 @@
 //! The plain Rust behind the trait.
 
 use crate::{Answer, Calls, LentRecord, Received};
-use plain::{Chain, Message, Probe, Record, Refusal, Stopped};
+use plain::{Chain, Counts, Message, Probe, Record, Refusal, Reply, Sent, Stopped};
 
 /// The independent implementation in plain Rust.
 pub struct Plain;
@@ -24,7 +24,7 @@ fn chain_of(chain: u32) -> Chain {
     }
 }
 
-fn record_values(record: &Record) -> [i64; 6] {
+fn record_values(record: &Record) -> [i64; 7] {
     [
         record.succeeding.into(),
         record.preceding.into(),
@@ -32,7 +32,23 @@ fn record_values(record: &Record) -> [i64; 6] {
         record.cs.into(),
         record.num.into(),
         record.father.into(),
+        record.second.into(),
     ]
+}
+
+/// Probes, reply to, reply count, reply's second count.
+fn sent_values(sent: Sent) -> [i64; 4] {
+    let probes = match sent.probes {
+        None => 0,
+        Some(Probe::Suc) => 1,
+        Some(Probe::Pre) => 2,
+    };
+    match sent.reply {
+        None => [probes, 0, 0, 0],
+        Some(Reply { to, counts }) => {
+            [probes, to.into(), counts.count.into(), counts.second.into()]
+        }
+    }
 }
 
 impl Calls for Plain {
@@ -58,9 +74,9 @@ impl Calls for Plain {
 
     fn pick(&self, area: &mut [i32], from: usize, to: usize, place: usize) -> Answer {
         answer(plain::pick(area, from, to, place), |message| match message {
-            Message::Suc => [1, 0],
-            Message::Pre => [2, 0],
-            Message::Ack(count) => [3, count.into()],
+            Message::Suc => [1, 0, 0],
+            Message::Pre => [2, 0, 0],
+            Message::Ack(counts) => [3, counts.count.into(), counts.second.into()],
         })
     }
 
@@ -86,32 +102,22 @@ impl Calls for Plain {
     }
 
     fn step(&self, lent: LentRecord, received: Received) -> Answer {
-        let LentRecord { succeeding, preceding, subordinate, cs, num, father } = lent;
-        let mut record = Record { succeeding, preceding, subordinate, cs, num, father };
-        let Received { kind, count, out_degree, in_degree, sender } = received;
+        let LentRecord { succeeding, preceding, subordinate, cs, num, father, second } = lent;
+        let mut record = Record { succeeding, preceding, subordinate, cs, num, father, second };
+        let Received { kind, count, second_count, out_degree, in_degree, sender } = received;
         let message = match kind {
             1 => Some(Message::Suc),
             2 => Some(Message::Pre),
-            3 => Some(Message::Ack(count)),
+            3 => Some(Message::Ack(Counts { count, second: second_count })),
             _ => None,
         };
         let result = message
             .ok_or(Refusal::Malformed)
             .and_then(|message| plain::step(&mut record, message, out_degree, in_degree, sender));
-        let [succeeding, preceding, subordinate, cs, num, father] = record_values(&record);
-        let (number, probes, to, count) = match result {
-            Err(refusal) => (refusal.number(), 0, 0, 0),
-            Ok(sent) => {
-                let probes = match sent.probes {
-                    None => 0,
-                    Some(Probe::Suc) => 1,
-                    Some(Probe::Pre) => 2,
-                };
-                let reply = sent.reply.map_or((0, 0), |reply| (reply.to, reply.count));
-                (0, probes, i64::from(reply.0), i64::from(reply.1))
-            }
+        let (number, sent) = match result {
+            Err(refusal) => (refusal.number(), [0; 4]),
+            Ok(sent) => (0, sent_values(sent)),
         };
-        let values = [succeeding, preceding, subordinate, cs, num, father, probes, to, count];
-        Answer { number, values }
+        Answer::of_step(number, record_values(&record), sent)
     }
 }

@@ -84,8 +84,9 @@ unsafe extern "C" fn pickledune_pick(
     place: usize,
     kind: *mut u32,
     count: *mut i32,
+    second: *mut i32,
 ) -> u32 {
-    give!(Plain.pick(from_raw_parts_mut(area, area_len), from, to, place), kind, count)
+    give!(Plain.pick(from_raw_parts_mut(area, area_len), from, to, place), kind, count, second)
 }
 
 #[no_mangle]
@@ -124,9 +125,10 @@ unsafe extern "C" fn pickledune_read_record(
     cs: *mut i32,
     num: *mut u32,
     father: *mut u32,
+    second: *mut i32,
 ) -> u32 {
     let answer = Plain.read_record(&mut copied(area, area_len), process);
-    give!(answer, succeeding, preceding, subordinate, cs, num, father)
+    give!(answer, succeeding, preceding, subordinate, cs, num, father, second)
 }
 
 #[no_mangle]
@@ -137,14 +139,17 @@ unsafe extern "C" fn pickledune_step(
     cs: *mut i32,
     num: *mut u32,
     father: *mut u32,
+    second: *mut i32,
     kind: u32,
     count: i32,
+    second_count: i32,
     out_degree: u32,
     in_degree: u32,
     sender: u32,
     probes: *mut u32,
     reply_to: *mut u32,
     reply_count: *mut i32,
+    reply_second: *mut i32,
 ) -> u32 {
     let record = LentRecord {
         succeeding: *succeeding,
@@ -153,8 +158,10 @@ unsafe extern "C" fn pickledune_step(
         cs: *cs,
         num: *num,
         father: *father,
+        second: *second,
     };
-    let answer = Plain.step(record, Received { kind, count, out_degree, in_degree, sender });
+    let received = Received { kind, count, second_count, out_degree, in_degree, sender };
+    let answer = Plain.step(record, received);
     give!(
         answer,
         succeeding,
@@ -163,8 +170,10 @@ unsafe extern "C" fn pickledune_step(
         cs,
         num,
         father,
+        second,
         probes,
         reply_to,
-        reply_count
+        reply_count,
+        reply_second
     )
 }

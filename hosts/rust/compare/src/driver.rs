@@ -38,26 +38,28 @@ impl Call {
 
     /// The names of its values.
     fn values(&self) -> &'static [&'static str] {
-        const STEP: [&str; 9] = [
+        const STEP: [&str; 11] = [
             "succeeding",
             "preceding",
             "subordinate",
             "cs",
             "num",
             "father",
+            "second",
             "probes",
             "reply_to",
             "reply_count",
+            "reply_second",
         ];
         match self {
             Call::ReadTable => &["n", "m"],
             Call::WriteTable { .. } => &["length"],
             Call::Open { .. } | Call::Next { .. } => &["arc"],
             Call::Start { .. } => &[],
-            Call::Pick { .. } => &["kind", "count"],
+            Call::Pick { .. } => &["kind", "count", "second"],
             Call::RunOn { .. } => &["over", "made"],
             Call::Report => &["deliveries", "knot", "outside", "escape", "returned"],
-            Call::ReadRecord { .. } => &STEP[..6],
+            Call::ReadRecord { .. } => &STEP[..7],
             Call::Step { .. } => &STEP,
         }
     }

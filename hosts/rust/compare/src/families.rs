@@ -3,14 +3,17 @@
 
 use crate::driver::{Call, Driver, Lent, Outcome};
 use crate::graphs::{Graph, Scale, WaysOut, MOST_ARCS, MOST_PROCESSES};
-use crate::layout::{draw_area, draw_count, draw_num, links, Link, EDITION, MOST_WAITING};
+use crate::layout::{
+    ack_word, draw_area, draw_count, draw_num, links, record_place, Link, EDITION, MOST_WAITING,
+    SECOND,
+};
 use crate::rng::Rng;
 use calls::{Calls, LentRecord, Received};
 
 type Family<L> = fn(&mut Driver<L>, &mut Rng, u64) -> Outcome<()>;
 
 /// Every family with its name and the least number of calls in a whole comparison.
-pub fn families<L: Calls>() -> [(&'static str, u64, Family<L>); 14] {
+pub fn families<L: Calls>() -> [(&'static str, u64, Family<L>); 15] {
     [
         ("valid tables", 150_000, valid_tables),
         ("damaged tables", 200_000, damaged_tables),
@@ -26,6 +29,7 @@ pub fn families<L: Calls>() -> [(&'static str, u64, Family<L>); 14] {
         ("ways out, the lowest reached last", 50_000, ways_out),
         ("every place on a link", 150_000, places),
         ("editions", 150_000, editions),
+        ("second sums and counts", 200_000, second_numbers),
     ]
 }
 
@@ -439,13 +443,15 @@ fn hold_against_search<L: Calls>(
 ) -> Outcome<()> {
     let end = graph.end(start);
     let outside = end.outside.len() as i64;
+    // 02, N3: the mark goes by those that wait for nobody, under every edition.
+    let (for_nobody, returned) = (end.for_nobody as i64, i64::from(end.is_returned()));
     // 02, N1: the lowest of those with subordinate 1, who at the end are those outside.
     let escape = end.outside.first().map_or(0, |&process| process as i64);
     // 02, N4: judged by the edition that the area holds, and by the other one put in its place.
     for edition in [edition, 3 - edition] {
         let knot = i64::from(end.is_knot(edition));
         let report = driver.make(Call::Report, lent)?;
-        let expected = [end.deliveries as i64, knot, outside, escape, knot];
+        let expected = [end.deliveries as i64, knot, outside, escape, returned];
         if report.number != 0 || report.values[..5] != expected {
             let (number, found) = (report.number, &report.values[..5]);
             let what =
@@ -458,10 +464,14 @@ fn hold_against_search<L: Calls>(
         let call = Call::ReadRecord { process };
         let record = driver.make(call, lent)?;
         let (reachable, reaching) = (end.reachable[process], end.reaching[process]);
-        let cs = if process == start { outside } else { 0 };
-        let expected = [reachable.into(), reaching.into(), (reachable && !reaching).into(), cs, 0];
-        if record.number != 0 || record.values[..5] != expected {
-            let found = &record.values[..5];
+        let (cs, second) = if process == start { (outside, for_nobody) } else { (0, 0) };
+        // The father is any that the order gives.
+        let father = record.values[5];
+        let subordinate = reachable && !reaching;
+        let flags = [reachable, reaching, subordinate].map(i64::from);
+        let expected = [flags[0], flags[1], flags[2], cs, 0, father, second];
+        if record.number != 0 || record.values[..7] != expected {
+            let found = &record.values[..7];
             let what = format!("both read {found:?}, the graph search has {expected:?}");
             return Err(driver.found(call, lent, what));
         }
@@ -469,7 +479,8 @@ fn hold_against_search<L: Calls>(
     Ok(())
 }
 
-/// N 128 and M 512, where D is 2,048, and N 128 with a num of 256.
+/// N 128 and M 512, where D is 2,048, N 128 with a num of 256, and N 128 with 126 processes that wait
+/// for nobody behind one that waits for them all.
 fn largest_checks<L: Calls>(driver: &mut Driver<L>, rng: &mut Rng, least: u64) -> Outcome<()> {
     let middle = rng.within(1, MOST_PROCESSES);
     let star = (1..=MOST_PROCESSES).flat_map(|other| [(middle, other), (other, middle)]);
@@ -478,15 +489,23 @@ fn largest_checks<L: Calls>(driver: &mut Driver<L>, rng: &mut Rng, least: u64) -
     star.dedup();
     let star = Graph { n: MOST_PROCESSES, waits: star };
     let ring = Graph::ring(MOST_PROCESSES, 4);
+    let first = middle % MOST_PROCESSES + 1;
+    let behind = (1..=MOST_PROCESSES).filter(|&other| other != middle && other != first);
+    let fan = behind.map(|other| (middle, other)).chain([(first, middle)]).collect();
+    let fan = Graph { n: MOST_PROCESSES, waits: fan };
     let mut turn = 0;
     while driver.calls_in_family() < least {
         turn += 1;
-        let graph = match turn % 4 {
-            0 => star.clone(),
-            1 => ring.clone(),
-            _ => Graph::draw(rng, Scale::Large),
+        let (graph, start) = match turn % 5 {
+            0 => (star.clone(), rng.within(1, MOST_PROCESSES)),
+            1 => (ring.clone(), rng.within(1, MOST_PROCESSES)),
+            2 => (fan.clone(), rng.choose(&[first, first, middle])),
+            _ => {
+                let graph = Graph::draw(rng, Scale::Large);
+                let start = rng.within(1, graph.n);
+                (graph, start)
+            }
         };
-        let start = rng.within(1, graph.n);
         let edition = rng.choose(&EDITIONS);
         check_whole(driver, rng, &graph, start, edition, &[])?;
     }
@@ -496,7 +515,7 @@ fn largest_checks<L: Calls>(driver: &mut Driver<L>, rng: &mut Rng, least: u64) -
 /// Another value for a word, near the one it has or near a limit.
 fn damage_word(rng: &mut Rng, word: i32, graph: &Graph) -> i32 {
     let (n, m) = (graph.n as i32, graph.waits.len() as i32);
-    match rng.below(12) {
+    match rng.below(13) {
         0 => -1,
         1 => 0,
         2 => word.wrapping_add(1),
@@ -508,6 +527,7 @@ fn damage_word(rng: &mut Rng, word: i32, graph: &Graph) -> i32 {
         8 => rng.choose(&[-127, -128, -129, 65_535, 65_536]),
         9 => rng.choose(&[n, n + 1, m, m + 1]),
         10 => word.wrapping_neg(),
+        11 => ack_word(rng.choose(&COUNTS), rng.choose(&COUNTS)),
         _ => rng.below(10) as i32,
     }
 }
@@ -729,6 +749,69 @@ fn start_under_every_edition<L: Calls>(
     Ok(())
 }
 
+/// Sums at the edges of their range, out of it and far out (02, N3); some of the last are in it to
+/// whoever takes a part of their bits.
+pub const SUMS: [i32; 12] =
+    [-129, -128, -1, 0, 1, 128, 129, (1 << 8) + 1, (1 << 16) + 1, -(1 << 16), i32::MIN, i32::MAX];
+
+/// Counts of a message, at the edges of their range and out of it, as far as its word holds them.
+pub const COUNTS: [i32; 8] = [-256, -129, -128, 0, 1, 128, 129, 255];
+
+/// Words that are no message, whatever counts are read from them.
+const NO_MESSAGES: [i32; 8] =
+    [3, 4, 511, -1, -2, -ack_word(0, 0), ack_word(0, 0) + (1 << 18), i32::MIN];
+
+/// Whole checks with processes that wait for nobody and without; and in areas every sum as a second
+/// sum, and every two counts on a link (02, N3).
+fn second_numbers<L: Calls>(driver: &mut Driver<L>, rng: &mut Rng, least: u64) -> Outcome<()> {
+    while driver.calls_in_family() < least {
+        let graph = Graph::with_some_for_nobody(rng);
+        for edition in EDITIONS {
+            let start = rng.within(1, graph.n);
+            check_whole(driver, rng, &graph, start, edition, &[])?;
+        }
+        let (mut lent, links) = match rng.one_in(2) {
+            true => area_of_a_run(driver, rng, &graph)?,
+            false => unreached_area(rng, &graph),
+        };
+        let place = record_place(&graph, rng.within(1, graph.n)) + SECOND;
+        for sum in SUMS {
+            with_word(driver, rng, &graph, &links, &mut lent, place, sum)?;
+        }
+        let Some((link, message)) = choose_message(rng, ANY_ORDER, &links, &lent.area) else {
+            continue;
+        };
+        let place = link.place + message - 1;
+        let counts = COUNTS.iter().flat_map(|&c| COUNTS.iter().map(move |&d| ack_word(c, d)));
+        for word in counts.chain(NO_MESSAGES) {
+            let before = lent.area.clone();
+            lent.area[place] = word;
+            driver.make(pick(link, message), &mut lent)?;
+            lent.area.copy_from_slice(&before);
+            if rng.one_in(4) {
+                with_word(driver, rng, &graph, &links, &mut lent, place, word)?;
+            }
+        }
+    }
+    Ok(())
+}
+
+/// Every call on the area of `lent` with another word at a place.
+fn with_word<L: Calls>(
+    driver: &mut Driver<L>,
+    rng: &mut Rng,
+    graph: &Graph,
+    links: &[Link],
+    lent: &mut Lent,
+    place: usize,
+    word: i32,
+) -> Outcome<()> {
+    let held = std::mem::replace(&mut lent.area[place], word);
+    every_call(driver, rng, graph.n, links, lent)?;
+    lent.area[place] = held;
+    Ok(())
+}
+
 fn surplus_areas<L: Calls>(driver: &mut Driver<L>, rng: &mut Rng, least: u64) -> Outcome<()> {
     while driver.calls_in_family() < least {
         let graph = Graph::any(rng);
@@ -786,10 +869,12 @@ fn steps<L: Calls>(driver: &mut Driver<L>, rng: &mut Rng, least: u64) -> Outcome
             cs: draw_count(rng, extreme),
             num: draw_num(rng, extreme) as u32,
             father: rng.choose(&[0, 1, 2, 127, 128]),
+            second: draw_count(rng, extreme),
         };
         let mut received = Received {
             kind: rng.choose(&[1, 1, 2, 2, 3, 3, 3]),
             count: draw_count(rng, extreme),
+            second_count: draw_count(rng, extreme),
             out_degree: rng.choose(&[0, 0, 1, 2, 100, 127, 128]),
             in_degree: rng.choose(&[0, 0, 1, 2, 100, 127, 128]),
             sender: rng.choose(&[1, 1, 2, 3, 127, 128]),
@@ -803,10 +888,10 @@ fn steps<L: Calls>(driver: &mut Driver<L>, rng: &mut Rng, least: u64) -> Outcome
 }
 
 fn damage_step(rng: &mut Rng, record: &mut LentRecord, received: &mut Received) {
-    let wide = rng.choose(&[i32::MIN, -257, -130, -129, 129, 130, 256, i32::MAX]);
+    let wide = rng.choose(&[i32::MIN, -257, -130, -129, 129, 130, 256, 65_537, i32::MAX]);
     let flag = rng.choose(&[2, 3, 256, u32::MAX]);
     let over = rng.choose(&[129, 130, 256, 65_536, u32::MAX]);
-    match rng.below(12) {
+    match rng.below(14) {
         0 => record.succeeding = flag,
         1 => record.preceding = flag,
         2 => record.subordinate = flag,
@@ -818,6 +903,8 @@ fn damage_step(rng: &mut Rng, record: &mut LentRecord, received: &mut Received) 
         8 => received.out_degree = over,
         9 => received.in_degree = over,
         10 => received.sender = 0,
+        11 => record.second = wide,
+        12 => received.second_count = wide,
         _ => received.sender = over,
     }
 }

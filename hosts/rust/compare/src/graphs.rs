@@ -166,6 +166,24 @@ impl Graph {
         WaysOut { graph: Graph { n, waits }, start, picks }
     }
 
+    /// Waits in which each process, by a drawn share, waits for nobody, or else for one or more. So few
+    /// or many that wait for nobody are reachable, or none, also where the start is in no knot (02, N3).
+    pub fn with_some_for_nobody(rng: &mut Rng) -> Graph {
+        let n = if rng.one_in(64) { MOST_PROCESSES } else { rng.within(1, 12) };
+        let share = rng.choose(&[0, 0, 1, 2, 4, 7]);
+        let mut others: Vec<usize> = (1..=n).collect();
+        let mut waits = Vec::new();
+        for from in 1..=n {
+            if rng.below(8) >= share {
+                rng.shuffle(&mut others);
+                let degree = rng.within(1, n.min(4));
+                waits.extend(others[..degree].iter().map(|&to| (from, to)));
+            }
+        }
+        rng.shuffle(&mut waits);
+        Graph { n, waits }
+    }
+
     /// The waits as a list for the writer.
     pub fn list(&self) -> Vec<u16> {
         self.waits.iter().flat_map(|&(from, to)| [from as u16, to as u16]).collect()
@@ -205,7 +223,9 @@ impl Graph {
         let outside = (1..=self.n).filter(|&p| reachable[p] && !reaching[p]).collect();
         // Where such an arc leads is reachable by one arc or more.
         let by_an_arc = self.waits.iter().any(|&(from, _)| reachable[from]);
-        End { reachable, reaching, deliveries: 2 * once, outside, by_an_arc }
+        let waits_for_nobody = |&p: &usize| self.waits.iter().all(|&(from, _)| from != p);
+        let for_nobody = (1..=self.n).filter(|&p| reachable[p]).filter(waits_for_nobody).count();
+        End { reachable, reaching, deliveries: 2 * once, outside, by_an_arc, for_nobody }
     }
 
     /// Which processes the search meets from `start` along the arcs as turned; place 0 is empty.
@@ -230,13 +250,14 @@ impl Graph {
 }
 
 /// The end of a check: by process from 1, who is reachable from the start and who reaches it;
-/// the number D; the processes outside, lowest first; whether any process is reachable by one arc
-/// or more.
+/// the number D; the processes outside, lowest first; how many reachable processes wait for nobody;
+/// whether any process is reachable by one arc or more.
 pub struct End {
     pub reachable: Vec<bool>,
     pub reaching: Vec<bool>,
     pub deliveries: usize,
     pub outside: Vec<usize>,
+    pub for_nobody: usize,
     by_an_arc: bool,
 }
 
@@ -245,6 +266,28 @@ impl End {
     pub fn is_knot(&self, edition: usize) -> bool {
         self.outside.is_empty() && (edition == 1 || self.by_an_arc)
     }
+
+    /// "returned exactly if every process reachable from the start, itself included, waits for
+    /// somebody" (02, N3).
+    pub fn is_returned(&self) -> bool {
+        self.for_nobody == 0
+    }
+}
+
+/// Whether the start is in a knot goes by the first edition here.
+#[test]
+fn every_mark_comes_with_every_verdict() {
+    let mut rng = Rng::new(7);
+    let mut met = [[0; 2]; 2];
+    let mut most = 0;
+    for _ in 0..3000 {
+        let graph = Graph::with_some_for_nobody(&mut rng);
+        let end = graph.end(rng.within(1, graph.n));
+        met[usize::from(end.is_knot(1))][usize::from(end.is_returned())] += 1;
+        most = most.max(end.for_nobody);
+    }
+    assert!(met.as_flattened().iter().all(|&times| times > 20), "{met:?}");
+    assert!(most > 20, "{most}");
 }
 
 #[test]

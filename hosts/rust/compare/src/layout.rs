@@ -11,6 +11,14 @@ const HEADING: usize = 14;
 /// The most messages on a link.
 pub const MOST_WAITING: usize = 4;
 
+/// The word of a record that holds the second sum (02, N3).
+pub const SECOND: usize = 4;
+
+/// The word of an acknowledgement with its count and its second count.
+pub const fn ack_word(count: i32, second: i32) -> i32 {
+    (256 + count) + 512 * (256 + second)
+}
+
 /// The link between two neighbours, and the word where its messages begin.
 #[derive(Clone, Copy, Debug)]
 pub struct Link {
@@ -82,6 +90,7 @@ pub fn draw_area(rng: &mut Rng, graph: &Graph, table: &[u8], links: &[Link]) -> 
         area[record + 1] = draw_count(rng, extreme);
         area[record + 2] = draw_num(rng, extreme);
         area[record + 3] = rng.choose(neighbours);
+        area[record + SECOND] = draw_count(rng, extreme);
     }
     let num = record_place(graph, start) + 2;
     if rng.one_in(6) {
@@ -96,7 +105,7 @@ pub fn draw_area(rng: &mut Rng, graph: &Graph, table: &[u8], links: &[Link]) -> 
             *word = match rng.below(4) {
                 0 => 1,
                 1 => 2,
-                _ => 256 + draw_count(rng, extreme),
+                _ => ack_word(draw_count(rng, extreme), draw_count(rng, extreme)),
             };
         }
     }

@@ -14,6 +14,8 @@ mod layout;
 mod planted;
 mod programs;
 mod rng;
+#[cfg(test)]
+mod seconds;
 
 use calls::{Calls, Proved, STANDIN};
 use driver::{Driver, Outcome};

@@ -2,9 +2,13 @@
 //! a call can have, is told apart from the plain Rust, and the call is named.
 
 use crate::driver::Driver;
-use crate::families::{EDITIONS, OTHER_EDITIONS, OTHER_EDITION_WORDS, PLACES};
+use crate::families::{COUNTS, EDITIONS, OTHER_EDITIONS, OTHER_EDITION_WORDS, PLACES, SUMS};
 use crate::graphs::Graph;
-use crate::layout::{links, Link, EDITION, MOST_WAITING};
+use crate::layout::{ack_word, links, Link, EDITION, MOST_WAITING};
+use crate::seconds::{
+    counts_in, graph_in, is_small, pick_with_more, second_place, with_counts_swapped,
+    without_second, Receiver, SecondPlaces,
+};
 use crate::{compare, Options};
 use calls::{Answer, Calls, LentRecord, Plain, Received};
 use std::cell::RefCell;
@@ -32,6 +36,9 @@ enum Fault {
     StartCutsEditionsTo32Bits,
     StartAlwaysKeepsTheFirstEdition,
     StartWritesWhenTheEditionIsRefused,
+    StartForgetsItsOwn,
+    StartAlwaysCountsItself,
+    StartCountsItselfIfNobodyWaitsForIt,
     PickTakes24Before23,
     PickWritesWhenRefused,
     PickGivesCountsUnsigned,
@@ -51,7 +58,20 @@ enum Fault {
     PickWritesWhenThePlaceIsRefused,
     PickGivesAKindWhenThePlaceIsRefused,
     PickForgetsTheEdition,
+    PickAddsAgainAtAPreProbe,
+    PickAddsAtEverySucProbe,
+    PickNeverAdds,
+    PickCountsWhomNobodyWaitsFor,
+    PickKeepsTheSecondSum,
+    PickZeroesTheSecondSumOfTheStart,
+    PickPassesOnTheSecondSumOfTheStart,
+    PickDropsTheSecondCount,
+    PickSwapsTheCounts,
+    PickAnswersWithoutTheSecondCount,
+    PickGivesSecondCountsUnsigned,
+    PickLetsTheSecondSumLeaveItsRange,
     RunForgetsTheEdition,
+    RunDropsSecondCounts,
     RunTakesTheNewest,
     RunTakesOnlyItsFirstStep,
     RunForgetsMadeWhenRefused,
@@ -73,33 +93,52 @@ enum Fault {
     ReportJudgesByTheWaitsOfProcess1,
     ReportMakesOutside1WithoutAKnot,
     ReportMarksByTheSumAlone,
+    ReportMarksByTheVerdict,
+    ReportMarksNegativeSumsReturned,
+    ReportMarksByProcess1,
+    ReportMarksByEverySecondSum,
     RecordHasNoFather,
+    RecordHasNoSecondSum,
     RecordTakes25First,
     AreaEditionsAreNotTested,
     AreaEdition0IsTheFirst,
     FreeWordsAreNotTested,
+    FreeWordsOfRecordsAreNotTested,
+    SecondSumsAreNotTested,
+    SecondSum129IsTaken,
+    FirstCountsAreNotTested,
+    SecondCountsAreNotTested,
+    OneCountIsTaken,
     SurplusWordsAreTested,
     StepNamesNoProbesAtDegree0,
     StepChangesTheRecordWhenRefused,
     StepTakesOtherKindsForAcknowledgements,
+    StepAddsAgainAtAPreProbe,
+    StepCountsWhomNobodyWaitsFor,
+    StepKeepsTheSecondSum,
+    StepDropsTheSecondCount,
+    StepTakesASecondSumOf129,
+    StepTakesASecondCountOf129,
+    StepTestsTheSecondCountOfAProbe,
+    StepLetsTheSecondSumLeaveItsRange,
 }
 use Fault::*;
 
-/// Places of two flags among the values of reading a record.
+/// Places among the values of reading a record, which a step gives too.
 const SUCCEEDING: usize = 0;
 const SUBORDINATE: usize = 2;
+const NUM: usize = 4;
+const FATHER: usize = 5;
+const SECOND_SUM: usize = 6;
+
+/// Places among the values of a step.
+const PROBES: usize = 7;
+const REPLY_SECOND: usize = 10;
 
 /// The first of these processes whose record has the flag, or 0.
 fn first_with(flag: usize, area: &mut [i32], mut processes: impl Iterator<Item = usize>) -> i64 {
     let first = processes.find(|&process| Plain.read_record(area, process).values[flag] == 1);
     first.map_or(0, |process| process as i64)
-}
-
-/// The waits of a well-formed area.
-fn graph_in(area: &[i32]) -> Graph {
-    let (n, m) = (area[14] as usize, area[15] as usize);
-    let arcs = area[16 + 2 * n..].chunks_exact(4).take(m);
-    Graph { n, waits: arcs.map(|arc| (arc[0] as usize, arc[1] as usize)).collect() }
 }
 
 /// The links of a well-formed area.
@@ -127,11 +166,18 @@ struct Noted {
     /// Of picks that were not refused with 21, 25 or 23: how many messages waited on the link, the
     /// place, and the number that was given.
     picks: BTreeSet<(usize, usize, u32)>,
-    /// On areas of one or two processes.
+    /// On areas of one to three processes.
     reports: BTreeSet<Judged>,
     /// Of calls on an area that would be well formed with an edition: the call, the word in the
     /// edition's place, and whether it was refused with 21.
     editions: BTreeSet<(&'static str, i32, bool)>,
+    /// The same with a second sum.
+    sums: BTreeSet<(&'static str, i32, bool)>,
+    /// The same with a message, by its two counts.
+    counts: BTreeSet<(&'static str, [i32; 2], bool)>,
+    /// Of steps by an acknowledgement that would be in range with other second numbers: the second
+    /// sum, the second count, and whether it was refused with 21.
+    steps: BTreeSet<(i32, i32, bool)>,
 }
 
 /// The plain Rust with a fault.
@@ -147,6 +193,21 @@ impl Planted {
 
     fn has(&self, fault: Fault) -> bool {
         self.fault == fault
+    }
+
+    /// Whether the fault is one of second sums in a pick.
+    fn has_to_do_with_sums(&self) -> bool {
+        let faults = [
+            PickAddsAgainAtAPreProbe,
+            PickAddsAtEverySucProbe,
+            PickNeverAdds,
+            PickCountsWhomNobodyWaitsFor,
+            PickKeepsTheSecondSum,
+            PickZeroesTheSecondSumOfTheStart,
+            PickPassesOnTheSecondSumOfTheStart,
+            PickLetsTheSecondSumLeaveItsRange,
+        ];
+        faults.contains(&self.fault)
     }
 
     /// What the fault makes of a pick on a link, for which the plain Rust gives `sound` and leaves
@@ -178,9 +239,18 @@ impl Planted {
                 pick_instead(place, |messages, place| messages[place..].rotate_right(1))
             }
             (PickAnswersWithTheOldest, 0) => match before[link.place] {
-                probe @ 1..=2 => Answer::new(0, [probe.into(), 0]),
-                acknowledgement => Answer::new(0, [3, i64::from(acknowledgement) - 256]),
+                probe @ 1..=2 => Answer::new(0, [probe.into()]),
+                acknowledgement => {
+                    let [count, second] = counts_in(acknowledgement);
+                    Answer::new(0, [3, count.into(), second.into()])
+                }
             },
+            (PickDropsTheSecondCount, 0) => pick_instead(place, |messages, place| {
+                messages[place - 1] = without_second(messages[place - 1])
+            }),
+            (PickSwapsTheCounts, 0) => pick_instead(place, |messages, place| {
+                messages[place - 1] = with_counts_swapped(messages[place - 1])
+            }),
             (PickTakes31Before24, 24) if place == 0 => Answer::new(31, []),
             (PickTakes31After22, 31) if before[2] == 2048 => Answer::new(22, []),
             (PickTakesAPlaceBeyondAsTheLast, 31) if place > load => pick_instead(load, |_, _| {}),
@@ -195,6 +265,76 @@ impl Planted {
         }
     }
 
+    /// What the fault makes of the second sums (02, N3) in a pick that the plain Rust accepts or
+    /// refuses with 22, and for which it gives `sound` and leaves `area`.
+    fn pick_with_sums(
+        &self,
+        sound: Answer,
+        before: &[i32],
+        area: &mut [i32],
+        link: Link,
+        place: usize,
+    ) -> Answer {
+        let second = second_place(before, link.to);
+        let message = before[link.place + place - 1];
+        let to_start = link.to == before[1] as usize;
+        match (self.fault, sound.number) {
+            (PickKeepsTheSecondSum, 0) if !to_start => {
+                let received = if message > 2 { counts_in(message)[1] } else { 0 };
+                let own = Receiver::of(before, link, message).own;
+                area[second] = before[second] + received + own;
+                sound
+            }
+            (PickZeroesTheSecondSumOfTheStart, 0) if to_start && message <= 2 => {
+                area[second] = 0;
+                sound
+            }
+            (PickPassesOnTheSecondSumOfTheStart, 0) if to_start && message <= 2 => {
+                let back = links_in(area)
+                    .into_iter()
+                    .find(|back| (back.from, back.to) == (link.to, link.from))
+                    .expect("links go both ways");
+                let acknowledgement = back.place + back.load(area) - 1;
+                area[acknowledgement] = ack_word(0, before[second]);
+                sound
+            }
+            (PickLetsTheSecondSumLeaveItsRange, 22) => {
+                area[second] = 0;
+                let unbounded = Plain.pick(area, link.from, link.to, place);
+                if unbounded.number != 0 {
+                    area.copy_from_slice(before);
+                }
+                unbounded
+            }
+            (_, 0) if !to_start => {
+                let more = self.miscounted(&Receiver::of(before, link, message));
+                pick_with_more(sound, before, area, link, place, more)
+            }
+            _ => sound,
+        }
+    }
+
+    /// The second sum that a faulty test of a step takes for another one.
+    fn mistaken_sum(&self, second: i32, number: u32) -> Option<i32> {
+        match (self.fault, number) {
+            (StepTakesASecondSumOf129, 21) if second == 129 => Some(128),
+            (StepLetsTheSecondSumLeaveItsRange, 22) => Some(0),
+            _ => None,
+        }
+    }
+
+    /// By how much a fault of rule 2 makes the second sum larger.
+    fn miscounted(&self, receiver: &Receiver) -> i32 {
+        let &Receiver { own, new_suc, new_pre, again, for_nobody, of_nobody } = receiver;
+        match self.fault {
+            PickAddsAgainAtAPreProbe if new_pre => i32::from(for_nobody),
+            PickAddsAtEverySucProbe if again => i32::from(for_nobody),
+            PickNeverAdds => -own,
+            PickCountsWhomNobodyWaitsFor if new_suc => i32::from(of_nobody && !for_nobody),
+            _ => 0,
+        }
+    }
+
     /// A word that a faulty test of areas takes for another one.
     fn mistaken_word(&self, area: &[i32]) -> Option<(usize, i32)> {
         let edition = *area.get(EDITION)?;
@@ -202,6 +342,36 @@ impl Planted {
             FreeWordsAreNotTested if area.len() > 13 => Some((13, 0)),
             AreaEditionsAreNotTested if !names_edition(edition) => Some((EDITION, 1)),
             AreaEdition0IsTheFirst if edition == 0 => Some((EDITION, 1)),
+            _ => self.mistaken_second(area),
+        }
+    }
+
+    /// The same for the words of records and links.
+    fn mistaken_second(&self, area: &[i32]) -> Option<(usize, i32)> {
+        let SecondPlaces { sums, messages } = SecondPlaces::of(area)?;
+        let first = |places: Vec<usize>, is: &dyn Fn(i32) -> bool, instead: fn(i32) -> i32| {
+            let place = places.into_iter().find(|&place| is(area[place]))?;
+            Some((place, instead(area[place])))
+        };
+        match self.fault {
+            FreeWordsOfRecordsAreNotTested => {
+                first(sums.iter().map(|sum| sum + 1).collect(), &|word| word != 0, |_| 0)
+            }
+            SecondSumsAreNotTested => first(sums, &|sum| !is_small(sum), |_| 0),
+            SecondSum129IsTaken => first(sums, &|sum| sum == 129, |_| 128),
+            FirstCountsAreNotTested => {
+                first(messages, &|word| counts_in(word).map(is_small) == [false, true], |word| {
+                    ack_word(0, counts_in(word)[1])
+                })
+            }
+            SecondCountsAreNotTested => first(
+                messages,
+                &|word| word > 2 && counts_in(word).map(is_small) == [true, false],
+                without_second,
+            ),
+            OneCountIsTaken => {
+                first(messages, &|word| (128..=384).contains(&word), |word| ack_word(word - 256, 0))
+            }
             _ => None,
         }
     }
@@ -228,6 +398,7 @@ impl Planted {
         let answer = call(area);
         if self.has(Sound) {
             self.note_edition(name, area, answer.number == 21);
+            self.note_seconds(name, area, answer.number == 21);
         }
         answer
     }
@@ -238,6 +409,37 @@ impl Planted {
         let word = std::mem::replace(held, 1);
         if Plain.report(&mut area).number != 21 {
             self.noted.borrow_mut().editions.insert((name, word, refused));
+        }
+    }
+
+    fn note_seconds(&self, name: &'static str, area: &[i32], refused: bool) {
+        let Some(SecondPlaces { sums, messages }) = SecondPlaces::of(area) else { return };
+        let would_be_right = |place: usize, word: i32| {
+            let mut area = area.to_vec();
+            area[place] = word;
+            Plain.report(&mut area).number != 21
+        };
+        let mut noted = self.noted.borrow_mut();
+        for place in sums {
+            let sum = area[place];
+            if SUMS.contains(&sum) && (!refused || would_be_right(place, 0)) {
+                noted.sums.insert((name, sum, refused));
+            }
+        }
+        for place in messages {
+            let counts = counts_in(area[place]);
+            let is_tried = area[place] != 0 && counts.iter().all(|count| COUNTS.contains(count));
+            if is_tried && (!refused || would_be_right(place, 1)) {
+                noted.counts.insert((name, counts, refused));
+            }
+        }
+    }
+
+    fn note_step(&self, record: LentRecord, received: Received, refused: bool) {
+        let others = (LentRecord { second: 0, ..record }, Received { second_count: 0, ..received });
+        if Plain.step(others.0, others.1).number != 21 {
+            let called = (record.second, received.second_count, refused);
+            self.noted.borrow_mut().steps.insert(called);
         }
     }
 
@@ -333,6 +535,12 @@ impl Calls for Planted {
             (StartTakes30Before8, 8) if !is_edition(edition) => answer.number = 30,
             (StartTakes30After9, 30) if area.len() < needed => answer.number = 9,
             (StartWritesWhenTheEditionIsRefused, 30) => area.fill(0),
+            (StartForgetsItsOwn, 0) => area[second_place(area, start)] = 0,
+            (StartAlwaysCountsItself, 0) => area[second_place(area, start)] = 1,
+            (StartCountsItselfIfNobodyWaitsForIt, 0) => {
+                let of_nobody = graph_in(area).waits.iter().all(|&(_, to)| to != start);
+                area[second_place(area, start)] = of_nobody.into();
+            }
             _ => {}
         }
         answer
@@ -349,7 +557,12 @@ impl Calls for Planted {
                 let picked = (link.load(&before), place, answer.number);
                 self.noted.borrow_mut().picks.insert(picked);
             }
-            answer = self.pick_on_link(answer, &before, area, link, place);
+            answer = match answer.number {
+                0 | 22 if self.has_to_do_with_sums() => {
+                    self.pick_with_sums(answer, &before, area, link, place)
+                }
+                _ => self.pick_on_link(answer, &before, area, link, place),
+            };
         }
         match self.fault {
             PickTakes31Before25 if answer.number == 25 && place == 0 => answer.number = 31,
@@ -357,6 +570,8 @@ impl Calls for Planted {
             PickTakes24Before23 if answer.number == 23 => answer.number = 24,
             PickWritesWhenRefused if answer.number == 22 => area[2] += 1,
             PickGivesCountsUnsigned => answer.values[1] = answer.values[1].abs(),
+            PickAnswersWithoutTheSecondCount => answer.values[2] = 0,
+            PickGivesSecondCountsUnsigned => answer.values[2] = answer.values[2].abs(),
             PickLeavesTheRunUntouched => area.copy_from_slice(&before),
             PickForgetsTheEdition if answer.number == 0 => area[EDITION] = 1,
             _ => {}
@@ -374,10 +589,17 @@ impl Calls for Planted {
                 area[link.place..link.place + load].rotate_right(1);
             }
         }
+        if self.has(RunDropsSecondCounts) && Plain.run_on(area, 0).number == 0 {
+            for place in SecondPlaces::of(area).expect("it is well formed").messages {
+                area[place] = without_second(area[place]);
+            }
+        }
         let mut answer = self.seen("run_on", area, |area| Plain.run_on(area, k));
         match self.fault {
             RunForgetsTheEdition if answer.values[1] > 0 => area[EDITION] = 1,
-            RunTakesTheNewest if answer.values[1] == 0 => area.copy_from_slice(&before),
+            RunTakesTheNewest | RunDropsSecondCounts if answer.values[1] == 0 => {
+                area.copy_from_slice(&before)
+            }
             RunForgetsMadeWhenRefused if answer.number != 0 => answer.values[1] = 0,
             RunSaysOverForSpent if answer.number == 0 => answer.values[0] = 1,
             RunUndoesItsDeliveriesWhenRefused if answer.number != 0 => {
@@ -392,16 +614,16 @@ impl Calls for Planted {
         let mut answer = self.seen("report", area, |area| Plain.report(area));
         if answer.number == 0 {
             let processes = area[14] as usize;
-            if self.has(Sound) && processes <= 2 {
+            if self.has(Sound) && processes <= 3 {
                 let Graph { n, waits } = graph_in(area);
                 let values = answer.values[..5].try_into().expect("five values");
                 let report = (area[EDITION], n, waits, area[1], values);
                 self.noted.borrow_mut().reports.insert(report);
             }
             if let Some(by_an_arc) = self.by_an_arc(area) {
-                let knot = i64::from(answer.values[2] == 0 && by_an_arc);
-                (answer.values[1], answer.values[4]) = (knot, knot);
+                answer.values[1] = i64::from(answer.values[2] == 0 && by_an_arc);
             }
+            let second = |process| area[second_place(area, process)];
             match self.fault {
                 ReportHasAFixedVerdict => answer.values[1] = 1,
                 ReportNamesTheStartAsEscape => answer.values[3] = area[1].into(),
@@ -423,6 +645,15 @@ impl Calls for Planted {
                     answer.values[2] = 1
                 }
                 ReportMarksByTheSumAlone => answer.values[4] = i64::from(answer.values[2] == 0),
+                ReportMarksByTheVerdict => answer.values[4] = answer.values[1],
+                ReportMarksNegativeSumsReturned => {
+                    answer.values[4] = i64::from(second(area[1] as usize) <= 0)
+                }
+                ReportMarksByProcess1 => answer.values[4] = i64::from(second(1) == 0),
+                ReportMarksByEverySecondSum => {
+                    answer.values[4] =
+                        i64::from((1..=processes).all(|process| second(process) == 0))
+                }
                 _ => {}
             }
         }
@@ -434,26 +665,61 @@ impl Calls for Planted {
             return Answer::new(25, []);
         }
         let mut answer = self.seen("read_record", area, |area| Plain.read_record(area, process));
-        if self.has(RecordHasNoFather) {
-            answer.values[5] = 0;
+        match self.fault {
+            RecordHasNoFather => answer.values[FATHER] = 0,
+            RecordHasNoSecondSum => answer.values[SECOND_SUM] = 0,
+            _ => {}
         }
         answer
     }
 
     fn step(&self, record: LentRecord, mut received: Received) -> Answer {
-        if self.has(StepTakesOtherKindsForAcknowledgements) && received.kind > 3 {
-            received.kind = 3;
+        match self.fault {
+            StepTakesOtherKindsForAcknowledgements if received.kind > 3 => received.kind = 3,
+            StepDropsTheSecondCount if is_small(received.second_count) => received.second_count = 0,
+            StepTakesASecondCountOf129 if received.second_count == 129 => {
+                received.second_count = 128
+            }
+            _ => {}
         }
         let mut answer = Plain.step(record, received);
+        if self.has(Sound) && received.kind == 3 {
+            self.note_step(record, received, answer.number == 21);
+        }
+        if let Some(second) = self.mistaken_sum(record.second, answer.number) {
+            let mistaken = Plain.step(LentRecord { second, ..record }, received);
+            answer = if mistaken.number == 0 { mistaken } else { answer };
+        }
+        let is_new = |flag: u32, kind| answer.number == 0 && received.kind == kind && flag == 0;
+        let [new_suc, new_pre] = [is_new(record.succeeding, 1), is_new(record.preceding, 2)];
+        let [for_nobody, of_nobody] = [received.out_degree == 0, received.in_degree == 0];
         match self.fault {
-            StepNamesNoProbesAtDegree0 if received.out_degree == 0 && answer.values[6] == 1 => {
-                answer.values[6] = 0
+            StepNamesNoProbesAtDegree0 if for_nobody && answer.values[PROBES] == 1 => {
+                answer.values[PROBES] = 0
             }
-            StepChangesTheRecordWhenRefused if answer.number == 22 => answer.values[4] = 0,
+            StepChangesTheRecordWhenRefused if answer.number == 22 => answer.values[NUM] = 0,
+            StepAddsAgainAtAPreProbe if new_pre && for_nobody => {
+                add_to_step(&mut answer, record, 1);
+            }
+            StepCountsWhomNobodyWaitsFor if new_suc && of_nobody && !for_nobody => {
+                add_to_step(&mut answer, record, 1);
+            }
+            StepKeepsTheSecondSum if answer.number == 0 => {
+                answer.values[SECOND_SUM] += answer.values[REPLY_SECOND]
+            }
+            StepTestsTheSecondCountOfAProbe if !is_small(received.second_count) => {
+                answer = Plain.step(record, Received { kind: 3, ..received });
+            }
             _ => {}
         }
         answer
     }
+}
+
+/// So much more in the second sum of a step by rule 2: rule 4 passes it on if num is 0 then.
+fn add_to_step(answer: &mut Answer, lent: LentRecord, more: i64) {
+    let is_passed_on = lent.num == 0 && answer.values[NUM] == 0;
+    answer.values[if is_passed_on { REPLY_SECOND } else { SECOND_SUM }] += more;
 }
 
 /// The name of the call in which the comparison sees the fault.
@@ -496,6 +762,9 @@ fn every_planted_fault_is_found_and_its_call_named() {
         (StartCutsEditionsTo32Bits, "Start"),
         (StartAlwaysKeepsTheFirstEdition, "Start"),
         (StartWritesWhenTheEditionIsRefused, "Start"),
+        (StartForgetsItsOwn, "Start"),
+        (StartAlwaysCountsItself, "Start"),
+        (StartCountsItselfIfNobodyWaitsForIt, "Start"),
         (PickTakes24Before23, "Pick"),
         (PickWritesWhenRefused, "Pick"),
         (PickGivesCountsUnsigned, "Pick"),
@@ -515,7 +784,20 @@ fn every_planted_fault_is_found_and_its_call_named() {
         (PickWritesWhenThePlaceIsRefused, "Pick"),
         (PickGivesAKindWhenThePlaceIsRefused, "Pick"),
         (PickForgetsTheEdition, "Pick"),
+        (PickAddsAgainAtAPreProbe, "Pick"),
+        (PickAddsAtEverySucProbe, "Pick"),
+        (PickNeverAdds, "Pick"),
+        (PickCountsWhomNobodyWaitsFor, "Pick"),
+        (PickKeepsTheSecondSum, "Pick"),
+        (PickZeroesTheSecondSumOfTheStart, "Pick"),
+        (PickPassesOnTheSecondSumOfTheStart, "Pick"),
+        (PickDropsTheSecondCount, "Pick"),
+        (PickSwapsTheCounts, "Pick"),
+        (PickAnswersWithoutTheSecondCount, "Pick"),
+        (PickGivesSecondCountsUnsigned, "Pick"),
+        (PickLetsTheSecondSumLeaveItsRange, "Pick"),
         (RunForgetsTheEdition, "RunOn"),
+        (RunDropsSecondCounts, "RunOn"),
         (RunTakesTheNewest, "RunOn"),
         (RunTakesOnlyItsFirstStep, "RunOn"),
         (RunForgetsMadeWhenRefused, "RunOn"),
@@ -537,15 +819,34 @@ fn every_planted_fault_is_found_and_its_call_named() {
         (ReportJudgesByTheWaitsOfProcess1, "Report"),
         (ReportMakesOutside1WithoutAKnot, "Report"),
         (ReportMarksByTheSumAlone, "Report"),
+        (ReportMarksByTheVerdict, "Report"),
+        (ReportMarksNegativeSumsReturned, "Report"),
+        (ReportMarksByProcess1, "Report"),
+        (ReportMarksByEverySecondSum, "Report"),
         (RecordHasNoFather, "ReadRecord"),
+        (RecordHasNoSecondSum, "ReadRecord"),
         (RecordTakes25First, "ReadRecord"),
         (AreaEditionsAreNotTested, ""),
         (AreaEdition0IsTheFirst, ""),
         (FreeWordsAreNotTested, ""),
+        (FreeWordsOfRecordsAreNotTested, ""),
+        (SecondSumsAreNotTested, ""),
+        (SecondSum129IsTaken, ""),
+        (FirstCountsAreNotTested, ""),
+        (SecondCountsAreNotTested, ""),
+        (OneCountIsTaken, ""),
         (SurplusWordsAreTested, ""),
         (StepNamesNoProbesAtDegree0, "Step"),
         (StepChangesTheRecordWhenRefused, "Step"),
         (StepTakesOtherKindsForAcknowledgements, "Step"),
+        (StepAddsAgainAtAPreProbe, "Step"),
+        (StepCountsWhomNobodyWaitsFor, "Step"),
+        (StepKeepsTheSecondSum, "Step"),
+        (StepDropsTheSecondCount, "Step"),
+        (StepTakesASecondSumOf129, "Step"),
+        (StepTakesASecondCountOf129, "Step"),
+        (StepTestsTheSecondCountOfAProbe, "Step"),
+        (StepLetsTheSecondSumLeaveItsRange, "Step"),
     ];
     for (fault, call) in faults {
         let shown = call_that_shows(fault).unwrap_or_else(|| panic!("{fault:?} is not found"));
@@ -626,17 +927,65 @@ fn every_call_is_made_on_every_edition_in_an_area() {
     }
 }
 
-/// A row of 01 with outside 0: N, the waits, D, and the verdict under editions 1 and 2.
-type Row = (usize, &'static [(usize, usize)], i64, [i64; 2]);
+/// 02, N3: 21 from every call, unless the second sum is in its range.
+#[test]
+fn every_call_is_made_on_every_second_sum_in_an_area() {
+    let Noted { sums, .. } = noted_in("second sums and counts", 100);
+    for call in ["pick", "run_on", "report", "read_record"] {
+        for sum in SUMS {
+            let called = (call, sum, !is_small(sum));
+            assert!(sums.contains(&called), "{called:?} is missing");
+        }
+    }
+}
+
+/// 02, N3: 21 unless both counts are in their range.
+#[test]
+fn every_two_counts_are_tried_in_a_message() {
+    let Noted { counts, .. } = noted_in("second sums and counts", 300);
+    for call in ["pick", "run_on", "report", "read_record"] {
+        for both in COUNTS.into_iter().flat_map(|count| COUNTS.map(|second| [count, second])) {
+            let called = (call, both, !both.iter().all(|&count| is_small(count)));
+            // The word of the least two is 0, which is no message.
+            assert!(both == [-256; 2] || counts.contains(&called), "{called:?} is missing");
+        }
+    }
+}
+
+/// 02, N3: 21 unless both second numbers are in their range.
+#[test]
+fn steps_are_made_with_second_numbers_at_the_edges() {
+    let Noted { steps, .. } = noted_in("one process's step", 200);
+    for edge in [-129, -128, 128, 129, i32::MIN, i32::MAX] {
+        let refused = !is_small(edge);
+        let as_sum = |&(sum, count, is): &_| (sum, is_small(count), is) == (edge, true, refused);
+        let as_count = |&(sum, count, is): &_| (is_small(sum), count, is) == (true, edge, refused);
+        assert!(steps.iter().any(as_sum), "{edge} is missing as a second sum");
+        assert!(steps.iter().any(as_count), "{edge} is missing as a second count");
+    }
+}
+
+/// A row of 01: N, the waits, D, the verdict under editions 1 and 2, outside, escape, and the mark
+/// (02, N3).
+type Row = (usize, &'static [(usize, usize)], i64, [i64; 2], i64, i64, i64);
 
 #[test]
-fn the_rows_that_n4_names_are_judged_under_both_editions() {
-    let rows: [Row; 3] =
-        [(1, &[], 0, [1, 0]), (1, &[(1, 1)], 4, [1, 1]), (2, &[(2, 1)], 2, [1, 0])];
+fn the_rows_of_01_are_judged_under_both_editions() {
+    let rows: [Row; 8] = [
+        (1, &[], 0, [1, 0], 0, 0, 0),
+        (1, &[(1, 1)], 4, [1, 1], 0, 0, 1),
+        (2, &[(1, 2)], 2, [0, 0], 1, 2, 0),
+        (2, &[(2, 1)], 2, [1, 0], 0, 0, 0),
+        (2, &[(1, 2), (2, 1)], 8, [1, 1], 0, 0, 1),
+        (3, &[(1, 2), (2, 3), (3, 1)], 12, [1, 1], 0, 0, 1),
+        (3, &[(1, 2), (2, 1), (2, 3)], 10, [0, 0], 1, 3, 0),
+        (3, &[(1, 2), (2, 3), (3, 2)], 6, [0, 0], 2, 2, 1),
+    ];
     let Noted { reports, .. } = noted_in("editions", 100);
-    for (n, waits, deliveries, knots) in rows {
+    for (n, waits, deliveries, knots, outside, escape, returned) in rows {
         for (edition, knot) in (1..).zip(knots) {
-            let report = (edition, n, waits.to_vec(), 1, [deliveries, knot, 0, 0, knot]);
+            let values = [deliveries, knot, outside, escape, returned];
+            let report = (edition, n, waits.to_vec(), 1, values);
             assert!(reports.contains(&report), "{report:?} is missing");
         }
     }

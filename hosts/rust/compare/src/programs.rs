@@ -41,11 +41,16 @@ fn inputs(seed: u64) -> impl Iterator<Item = Vec<u8>> {
     named.into_iter().chain(std::iter::from_fn(move || Some(draw_input(&mut rng)))).take(INPUTS)
 }
 
-/// Of 02, N4: under all kinds of editions inputs of 0 to 8 bytes, the rows that it names and a table
-/// with two arcs alike, from process 1 and from none, with and without a byte left.
+/// Of 02, N4: under all kinds of editions inputs of 0 to 8 bytes, the rows that it names, the waits that
+/// N3 names, and a table with two arcs alike, from process 1 and from none, with and without a byte left.
 fn named_inputs(rng: &mut Rng) -> Vec<Vec<u8>> {
-    let checks: [(usize, &[(usize, usize)]); 4] =
-        [(1, &[]), (1, &[(1, 1)]), (2, &[(2, 1)]), (1, &[(1, 1), (1, 1)])];
+    let checks: [(usize, &[(usize, usize)]); 5] = [
+        (1, &[]),
+        (1, &[(1, 1)]),
+        (2, &[(2, 1)]),
+        (3, &[(1, 2), (2, 3), (3, 2)]),
+        (1, &[(1, 1), (1, 1)]),
+    ];
     let mut inputs = Vec::new();
     for edition in [0, 1, 2, 3, (1 << 8) + 1, u16::MAX] {
         for (n, waits) in checks {
@@ -119,5 +124,16 @@ fn every_refusal_of_an_input_and_every_verdict_occurs() {
             let mut judged = printed.iter().filter(|(named, _)| *named == Some(edition));
             assert!(judged.any(|(_, printed)| printed.contains(end)), "{edition}: {end}");
         }
+    }
+    // 02, N3: either mark with either verdict; second counts over 1, also after a negative count.
+    let judged: Vec<_> = printed.iter().map(|(_, printed)| printed).collect();
+    for verdict in ["verdict knot\n", "verdict none\n"] {
+        for mark in ["mark returned\n", "mark held\n"] {
+            let both = |printed: &&String| printed.contains(verdict) && printed.ends_with(mark);
+            assert!(judged.iter().copied().any(|printed| both(&printed)), "{verdict}{mark}");
+        }
+    }
+    for ack in [" ack -1 0\n", " ack -1 1\n", " ack 3 2\n"] {
+        assert!(judged.iter().any(|printed| printed.contains(ack)), "{ack}");
     }
 }

@@ -57,8 +57,20 @@ pub fn pick(
     place: usize,
     kind: &mut u32,
     count: &mut i32,
+    second: &mut i32,
 ) -> u32 {
-    unsafe { pickledune_pick(area.as_mut_ptr(), area.len(), from, to, place, kind, count) }
+    unsafe {
+        pickledune_pick(
+            area.as_mut_ptr(),
+            area.len(),
+            from,
+            to,
+            place,
+            kind,
+            count,
+            second,
+        )
+    }
 }
 
 pub fn run_on(area: &mut [i32], k: u32, over: &mut u32, made: &mut u32) -> u32 {
@@ -94,6 +106,7 @@ pub fn read_record(area: &[i32], process: usize, record: &mut Process) -> u32 {
         cs,
         num,
         father,
+        second,
     } = record;
     unsafe {
         pickledune_read_record(
@@ -106,6 +119,7 @@ pub fn read_record(area: &[i32], process: usize, record: &mut Process) -> u32 {
             cs,
             num,
             father,
+            second,
         )
     }
 }
@@ -115,6 +129,7 @@ pub fn step(
     record: &mut Process,
     kind: u32,
     count: i32,
+    second_count: i32,
     out_degree: u32,
     in_degree: u32,
     sender: u32,
@@ -128,6 +143,7 @@ pub fn step(
         cs,
         num,
         father,
+        second,
     } = record;
     unsafe {
         pickledune_step(
@@ -137,14 +153,17 @@ pub fn step(
             cs,
             num,
             father,
+            second,
             kind,
             count,
+            second_count,
             out_degree,
             in_degree,
             sender,
             probes,
             &mut reply.process,
             &mut reply.count,
+            &mut reply.second,
         )
     }
 }

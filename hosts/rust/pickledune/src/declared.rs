@@ -38,6 +38,7 @@ extern "C" {
         place: usize,
         kind: *mut u32,
         count: *mut i32,
+        second: *mut i32,
     ) -> u32;
     pub fn pickledune_run_on(
         area: *mut i32,
@@ -65,6 +66,7 @@ extern "C" {
         cs: *mut i32,
         num: *mut u32,
         father: *mut u32,
+        second: *mut i32,
     ) -> u32;
     pub fn pickledune_step(
         succeeding: *mut u32,
@@ -73,13 +75,16 @@ extern "C" {
         cs: *mut i32,
         num: *mut u32,
         father: *mut u32,
+        second: *mut i32,
         kind: u32,
         count: i32,
+        second_count: i32,
         out_degree: u32,
         in_degree: u32,
         sender: u32,
         probes: *mut u32,
         reply_to: *mut u32,
         reply_count: *mut i32,
+        reply_second: *mut i32,
     ) -> u32;
 }

@@ -4,15 +4,19 @@
 //! says what each of them does; here each takes slices and gives an enum or a struct. No call keeps what it is lent, allocates, or has
 //! state of its own. A refusal gives its number and leaves what was lent as it was; running on keeps the deliveries made before it.
 //!
+//! Beside the sum cs each process has a second sum, and beside its count each acknowledgement a second count, of processes reachable from
+//! the start that wait for nobody (02, N3). At the end the start's second sum is their number, and the mark goes by it.
+//!
 //! ```
-//! use pickledune::{Ran, Verdict};
+//! use pickledune::{Mark, Ran, Verdict};
 //!
 //! let mut table = [0u8; pickledune::table_bytes(2, 1)];
 //! pickledune::write_table(2, &[1, 2], &mut table)?; // 1 waits for 2
 //! let mut area = [0i32; pickledune::area_words(2, 1)];
 //! pickledune::start(&table, 1, 1, &mut area)?; // at process 1, under edition 1
 //! assert_eq!(pickledune::run_on(&mut area, 2048), Ran::Over(2));
-//! assert_eq!(pickledune::report(&area)?.verdict, Verdict::Free);
+//! let report = pickledune::report(&area)?;
+//! assert_eq!((report.verdict, report.mark), (Verdict::Free, Mark::Held)); // 2 waits for nobody
 //! # Ok::<(), pickledune::Refusal>(())
 //! ```
 use std::error::Error;
@@ -62,12 +66,12 @@ pub struct Sizes {
     pub arcs: usize,
 }
 
-/// A suc probe, a pre probe, or an acknowledgement with its count (−128 to 128).
+/// A suc probe, a pre probe, or an acknowledgement with its count and its second count (−128 to 128 each).
 #[derive(Clone, Copy, Debug, PartialEq, Eq, Hash)]
 pub enum Message {
     Suc,
     Pre,
-    Ack(i32),
+    Ack { count: i32, second: i32 },
 }
 
 /// The answer of running on: over or spent with the number of deliveries made, or a refusal with the deliveries made before it.
@@ -85,7 +89,7 @@ pub enum Verdict {
     Free,
 }
 
-/// `Returned` exactly if the verdict is `Knot`.
+/// `Returned` exactly if every process reachable from the start, itself included, waits for somebody (02, N3), whatever the verdict.
 #[derive(Clone, Copy, Debug, PartialEq, Eq, Hash)]
 pub enum Mark {
     Returned,
@@ -105,7 +109,8 @@ pub struct Report {
     pub mark: Mark,
 }
 
-/// One process's record: three flags (0 or 1), cs (−128 to 128), num (0 to 256), and father (0 or a process).
+/// One process's record: three flags (0 or 1), cs (−128 to 128), num (0 to 256), father (0 or a process), and the second sum (−128 to
+/// 128).
 #[derive(Clone, Copy, Debug, Default, PartialEq, Eq, Hash)]
 pub struct Process {
     pub succeeding: u32,
@@ -114,6 +119,7 @@ pub struct Process {
     pub cs: i32,
     pub num: u32,
     pub father: u32,
+    pub second: i32,
 }
 
 /// The probes that a step broadcasts: none, suc to all successors, or pre to all predecessors.
@@ -124,11 +130,12 @@ pub enum Probes {
     Pres,
 }
 
-/// An acknowledgement to send.
+/// An acknowledgement to send, with its count and its second count.
 #[derive(Clone, Copy, Debug, PartialEq, Eq, Hash)]
 pub struct Reply {
     pub process: u32,
     pub count: i32,
+    pub second: i32,
 }
 
 /// What a step sends.
@@ -183,11 +190,20 @@ pub fn start(table: &[u8], start: usize, edition: usize, area: &mut [i32]) -> Re
 pub fn pick(area: &mut [i32], from: usize, to: usize, place: usize) -> Result<Message, Refusal> {
     let mut kind = 0;
     let mut count = 0;
-    accepted(archive::pick(area, from, to, place, &mut kind, &mut count))?;
+    let mut second = 0;
+    accepted(archive::pick(
+        area,
+        from,
+        to,
+        place,
+        &mut kind,
+        &mut count,
+        &mut second,
+    ))?;
     Ok(match kind {
         archive::SUC => Message::Suc,
         archive::PRE => Message::Pre,
-        _ => Message::Ack(count),
+        _ => Message::Ack { count, second },
     })
 }
 
@@ -251,20 +267,22 @@ pub fn step(
     in_degree: u32,
     sender: u32,
 ) -> Result<Sent, Refusal> {
-    let (kind, count) = match message {
-        Message::Suc => (archive::SUC, 0),
-        Message::Pre => (archive::PRE, 0),
-        Message::Ack(count) => (archive::ACK, count),
+    let (kind, count, second_count) = match message {
+        Message::Suc => (archive::SUC, 0, 0),
+        Message::Pre => (archive::PRE, 0, 0),
+        Message::Ack { count, second } => (archive::ACK, count, second),
     };
     let mut probes = 0;
     let mut reply = Reply {
         process: 0,
         count: 0,
+        second: 0,
     };
     accepted(archive::step(
         record,
         kind,
         count,
+        second_count,
         out_degree,
         in_degree,
         sender,

@@ -27,14 +27,8 @@ fn started(table: &[u8], start: usize) -> Vec<i32> {
     started_under(1, table, start)
 }
 
-fn process(
-    succeeding: u32,
-    preceding: u32,
-    subordinate: u32,
-    cs: i32,
-    num: u32,
-    father: u32,
-) -> Process {
+fn process(flags: [u32; 3], cs: i32, num: u32, father: u32, second: i32) -> Process {
+    let [succeeding, preceding, subordinate] = flags;
     Process {
         succeeding,
         preceding,
@@ -42,7 +36,12 @@ fn process(
         cs,
         num,
         father,
+        second,
     }
+}
+
+fn ack(count: i32, second: i32) -> Message {
+    Message::Ack { count, second }
 }
 
 #[test]
@@ -58,14 +57,14 @@ fn the_example() {
 
     let mut area = started(&TABLE, 1);
     assert_eq!(pickledune::pick(&mut area, 1, 2, 1), Ok(Message::Suc));
-    assert_eq!(pickledune::pick(&mut area, 2, 1, 1), Ok(Message::Ack(1)));
+    assert_eq!(pickledune::pick(&mut area, 2, 1, 1), Ok(ack(1, 1)));
     assert_eq!(
         pickledune::read_record(&area, 1),
-        Ok(process(1, 1, 0, 1, 0, 0))
+        Ok(process([1, 1, 0], 1, 0, 0, 1))
     );
     assert_eq!(
         pickledune::read_record(&area, 2),
-        Ok(process(1, 0, 1, 0, 0, 1))
+        Ok(process([1, 0, 1], 0, 0, 1, 0))
     );
     let report = Report {
         deliveries: 2,
@@ -119,22 +118,22 @@ const KNOT: Verdicts = [Verdict::Knot, Verdict::Knot];
 const KNOT_BY_THE_FIRST: Verdicts = [Verdict::Knot, Verdict::Free];
 const FREE: Verdicts = [Verdict::Free, Verdict::Free];
 
-/// A row P of 01, from process 1: N, the waits, D, the verdicts, outside; and escape by 02, N1.
-type Row = (usize, &'static [u16], u32, Verdicts, i32, Option<u32>);
+/// A row P of 01, from process 1: N, the waits, D, the verdicts, outside; escape by 02, N1, and by 02, N3 the start's second sum.
+type Row = (usize, &'static [u16], u32, Verdicts, i32, Option<u32>, i32);
 
 #[test]
 fn the_known_verdicts() {
     let rows: [Row; 8] = [
-        (1, &[], 0, KNOT_BY_THE_FIRST, 0, None),
-        (1, &[1, 1], 4, KNOT, 0, None),
-        (2, &[1, 2], 2, FREE, 1, Some(2)),
-        (2, &[2, 1], 2, KNOT_BY_THE_FIRST, 0, None),
-        (2, &[1, 2, 2, 1], 8, KNOT, 0, None),
-        (3, &[1, 2, 2, 3, 3, 1], 12, KNOT, 0, None),
-        (3, &[1, 2, 2, 1, 2, 3], 10, FREE, 1, Some(3)),
-        (3, &[1, 2, 2, 3, 3, 2], 6, FREE, 2, Some(2)),
+        (1, &[], 0, KNOT_BY_THE_FIRST, 0, None, 1),
+        (1, &[1, 1], 4, KNOT, 0, None, 0),
+        (2, &[1, 2], 2, FREE, 1, Some(2), 1),
+        (2, &[2, 1], 2, KNOT_BY_THE_FIRST, 0, None, 1),
+        (2, &[1, 2, 2, 1], 8, KNOT, 0, None, 0),
+        (3, &[1, 2, 2, 3, 3, 1], 12, KNOT, 0, None, 0),
+        (3, &[1, 2, 2, 1, 2, 3], 10, FREE, 1, Some(3), 1),
+        (3, &[1, 2, 2, 3, 3, 2], 6, FREE, 2, Some(2), 0),
     ];
-    for (n, list, d, verdicts, outside, escape) in rows {
+    for (n, list, d, verdicts, outside, escape, second) in rows {
         for (edition, verdict) in (1..).zip(verdicts) {
             let mut area = started_under(edition, &written(n, list), 1);
             assert_eq!(pickledune::run_on(&mut area, 2048), Ran::Over(d));
@@ -143,9 +142,37 @@ fn the_known_verdicts() {
                 (report.deliveries, report.verdict, report.outside, report.escape),
                 (d, verdict, outside, escape)
             );
-            assert_eq!(report.mark == Mark::Returned, verdict == Verdict::Knot);
+            assert_eq!(report.mark == Mark::Returned, second == 0);
+            for process in 1..=n {
+                let expected = if process == 1 { second } else { 0 };
+                let record = pickledune::read_record(&area, process).unwrap();
+                assert_eq!(record.second, expected);
+            }
         }
     }
+}
+
+/// 02, N3: a second sum out of cs's range, and a message with either count out of it, give 21.
+#[test]
+fn second_numbers_out_of_range() {
+    let area = started(&TABLE, 1);
+    // The second sum of 1 and of 2, and the first message from 2 to 1.
+    for (place, words) in [
+        (28, [-129, 129]),
+        (34, [-129, 129]),
+        (44, [127 + 512 * 256, 256 + 512 * 385]),
+    ] {
+        for word in words {
+            let mut area = area.clone();
+            area[place] = word;
+            assert_eq!(pickledune::read_record(&area, 1), Err(Refusal(21)));
+            assert_eq!(pickledune::pick(&mut area, 1, 2, 1), Err(Refusal(21)));
+        }
+    }
+    // In range, but 2 waits for nobody and would make it 129.
+    let mut area = area;
+    area[34] = 128;
+    assert_eq!(pickledune::pick(&mut area, 1, 2, 1), Err(Refusal(22)));
 }
 
 /// 02, N4: 30 comes after 8 and before 9; an area that holds another edition gives 21.
@@ -215,15 +242,29 @@ fn one_step() {
         sent.reply,
         Some(Reply {
             process: 1,
-            count: 1
+            count: 1,
+            second: 1
         })
     );
-    assert_eq!(record, process(1, 0, 1, 0, 0, 1));
+    assert_eq!(record, process([1, 0, 1], 0, 0, 1, 0));
 
+    // It waits for nobody, which it has counted.
     let sent = pickledune::step(&mut record, Message::Pre, 0, 1, 1).unwrap();
     assert_eq!(sent.probes, Probes::Pres);
     assert_eq!(sent.reply, None);
-    assert_eq!(record, process(1, 1, 0, -1, 1, 1));
+    assert_eq!(record, process([1, 1, 0], -1, 1, 1, 0));
+
+    let sent = pickledune::step(&mut record, ack(3, -2), 0, 1, 1).unwrap();
+    assert_eq!(sent.probes, Probes::Nothing);
+    assert_eq!(
+        sent.reply,
+        Some(Reply {
+            process: 1,
+            count: 2,
+            second: -2
+        })
+    );
+    assert_eq!(record, process([1, 1, 0], 0, 0, 1, 0));
 }
 
 #[test]
@@ -274,7 +315,7 @@ fn refusals_change_nothing() {
     pickledune::run_on(&mut area, 2);
     assert_eq!(pickledune::pick(&mut area, 1, 2, 1), Err(Refusal(23)));
 
-    let mut record = process(2, 0, 0, 0, 0, 0);
+    let mut record = process([2, 0, 0], 0, 0, 0, 0);
     assert_eq!(
         pickledune::step(&mut record, Message::Suc, 0, 0, 1),
         Err(Refusal(21))
@@ -285,12 +326,14 @@ fn refusals_change_nothing() {
         Err(Refusal(25))
     );
     assert_eq!(
-        pickledune::step(&mut record, Message::Ack(1), 0, 0, 1),
+        pickledune::step(&mut record, ack(1, 0), 0, 0, 1),
         Err(Refusal(22))
     );
-    assert_eq!(
-        pickledune::step(&mut record, Message::Ack(129), 0, 0, 1),
-        Err(Refusal(21))
-    );
+    for message in [ack(129, 0), ack(0, 129), ack(0, -129)] {
+        assert_eq!(
+            pickledune::step(&mut record, message, 0, 0, 1),
+            Err(Refusal(21))
+        );
+    }
     assert_eq!(record, Process::default());
 }

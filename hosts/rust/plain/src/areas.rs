@@ -1,6 +1,6 @@
 //! The words of a run area (docs/LAYOUT.md) and the test that any words are well formed.
 
-use crate::steps::{is_small, Message, Record};
+use crate::steps::{is_small, Counts, Message, Record};
 use crate::tables::{check, Sizes, Table, Waits, Words};
 use crate::{Refusal, MOST_DELIVERIES};
 
@@ -14,7 +14,7 @@ const FREE: std::ops::Range<usize> = 4..14;
 /// The words before the table.
 pub(crate) const HEADING: usize = 14;
 
-/// Flags, cs, num, father, two free words.
+/// Flags, cs, num, father, the second sum, a free word.
 pub(crate) type RecordWords = [i32; 6];
 /// Four messages, oldest first, then four free words. Arc k has links 2(k − 1), from its from to
 /// its to, and 2(k − 1) + 1, which is the link back if there is no arc back.
@@ -53,8 +53,14 @@ pub(crate) fn code_of(message: Message) -> i32 {
     match message {
         Message::Suc => 1,
         Message::Pre => 2,
-        Message::Ack(count) => 256 + count,
+        Message::Ack(Counts { count, second }) => (256 + count) + 512 * (256 + second),
     }
+}
+
+/// The two counts of a word, if it is an acknowledgement.
+#[inline]
+fn counts_in(code: i32) -> Counts {
+    Counts { count: code.rem_euclid(512) - 256, second: code.div_euclid(512) - 256 }
 }
 
 /// The message of a word that is one.
@@ -62,12 +68,12 @@ pub(crate) fn message_of(code: i32) -> Message {
     match code {
         1 => Message::Suc,
         2 => Message::Pre,
-        _ => Message::Ack(code - 256),
+        _ => Message::Ack(counts_in(code)),
     }
 }
 
 fn is_message(code: i32) -> bool {
-    (1..=2).contains(&code) || is_small(code.wrapping_sub(256))
+    (1..=2).contains(&code) || counts_in(code).are_small()
 }
 
 /// How many messages wait on a link.
@@ -89,7 +95,7 @@ pub(crate) fn without(link: &Link, place: usize) -> Link {
 
 /// The record in words that were tested.
 #[inline]
-pub(crate) fn record_of(&[flags, cs, num, father, ..]: &RecordWords) -> Record {
+pub(crate) fn record_of(&[flags, cs, num, father, second, _]: &RecordWords) -> Record {
     Record {
         succeeding: (flags & 1) as u32,
         preceding: (flags >> 1 & 1) as u32,
@@ -97,13 +103,14 @@ pub(crate) fn record_of(&[flags, cs, num, father, ..]: &RecordWords) -> Record {
         cs,
         num: num as u32,
         father: father as u32,
+        second,
     }
 }
 
 #[inline]
 pub(crate) fn words_of(record: &Record) -> RecordWords {
     let flags = record.succeeding + 2 * record.preceding + 4 * record.subordinate;
-    [flags as i32, record.cs, record.num as i32, record.father as i32, 0, 0]
+    [flags as i32, record.cs, record.num as i32, record.father as i32, record.second, 0]
 }
 
 /// The edition that a heading names, as every heading that was tested does.
@@ -159,13 +166,14 @@ impl<'a> Area<'a> {
 
     fn records_right(&self, waits: &Waits) -> bool {
         let n = self.records.len();
-        (1..).zip(self.records).all(|(process, &[flags, cs, num, father, free_1, free_2])| {
+        (1..).zip(self.records).all(|(process, &[flags, cs, num, father, second, free])| {
             let father = father as u32 as usize;
             (0..=7).contains(&flags)
                 && is_small(cs)
                 && (0..=256).contains(&num)
                 && (father == 0 || father <= n && waits.neighbours(process, father))
-                && free_1 | free_2 == 0
+                && is_small(second)
+                && free == 0
         })
     }
 

@@ -16,7 +16,7 @@ mod tables;
 pub use areas::words_needed;
 pub use program::{check_program, LARGEST_INPUT};
 pub use runs::{pick, read_record, report, run_on, start, Delivered, Report, Stopped};
-pub use steps::{step, Message, Probe, Record, Reply, Sent};
+pub use steps::{step, Counts, Message, Probe, Record, Reply, Sent};
 pub use tables::{next, open, read_table, write_table, Chain, Sizes};
 
 /// The most processes that a table may have.

@@ -3,7 +3,7 @@
 use crate::areas::words_needed;
 use crate::runs::{Beginning, Delivered, Indexed, Run};
 use crate::tables::leading_sizes;
-use crate::{Message, Refusal};
+use crate::{Counts, Message, Refusal};
 
 /// The longest input, in bytes.
 pub const LARGEST_INPUT: usize = 20_480;
@@ -71,11 +71,12 @@ fn put_end(out: &mut Vec<u8>, run: &Run) -> Result<(), Refusal> {
     for (process, record) in (1..).zip(run.records()) {
         out.extend_from_slice(b"process ");
         put_decimal(out, process);
-        let flags = [record.succeeding, record.preceding, record.subordinate].map(i64::from);
-        for value in flags.into_iter().chain([i64::from(record.cs), i64::from(record.num)]) {
-            out.push(b' ');
-            put_decimal(out, value);
+        for flag in [record.succeeding, record.preceding, record.subordinate] {
+            put_field(out, flag);
         }
+        put_field(out, record.cs);
+        put_field(out, record.num);
+        put_field(out, record.second);
         out.push(b'\n');
     }
     let report = run.report()?;
@@ -103,8 +104,19 @@ fn put_delivery(out: &mut Vec<u8>, word: &[u8], delivered: Delivered) {
     match delivered.message {
         Message::Suc => out.extend_from_slice(b" suc\n"),
         Message::Pre => out.extend_from_slice(b" pre\n"),
-        Message::Ack(count) => put_line(out, b" ack ", i64::from(count)),
+        // 02, N3: "`ack` and `process` lines end with the second number".
+        Message::Ack(Counts { count, second }) => {
+            out.extend_from_slice(b" ack");
+            put_field(out, count);
+            put_field(out, second);
+            out.push(b'\n');
+        }
     }
+}
+
+fn put_field(out: &mut Vec<u8>, value: impl Into<i64>) {
+    out.push(b' ');
+    put_decimal(out, value.into());
 }
 
 fn put_line(out: &mut Vec<u8>, words: &[u8], value: i64) {

@@ -5,7 +5,7 @@ use crate::areas::{
     words_needed, words_of, Area, Edition, Link, RecordWords, CHECK, DELIVERIES, EDITION, HEADING,
     KNOT_CHECK, MOST_WAITING, START,
 };
-use crate::steps::{advance, advance_start, Message, Probe, Record, Sent};
+use crate::steps::{advance, advance_start, own_count, Message, Probe, Record, Sent};
 use crate::tables::{accept, Arc, Chain, Sizes, Table, Waits, Words};
 use crate::{Refusal, MOST_DELIVERIES, MOST_PROCESSES};
 
@@ -26,7 +26,8 @@ pub struct Report {
     /// 02, N1: "escape is the lowest-numbered process with subordinate 1, and 0 only where there is
     /// none".
     pub escape: usize,
-    /// The mark: returned, or held.
+    /// The mark: returned, or held. 02, N3: "The report marks returned if the start's second sum is 0,
+    /// else held."
     pub returned: bool,
 }
 
@@ -195,7 +196,9 @@ impl<'a> Run<'a> {
         let mut run = Run::new(words, sizes, waits);
         let mut num = run.broadcast(&mut Searched, start, Probe::Suc);
         num += run.broadcast(&mut Searched, start, Probe::Pre);
-        let record = Record { succeeding: 1, preceding: 1, num, ..Record::default() };
+        // 02, N3: "the start adds its own at once".
+        let second = own_count(run.waits.has_successor(start));
+        let record = Record { succeeding: 1, preceding: 1, num, second, ..Record::default() };
         run.records[start - 1] = words_of(&record);
         run
     }
@@ -274,7 +277,7 @@ impl<'a> Run<'a> {
             links.note_emptied(from, to);
         }
         if let (Some(reply), Some(link)) = (sent.reply, reply_link) {
-            self.send(link, Message::Ack(reply.count));
+            self.send(link, Message::Ack(reply.counts));
             links.note_sent(to, reply.to as usize);
         }
         if let Some(probe) = sent.probes {
@@ -370,7 +373,7 @@ fn chain_of(probe: Probe) -> Chain {
 
 fn report_of(heading: &[i32], records: &[RecordWords], waits: &Waits) -> Result<Report, Refusal> {
     let start = heading[START] as usize;
-    let Record { cs, num, .. } = record_of(&records[start - 1]);
+    let Record { cs, num, second, .. } = record_of(&records[start - 1]);
     if num != 0 {
         return Err(Refusal::NotOver);
     }
@@ -384,7 +387,7 @@ fn report_of(heading: &[i32], records: &[RecordWords], waits: &Waits) -> Result<
         knot,
         outside: cs,
         escape: escape.map_or(0, |place| place + 1),
-        returned: knot,
+        returned: second == 0,
     })
 }
 

@@ -1,8 +1,8 @@
 //! 01's own examples, its table of checks, and the refusals of each call; 02's rules for the escape
-//! (N1), for editions (N4) and for places (N5).
+//! (N1), for the second sums and the mark (N3), for editions (N4) and for places (N5).
 
 use plain::*;
-use std::collections::HashSet;
+use std::collections::{HashMap, HashSet};
 
 fn table(n: usize, list: &[u16]) -> Vec<u8> {
     let mut out = vec![0; 4 + 4 * 128 + 8 * 512];
@@ -22,6 +22,16 @@ fn started(n: usize, list: &[u16], first: usize) -> Vec<i32> {
     started_under(1, n, list, first)
 }
 
+/// An acknowledgement with its two counts (02, N3).
+fn ack(count: i32, second: i32) -> Message {
+    Message::Ack(Counts { count, second })
+}
+
+/// The word of such an acknowledgement.
+fn ack_word(count: i32, second: i32) -> i32 {
+    (256 + count) + 512 * (256 + second)
+}
+
 fn printed(input: &[u8]) -> String {
     let mut out = Vec::new();
     check_program(input, &mut out);
@@ -37,7 +47,8 @@ fn the_example_of_01() {
     // 02, N4: "01's input gains `01 00`" after the start process.
     let input =
         [1, 0, 1, 0, 2, 0, 1, 0, 1, 0, 0, 0, 0, 0, 1, 0, 1, 0, 2, 0, 0, 0, 0, 0, 1, 0, 2, 0];
-    let expected = "pick 1 2 suc\nown 2 1 ack 1\nprocess 1 1 1 0 1 0\nprocess 2 1 0 1 0 0\n\
+    // 02, N3: "`ack` and `process` lines end with the second number".
+    let expected = "pick 1 2 suc\nown 2 1 ack 1 1\nprocess 1 1 1 0 1 0 1\nprocess 2 1 0 1 0 0 0\n\
                     over 2\nverdict none\noutside 1\nescape 2\nmark held\n";
     assert_eq!(printed(&input), expected);
     assert_eq!(table(2, &[1, 2]), input[4..24]);
@@ -57,28 +68,29 @@ impl Knot {
     }
 }
 
-/// N, the waits, D, knot, outside; and escape by 02, N1.
-type Row = (usize, &'static [u16], u32, Knot, i32, usize);
+/// N, the waits, D, knot, outside; escape by 02, N1, and the start's second sum by 02, N3.
+type Row = (usize, &'static [u16], u32, Knot, i32, usize, i32);
 
 #[test]
 fn the_rows_to_be_proved() {
     let rows: [Row; 8] = [
-        (1, &[], 0, Knot::First, 0, 0),
-        (1, &[1, 1], 4, Knot::Both, 0, 0),
-        (2, &[1, 2], 2, Knot::None, 1, 2),
-        (2, &[2, 1], 2, Knot::First, 0, 0),
-        (2, &[1, 2, 2, 1], 8, Knot::Both, 0, 0),
-        (3, &[1, 2, 2, 3, 3, 1], 12, Knot::Both, 0, 0),
-        (3, &[1, 2, 2, 1, 2, 3], 10, Knot::None, 1, 3),
-        (3, &[1, 2, 2, 3, 3, 2], 6, Knot::None, 2, 2),
+        (1, &[], 0, Knot::First, 0, 0, 1),
+        (1, &[1, 1], 4, Knot::Both, 0, 0, 0),
+        (2, &[1, 2], 2, Knot::None, 1, 2, 1),
+        (2, &[2, 1], 2, Knot::First, 0, 0, 1),
+        (2, &[1, 2, 2, 1], 8, Knot::Both, 0, 0, 0),
+        (3, &[1, 2, 2, 3, 3, 1], 12, Knot::Both, 0, 0, 0),
+        (3, &[1, 2, 2, 1, 2, 3], 10, Knot::None, 1, 3, 1),
+        (3, &[1, 2, 2, 3, 3, 2], 6, Knot::None, 2, 2, 0),
     ];
-    for (n, list, deliveries, knot, outside, escape) in rows {
+    for (n, list, deliveries, knot, outside, escape, second) in rows {
         for edition in [1, 2] {
             let mut area = started_under(edition, n, list, 1);
             assert_eq!(run_on(&mut area, deliveries), (Stopped::Over, deliveries), "{list:?}");
             let knot = knot.under(edition);
-            let expected = Report { deliveries, knot, outside, escape, returned: knot };
+            let expected = Report { deliveries, knot, outside, escape, returned: second == 0 };
             assert_eq!(report(&area), Ok(expected), "{list:?} under {edition}");
+            assert_eq!(read_record(&area, 1).unwrap().second, second, "{list:?}");
         }
     }
 }
@@ -99,8 +111,17 @@ fn ways(n: usize, list: &[u16]) -> Vec<Vec<bool>> {
     ways
 }
 
+/// 02, N3: the second sums once a run is over, "0 everywhere but at the start, which has the number of
+/// such processes".
+fn assert_second_sums(area: &[i32], n: usize, start: usize, number: usize) {
+    for process in 1..=n {
+        let expected = if process == start { number as i32 } else { 0 };
+        assert_eq!(read_record(area, process).unwrap().second, expected, "process {process}");
+    }
+}
+
 /// Every set of waits of up to three processes, from every start and under both editions: the two
-/// runs differ in the word that names the edition alone.
+/// runs differ in the word that names the edition alone, and both mark by 02, N3.
 #[test]
 fn small_checks_are_judged_by_their_edition() {
     let sets = (1..=3).flat_map(|n| (0..1 << (n * n)).map(move |set: u16| (n, set)));
@@ -114,6 +135,9 @@ fn small_checks_are_judged_by_their_edition() {
             let outside = (0..n).filter(|&other| reaches(first, other) && !reaches(other, first));
             let outside: Vec<_> = outside.collect();
             let by_an_arc = ways[first].contains(&true);
+            let for_nobody =
+                (0..n).filter(|&other| reaches(first, other) && !ways[other].contains(&true));
+            let for_nobody = for_nobody.count();
             let [mut area, mut by_the_second] =
                 [1, 2].map(|edition| started_under(edition, n, &list, first + 1));
             loop {
@@ -130,9 +154,9 @@ fn small_checks_are_judged_by_their_edition() {
             let found = report(&area).unwrap();
             let escape = outside.first().map_or(0, |other| other + 1);
             assert_eq!((found.outside, found.escape), (outside.len() as i32, escape), "{list:?}");
-            assert_eq!((found.knot, found.returned), (knot, knot), "{list:?}");
-            let knot = knot && by_an_arc;
-            let expected = Report { knot, returned: knot, ..found };
+            assert_eq!((found.knot, found.returned), (knot, for_nobody == 0), "{list:?}");
+            assert_second_sums(&area, n, first + 1, for_nobody);
+            let expected = Report { knot: knot && by_an_arc, ..found };
             assert_eq!(report(&by_the_second), Ok(expected), "{list:?} from {}", first + 1);
         }
     }
@@ -163,19 +187,21 @@ fn waiting(area: &[i32], link: usize) -> Vec<i32> {
 /// under both editions (N4: "the end state is still one for all orders").
 #[test]
 fn the_end_is_the_same_at_every_place() {
-    // N, the waits, the most messages on a link, D, knot, outside, escape.
-    type Check = (usize, &'static [u16], usize, u32, Knot, i32, usize);
-    let checks: [Check; 8] = [
-        (1, &[1, 1], 2, 4, Knot::Both, 0, 0),
-        (2, &[1, 2], 1, 2, Knot::None, 1, 2),
-        (2, &[2, 1], 1, 2, Knot::First, 0, 0),
-        (2, &[1, 2, 2, 1], 3, 8, Knot::Both, 0, 0),
-        (2, &[1, 2, 2, 1, 2, 2], 3, 12, Knot::Both, 0, 0),
-        (3, &[1, 2, 2, 3, 3, 1], 2, 12, Knot::Both, 0, 0),
-        (3, &[1, 2, 2, 1, 2, 3], 3, 10, Knot::None, 1, 3),
-        (3, &[1, 2, 1, 3, 2, 1, 2, 3, 3, 2], 4, 20, Knot::Both, 0, 0),
+    // N, the waits, the most messages on a link, D, knot, outside, escape, the start's second sum.
+    type Check = (usize, &'static [u16], usize, u32, Knot, i32, usize, usize);
+    let checks: [Check; 10] = [
+        (1, &[1, 1], 2, 4, Knot::Both, 0, 0, 0),
+        (2, &[1, 2], 1, 2, Knot::None, 1, 2, 1),
+        (2, &[2, 1], 1, 2, Knot::First, 0, 0, 1),
+        (2, &[1, 2, 2, 1], 3, 8, Knot::Both, 0, 0, 0),
+        (2, &[1, 2, 2, 1, 2, 2], 3, 12, Knot::Both, 0, 0, 0),
+        (3, &[1, 2, 2, 3, 3, 1], 2, 12, Knot::Both, 0, 0, 0),
+        (3, &[1, 2, 2, 1, 2, 3], 3, 10, Knot::None, 1, 3, 1),
+        (3, &[1, 2, 2, 3, 3, 2], 1, 6, Knot::None, 2, 2, 0),
+        (3, &[1, 2, 1, 3, 2, 1, 2, 3, 3, 2], 4, 20, Knot::Both, 0, 0, 0),
+        (4, &[1, 2, 2, 1, 2, 3, 1, 3, 2, 4], 3, 14, Knot::None, 2, 3, 2),
     ];
-    for ((n, list, most, deliveries, knot, outside, escape), edition) in
+    for ((n, list, most, deliveries, knot, outside, escape, second), edition) in
         checks.into_iter().flat_map(|check| [(check, 1), (check, 2)])
     {
         let links = links(n, list);
@@ -188,12 +214,14 @@ fn the_end_is_the_same_at_every_place() {
             let is_over = read_record(&area, 1).unwrap().num == 0;
             assert_eq!(links.iter().all(|link| waiting(&area, link.2).is_empty()), is_over);
             if is_over {
-                let expected = Report { deliveries, knot, outside, escape, returned: knot };
+                let returned = second == 0;
+                let expected = Report { deliveries, knot, outside, escape, returned };
                 assert_eq!(report(&area), Ok(expected), "{list:?}");
+                assert_second_sums(&area, n, 1, second);
                 let records = (1..=n).map(|process| read_record(&area, process).unwrap());
                 let records = records.map(|record| {
-                    let Record { succeeding, preceding, subordinate, cs, num, father: _ } = record;
-                    (succeeding, preceding, subordinate, cs, num)
+                    let Record { succeeding, preceding, subordinate, cs, num, .. } = record;
+                    (succeeding, preceding, subordinate, cs, num, record.second)
                 });
                 ends.insert(records.collect::<Vec<_>>());
             }
@@ -259,7 +287,7 @@ fn counts_1_and_minus_1_come_back_when_both_probes_go_first() {
     let mut counts = Vec::new();
     while report(&area).is_err() {
         match pick(&mut area, 2, 1, 1) {
-            Ok(Message::Ack(count)) => counts.push(count),
+            Ok(Message::Ack(Counts { count, second })) => counts.push((count, second)),
             Ok(_) => {}
             Err(refusal) => {
                 assert_eq!(refusal, Refusal::Nothing);
@@ -267,7 +295,55 @@ fn counts_1_and_minus_1_come_back_when_both_probes_go_first() {
             }
         }
     }
-    assert_eq!(counts, [1, -1]);
+    assert_eq!(counts, [(1, 0), (-1, 0)]);
+}
+
+/// 02, N3: 1 waits for 2 and 3, which both wait for 4 and 5; 2 and 4 have loops. One of 2 and 3 gets
+/// what 5, which waits for nobody, passes on.
+#[test]
+fn second_counts_come_back_once_from_each_process_that_waits_for_nobody() {
+    let mut area = started(5, &[1, 2, 1, 3, 2, 4, 3, 4, 2, 5, 3, 5, 2, 2, 4, 4], 1);
+    for to in [2, 3] {
+        assert_eq!(pick(&mut area, 1, to, 1), Ok(Message::Suc));
+    }
+    for (from, second) in [(3, 1), (2, 0)] {
+        assert_eq!(pick(&mut area, from, 5, 1), Ok(Message::Suc));
+        assert_eq!(pick(&mut area, 5, from, 1), Ok(ack(second, second)));
+        assert_eq!(read_record(&area, from).unwrap().second, second);
+    }
+    assert_eq!(run_on(&mut area, u32::MAX).0, Stopped::Over);
+    assert_second_sums(&area, 5, 1, 1);
+    assert!(!report(&area).unwrap().returned);
+}
+
+/// 02, N3: "The report marks returned if the start's second sum is 0, else held", whatever else an
+/// area holds that no run leaves.
+#[test]
+fn the_mark_goes_by_the_second_sum_alone() {
+    // The start's cs, num and second sum are at 25, 26 and 28.
+    for edition in [1, 2] {
+        let mut area = started_under(edition, 2, &[1, 2], 1);
+        area[26] = 0;
+        for second in -128..=128 {
+            for cs in [-1, 0, 1] {
+                (area[25], area[28]) = (cs, second);
+                let found = report(&area).unwrap();
+                assert_eq!((found.knot, found.returned), (cs == 0, second == 0), "{second}");
+            }
+        }
+    }
+}
+
+/// The least and the most that a run gives: a process that waits for nobody, and one that waits for
+/// 127 such.
+#[test]
+fn second_sums_at_the_most() {
+    let list: Vec<u16> = (2..=128).flat_map(|to| [1, to]).collect();
+    let mut area = started(128, &list, 1);
+    assert_eq!(run_on(&mut area, u32::MAX).0, Stopped::Over);
+    assert_second_sums(&area, 128, 1, 127);
+    let area = started(128, &[], 128);
+    assert_second_sums(&area, 128, 128, 1);
 }
 
 #[test]
@@ -387,6 +463,9 @@ fn start_refuses_in_order_and_touches_only_its_words() {
         ];
         assert_eq!(area, expected);
     }
+    // 02, N3: 2 waits for nobody, and "the start adds its own at once".
+    assert_eq!(start(&bytes, 2, 1, &mut area), Ok(()));
+    assert_eq!(area[24..36], [0, 0, 0, 0, 0, 0, 3, 0, 1, 0, 1, 0]);
 }
 
 /// Some are 1 or 2 to whoever takes a part of their bits.
@@ -430,7 +509,6 @@ fn reachable_is_who_the_arcs_lead_to() {
                 area[25] = sum;
                 let found = report(&area).unwrap();
                 assert_eq!((found.knot, found.outside), (knot && sum == 0, sum), "{list:?}");
-                assert_eq!(found.returned, found.knot);
             }
         }
     }
@@ -457,38 +535,40 @@ fn picks_and_readings_refuse_in_order() {
 }
 
 /// Two processes that wait for each other and have heard from each other, so that every message is
-/// delivered, none broadcasts, and a probe is acknowledged with cs: 5 by process 2, 0 by the start.
-/// Four messages wait on each link. Records are from 28 on, the link from 1 to 2 is at 40, the link
-/// back at 56.
+/// delivered, none broadcasts, and a probe is acknowledged with both sums: 5 and 6 by process 2, 0 and
+/// 0 by the start. Four messages wait on each link. Records are from 28 on, the link from 1 to 2 is at
+/// 40, the link back at 56.
 fn four_on_each_link() -> Vec<i32> {
     let mut area = started(2, &[1, 2, 2, 1], 1);
-    area[28..40].copy_from_slice(&[3, 0, 9, 0, 0, 0, 3, 5, 9, 1, 0, 0]);
-    area[40..44].copy_from_slice(&[256 + 7, 2, 256 - 4, 1]);
-    area[56..60].copy_from_slice(&[1, 256 + 2, 256 - 1, 2]);
+    area[28..40].copy_from_slice(&[3, 0, 9, 0, 20, 0, 3, 5, 9, 1, 6, 0]);
+    area[40..44].copy_from_slice(&[ack_word(7, 3), 2, ack_word(-4, -8), 1]);
+    area[56..60].copy_from_slice(&[1, ack_word(2, -1), ack_word(-1, 4), 2]);
     area
 }
 
-/// A link of `four_on_each_link`: its ends and first word, the receiver's cs and num, and the last
-/// word of the link back with what a probe's acknowledgement puts there.
+/// A link of `four_on_each_link`: its ends and first word, the receiver's record, and the last word of
+/// the link back with what a probe's acknowledgement puts there.
 struct Full {
     from: usize,
     to: usize,
     link: usize,
-    cs: usize,
+    record: usize,
     back: usize,
     acknowledgement: i32,
 }
 
-/// A pick of each place: the message, and the link, cs and num of the receiver afterwards.
-fn takes_at_each_place(full: Full, rows: [(Message, [i32; 4], i32, i32); 4]) {
-    for (place, (message, link, cs, num)) in (1..).zip(rows) {
+/// A pick of each place: the message, and cs, num and the second sum of the receiver afterwards.
+fn takes_at_each_place(full: Full, rows: [(Message, [i32; 3]); 4]) {
+    for (place, (message, [cs, num, second])) in (1..).zip(rows) {
         let mut area = four_on_each_link();
         // Room for the acknowledgement of a probe.
         area[full.back] = 0;
         let mut expected = area.clone();
         expected[2] = 1;
-        expected[full.link..full.link + 4].copy_from_slice(&link);
-        expected[full.cs..full.cs + 2].copy_from_slice(&[cs, num]);
+        expected[full.link + place - 1..full.link + 4].rotate_left(1);
+        expected[full.link + 3] = 0;
+        (expected[full.record + 1], expected[full.record + 2]) = (cs, num);
+        expected[full.record + 4] = second;
         if matches!(message, Message::Suc | Message::Pre) {
             expected[full.back] = full.acknowledgement;
         }
@@ -502,22 +582,22 @@ fn takes_at_each_place(full: Full, rows: [(Message, [i32; 4], i32, i32); 4]) {
 #[test]
 fn a_pick_takes_the_message_at_its_place_and_the_others_keep_their_order() {
     takes_at_each_place(
-        Full { from: 1, to: 2, link: 40, cs: 35, back: 59, acknowledgement: 256 + 5 },
+        Full { from: 1, to: 2, link: 40, record: 34, back: 59, acknowledgement: ack_word(5, 6) },
         [
-            (Message::Ack(7), [2, 252, 1, 0], 12, 8),
-            (Message::Pre, [263, 252, 1, 0], 0, 9),
-            (Message::Ack(-4), [263, 2, 1, 0], 1, 8),
-            (Message::Suc, [263, 2, 252, 0], 0, 9),
+            (ack(7, 3), [12, 8, 9]),
+            (Message::Pre, [0, 9, 0]),
+            (ack(-4, -8), [1, 8, -2]),
+            (Message::Suc, [0, 9, 0]),
         ],
     );
-    // To the start, where an acknowledgement changes cs and num alone.
+    // To the start, where an acknowledgement changes num and the sums alone, and a probe nothing.
     takes_at_each_place(
-        Full { from: 2, to: 1, link: 56, cs: 29, back: 43, acknowledgement: 256 },
+        Full { from: 2, to: 1, link: 56, record: 28, back: 43, acknowledgement: ack_word(0, 0) },
         [
-            (Message::Suc, [258, 255, 2, 0], 0, 9),
-            (Message::Ack(2), [1, 255, 2, 0], 2, 8),
-            (Message::Ack(-1), [1, 258, 2, 0], -1, 8),
-            (Message::Pre, [1, 258, 255, 0], 0, 9),
+            (Message::Suc, [0, 9, 20]),
+            (ack(2, -1), [2, 8, 19]),
+            (ack(-1, 4), [-1, 8, 24]),
+            (Message::Pre, [0, 9, 20]),
         ],
     );
 }
@@ -527,12 +607,13 @@ fn a_pick_takes_the_message_at_its_place_and_the_others_keep_their_order() {
 fn the_last_place_is_the_number_of_messages_waiting() {
     for load in 1..=4 {
         let mut area = four_on_each_link();
-        area[40..44].copy_from_slice(&[256, 257, 258, 259]);
+        area[40..44].copy_from_slice(&[0, 1, 2, 3].map(|count| ack_word(count, -count)));
         area[40 + load..44].fill(0);
         let before = area.clone();
         assert_eq!(pick(&mut area, 1, 2, load + 1), Err(Refusal::NoPlace));
         assert_eq!(area, before);
-        assert_eq!(pick(&mut area, 1, 2, load), Ok(Message::Ack(load as i32 - 1)));
+        let count = load as i32 - 1;
+        assert_eq!(pick(&mut area, 1, 2, load), Ok(ack(count, -count)));
         assert_eq!(waiting(&area, 40), before[40..40 + load - 1]);
     }
 }
@@ -542,11 +623,12 @@ fn the_last_place_is_the_number_of_messages_waiting() {
 fn what_is_sent_on_the_same_link_goes_behind_the_others() {
     let mut area = started(1, &[1, 1], 1);
     let link = 16 + 8 + 4;
-    area[link..link + 4].copy_from_slice(&[256 + 9, 1, 2, 256 + 8]);
+    let (nine, eight, none) = (ack_word(9, 1), ack_word(8, 2), ack_word(0, 0));
+    area[link..link + 4].copy_from_slice(&[nine, 1, 2, eight]);
     assert_eq!(pick(&mut area, 1, 1, 2), Ok(Message::Suc));
-    assert_eq!(waiting(&area, link), [265, 2, 264, 256]);
-    assert_eq!(pick(&mut area, 1, 1, 3), Ok(Message::Ack(8)));
-    assert_eq!(waiting(&area, link), [265, 2, 256]);
+    assert_eq!(waiting(&area, link), [nine, 2, eight, none]);
+    assert_eq!(pick(&mut area, 1, 1, 3), Ok(ack(8, 2)));
+    assert_eq!(waiting(&area, link), [nine, 2, none]);
 }
 
 /// 02, N5: "It refuses a place that is 0 or beyond the messages waiting with 31, after 24." So it
@@ -569,7 +651,7 @@ fn places_are_refused_after_24_and_before_22() {
         // Process 2 expects no acknowledgement.
         let mut stuck = area.clone();
         stuck[36] = 0;
-        stuck[40..40 + load].fill(256);
+        stuck[40..40 + load].fill(ack_word(0, 0));
         for place in outside(load) {
             refused(&area, 1, 2, place, Refusal::NoPlace);
             refused(&last, 1, 2, place, Refusal::NoPlace);
@@ -622,7 +704,7 @@ fn the_program_and_running_on_take_the_oldest() {
     area[59] = 0;
     let mut picked = area.clone();
     assert_eq!(run_on(&mut area, 2), (Stopped::Spent, 2));
-    assert_eq!(pick(&mut picked, 1, 2, 1), Ok(Message::Ack(7)));
+    assert_eq!(pick(&mut picked, 1, 2, 1), Ok(ack(7, 3)));
     assert_eq!(pick(&mut picked, 1, 2, 1), Ok(Message::Pre));
     assert_eq!(area, picked);
 }
@@ -636,7 +718,7 @@ fn every_damaged_word_that_leaves_its_range_is_seen() {
             let mut area = right.clone();
             area[place] = value;
             let damaged = area.clone();
-            let sum = [33, 39].contains(&place);
+            let sum = [33, 36, 39, 42].contains(&place);
             // −1 is a sum's value like any other.
             let expected = if sum && value == -1 { Ok(()) } else { Err(Refusal::Malformed) };
             assert_eq!(read_record(&area, 1).map(|_| ()), expected, "{place} {value}");
@@ -650,6 +732,46 @@ fn every_damaged_word_that_leaves_its_range_is_seen() {
     }
     for length in 0..right.len() {
         assert_eq!(read_record(&right[..length], 1), Err(Refusal::Malformed));
+    }
+}
+
+/// 02, N3: second sums "have cs's range".
+#[test]
+fn second_sums_in_an_area_are_in_range() {
+    let mut area = one_wait();
+    for process in [1, 2] {
+        let place = 24 + 6 * (process - 1) + 4;
+        for second in (-300..300).chain([i32::MIN, i32::MAX]) {
+            area[place] = second;
+            let expected = match second {
+                -128..=128 => Ok(second),
+                _ => Err(Refusal::Malformed),
+            };
+            assert_eq!(read_record(&area, process).map(|record| record.second), expected);
+        }
+        area[place] = 0;
+    }
+}
+
+/// Every word of a message up to past the last one, and some far out.
+#[test]
+fn messages_are_two_probes_and_acknowledgements_with_counts_in_range() {
+    let mut area = one_wait();
+    let counts = -128..=128;
+    let messages = counts.clone().flat_map(|second| {
+        counts.clone().map(move |count| (ack_word(count, second), ack(count, second)))
+    });
+    let probes = [(1, Message::Suc), (2, Message::Pre)];
+    let messages: HashMap<i32, Message> = probes.into_iter().chain(messages).collect();
+    assert_eq!(messages.len(), 2 + 257 * 257);
+    // The start expects so many and has room for the sums.
+    (area[24 + 2], area[36]) = (256, 0);
+    let far = [i32::MIN, -ack_word(0, 0), -256, -2, -1, ack_word(0, 0) + (1 << 18), i32::MAX];
+    for word in (1..=ack_word(300, 300)).chain(far) {
+        let mut words = area.clone();
+        words[44] = word;
+        let expected = messages.get(&word).copied().ok_or(Refusal::Malformed);
+        assert_eq!(pick(&mut words, 2, 1, 1), expected, "{word}");
     }
 }
 
@@ -683,10 +805,10 @@ fn values_out_of_range_are_refused_with_22() {
     last[2] = 2048;
     refused_untouched(&last, 1, 2);
     let mut full = one_wait();
-    full[44..48].fill(256);
+    full[44..48].fill(ack_word(0, 0));
     refused_untouched(&full, 1, 2);
     let mut orphan = one_wait();
-    orphan[36] = 256;
+    orphan[36] = ack_word(0, 0);
     refused_untouched(&orphan, 1, 2);
     orphan[32] = 1;
     refused_untouched(&orphan, 1, 2);
@@ -694,8 +816,17 @@ fn values_out_of_range_are_refused_with_22() {
     wide[31] = 128;
     refused_untouched(&wide, 1, 2);
     let mut start_wide = one_wait();
-    (start_wide[36], start_wide[44], start_wide[25]) = (0, 255, -128);
+    (start_wide[36], start_wide[44], start_wide[25]) = (0, ack_word(-1, 0), -128);
     refused_untouched(&start_wide, 2, 1);
+    // 02, N3: "22 now cover[s] the second sums"; 2 waits for nobody and adds 1 to its own.
+    let mut second = one_wait();
+    second[34] = 128;
+    refused_untouched(&second, 1, 2);
+    for (sum, count) in [(-128, -1), (128, 1), (1, 128)] {
+        let mut second = one_wait();
+        (second[36], second[44], second[28]) = (0, ack_word(0, count), sum);
+        refused_untouched(&second, 2, 1);
+    }
 }
 
 #[test]
@@ -741,12 +872,17 @@ fn the_program_refuses_in_order() {
 /// The rows of which 02, N4 speaks.
 #[test]
 fn the_program_judges_by_the_edition() {
-    let [knot, none] = [
+    // 02, N3: who waits for nobody is held, by the first edition in a knot.
+    let [knot, for_nobody, none] = [
         "verdict knot\noutside 0\nescape 0\nmark returned\n",
+        "verdict knot\noutside 0\nescape 0\nmark held\n",
         "verdict none\noutside 0\nescape 0\nmark held\n",
     ];
-    let rows: [(usize, &[u16], [&str; 2]); 3] =
-        [(1, &[], [knot, none]), (1, &[1, 1], [knot, knot]), (2, &[2, 1], [knot, none])];
+    let rows: [(usize, &[u16], [&str; 2]); 3] = [
+        (1, &[], [for_nobody, none]),
+        (1, &[1, 1], [knot, knot]),
+        (2, &[2, 1], [for_nobody, none]),
+    ];
     for (n, list, ends) in rows {
         for (edition, end) in (1..).zip(ends) {
             let printed = printed(&[&[1, 0, edition, 0], &table(n, list)[..]].concat());
@@ -755,12 +891,23 @@ fn the_program_judges_by_the_edition() {
     }
 }
 
+/// 02, N3: "Waits 1-2, 2-3, 3-2 are marked held, yet payment 1 can never be funded."
+#[test]
+fn who_waits_on_a_knot_is_returned() {
+    let end = "process 1 1 1 0 2 0 0\nprocess 2 1 0 1 0 0 0\nprocess 3 1 0 1 0 0 0\n\
+               over 6\nverdict none\noutside 2\nescape 2\nmark returned\n";
+    for edition in [1, 2] {
+        let printed = printed(&[&[1, 0, edition, 0], &table(3, &[1, 2, 2, 3, 3, 2])[..]].concat());
+        assert!(printed.ends_with(end), "{printed}");
+    }
+}
+
 #[test]
 fn refused_picks_print_their_number_and_the_program_goes_on() {
     let bytes = table(2, &[1, 2]);
     let picks = [2, 0, 1, 0, 9, 0, 1, 0, 1, 0, 2, 0, 2, 0, 1, 0, 2, 0, 1, 0];
-    let expected = "pick 2 1 refused 24\npick 9 1 refused 25\npick 1 2 suc\npick 2 1 ack 1\n\
-                    pick 2 1 refused 23\nprocess 1 1 1 0 1 0\nprocess 2 1 0 1 0 0\n\
+    let expected = "pick 2 1 refused 24\npick 9 1 refused 25\npick 1 2 suc\npick 2 1 ack 1 1\n\
+                    pick 2 1 refused 23\nprocess 1 1 1 0 1 0 1\nprocess 2 1 0 1 0 0 0\n\
                     over 2\nverdict none\noutside 1\nescape 2\nmark held\n";
     assert_eq!(printed(&[&[1, 0, 1, 0], &bytes[..], &picks].concat()), expected);
 }

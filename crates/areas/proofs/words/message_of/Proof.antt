@@ -1,59 +1,47 @@
--- `areas::words::message_of` meets its contract: the word's number picks the probe, and any other word holds 256 more than its count.
+-- `areas::words::message_of` meets its contract: the word's number picks the probe, and any other word holds both counts as numbers.
 -- Assumes nothing.
-use Prim.Native.Nat.{ℕ, _≤_, _<_, _^_}
-use mathlib.Core.Path.{_≡_, sym, _∙_, ap}
+use mathlib.Core.Path.{_≡_, sym, _∙_}
 use native.Mathlib.Omega.{arith}
 use borrow.Author.Needs.{needs}
-use lib.IntN.{ℤ, pos, negsuc, natAbs, _-ℤ_}
-use lib.Dec.{ltb}
-use lib.Signed.{mag}
-use mir.Syntax.{w32}
-use mir.Val.{toZ, ofZ}
-use Rattle.base.specs.ChoiceLaws.{tested}
-use Rattle.base.specs.Checks.{Tested, passed, failed}
-use Rattle.areas.specs.LinkLaws.{messageOf-suc, messageOf-pre, messageOf-ack}
+use lib.IntN.{natAbs}
 use Rattle.steps.proofs.Counts.{signed-back}
+use Rattle.areas.specs.LinkLaws.{messageOf-suc, messageOf-pre, messageOf-ack}
+use Rattle.areas.proofs.Signs.{word-read}
 use Rattle.areas.proofs.words.message_of.Statement.{statement}
 use Rattle.areas.proofs.words.message_of.Tie as tie
 
--- 256 less than a word of 16 bits fits 32
-fits : (z : ℤ) → natAbs z ≤ 65535 → mag (z -ℤ pos 256) < 2 ^ 31
-fits (pos n) h = at (tested (ltb n 256))
-  where
-    at : Tested (ltb n 256) → mag (pos n -ℤ pos 256) < 2 ^ 31
-    at (passed e) = rw e (omega arith)
-    at (failed e) = rw e (omega arith)
-fits (negsuc n) h = omega arith
-
--- the number of the word as it was read back
-numbered : {r n : ℕ} (z : ℤ) → mag z < 2 ^ 31 → r ≡ natAbs (toZ w32 (ofZ w32 z)) → r ≡ n → natAbs z ≡ n
-numbered z h e p = ap natAbs (sym (signed-back z h)) ∙ sym e ∙ p
+-- the number of the word, as it was read back
+numbered : (c : tie.After-number) → c .number .result ≡ natAbs (c .before .args .word)
+numbered c = word-read natAbs (c .before .args .word) (c .before .fits .word .sfits) (c .number .ensures)
 
 returns : tie.Need-returns
-returns c =
-    let start = c .before .before in
-    sym (messageOf-suc (start .args .word) (numbered (start .args .word) (start .fits .word .sfits) (c .before .number .ensures) (c .if1 .taken)))
+returns c = sym (messageOf-suc (c .before .before .args .word) (sym (numbered (c .before)) ∙ c .if1 .taken))
 
 returns-2 : tie.Need-returns-2
 returns-2 c =
-    let start = c .before .before .before .before in
-    sym (messageOf-pre (start .args .word) (numbered (start .args .word) (start .fits .word .sfits) (c .before .number2 .ensures) (c .if2 .taken)))
+    let called = c .before .before in
+    sym (messageOf-pre (called .before .args .word) (sym (numbered called) ∙ c .if2 .taken))
 
-sub-t4 : tie.Need-sub-t4
-sub-t4 c =
-    let start = c .before .before .before .before in
-    let z = start .args .word in
-    rw (signed-back z (start .fits .word .sfits)) (record { sfits = fits z (start .pre) })
+lowered-requires : tie.Need-lowered-requires
+lowered-requires c κs = omega arith
+
+lowered-requires-2 : tie.Need-lowered-requires-2
+lowered-requires-2 c κs = let most = c .before .before .before .number .ok in omega arith
 
 returns-3 : tie.Need-returns-3
 returns-3 c =
-    let start = c .before .before .before .before in
-    let z = start .args .word in
-    let b = signed-back z (start .fits .word .sfits) in
-    rw (b, signed-back (z -ℤ pos 256) (fits z (start .pre)))
+    let else = c .before .before in
+    let called = else .before .before in
+    let first = c .before .lowered in
+    rw (
+      signed-back (first .result) (first .ok),
+      first .ensures,
+      signed-back (c .lowered2 .result) (c .lowered2 .ok),
+      c .lowered2 .ensures,
+      numbered called,
+    )
     (sym
-    (messageOf-ack z (λ e. c .before .before .if1 .left (c .before .before .before .number .ensures ∙ ap natAbs b ∙ e))
-    (λ e. c .if2 .left (c .before .number2 .ensures ∙ ap natAbs b ∙ e))))
+    (messageOf-ack (called .before .args .word) (λ e. else .before .if1 .left (numbered called ∙ e)) (λ e. else .if2 .left (numbered called ∙ e))))
 
 pub message-of-spec : {M : Type 1} → statement M
-message-of-spec = tie.close (tie.spec (λ c κs. search needs) returns (λ c κs. search needs) returns-2 sub-t4 returns-3)
+message-of-spec = tie.close (tie.spec (λ c κs. search needs) returns returns-2 lowered-requires lowered-requires-2 returns-3)

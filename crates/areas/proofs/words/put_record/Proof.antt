@@ -1,7 +1,7 @@
--- `areas::words::put_record` meets its contract: each value is in its range, so that it is itself as a word, and the four stores are one after another.
+-- `areas::words::put_record` meets its contract: each value is in its range, so that it is itself as a word, and the five stores are one after another.
 -- Assumes nothing.
 use native.Mathlib.Nat.{add-zero}
-use native.Mathlib.Numerals.{add-one, add-two, add-three}
+use native.Mathlib.Numerals.{add-one, add-two, add-three, add-four}
 use native.Mathlib.Omega.{arith}
 use borrow.Author.Needs.{needs}
 use lib.ListN.{length-set}
@@ -22,20 +22,23 @@ cast-num c =
 returns : tie.Need-returns
 unfolding recordWords wordsTo
 returns c =
-    let start = c .before .before .before .before in
+    let told = c .before in
+    let start = told .before .before .before .before in
     let x = start .args .x in
     let h = inRange-P x (start .pre .1 .0) in
-    let flags = c .before .before .before .flags-of in
+    let flags = told .before .before .before .flags-of in
     rw (
       signed-back (flags .result) (flags .ok),
       flags .ensures,
       signed-back (x .cs) (omega (arith, mag-abs (x .cs))),
       word-number (x .num) (omega arith),
       word-number (x .father) (omega arith),
+      signed-back (x .second) (omega (arith, mag-abs (x .second))),
       add-zero,
       add-one,
       add-two,
       add-three,
+      add-four,
     )
 
 pub put-record-spec : {M : Type 1} → statement M
@@ -48,6 +51,9 @@ put-record-spec =
     (λ c. search needs)
     (λ c. search needs)
     (λ c. search needs)
+    (λ c. search needs)
+    (λ c. search needs)
+    (λ c. simp length-set (omega arith))
     (λ c. search needs)
     (λ c. search needs)
     (λ c. simp length-set (omega arith))

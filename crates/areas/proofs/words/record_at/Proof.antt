@@ -9,7 +9,7 @@ use lib.ListN.{getD}
 use lib.Signed.{mag}
 use mir.Syntax.{w32}
 use mir.Val.{toZ, ofZ}
-use Rattle.areas.specs.Places.{flagsPlace, csPlace, numPlace, fatherPlace}
+use Rattle.areas.specs.Places.{flagsPlace, csPlace, numPlace, fatherPlace, secondPlace}
 use Rattle.areas.specs.Area.{numberAt}
 use Rattle.steps.proofs.Counts.{signed-back}
 use Rattle.areas.proofs.words.record_at.Statement.{statement}
@@ -21,15 +21,17 @@ numbered w k h e = rw (signed-back (getD w k (pos 0)) h) at e
 
 returns : tie.Need-returns
 returns c =
-    let read = c .before .before .before .before in
+    let last = c .before in
+    let read = last .before .before .before .before in
     let a = read .before .before .before .args in
     let w = a .area .now in
     let k = a .k in
     rw (
       numbered w (k + flagsPlace) (read .before .before .number-arg .given) (read .before .number .ensures),
       signed-back (getD w (k + csPlace) (pos 0)) (read .t7 .given),
-      numbered w (k + numPlace) (c .before .before .before .number-arg2 .given) (c .before .before .number2 .ensures),
-      numbered w (k + fatherPlace) (c .before .number-arg3 .given) (c .number3 .ensures),
+      numbered w (k + numPlace) (last .before .before .before .number-arg2 .given) (last .before .before .number2 .ensures),
+      numbered w (k + fatherPlace) (last .before .number-arg3 .given) (last .number3 .ensures),
+      signed-back (getD w (k + secondPlace) (pos 0)) (c .t27 .given),
     )
 
 pub record-at-spec : {M : Type 1} → statement M
@@ -51,4 +53,7 @@ record-at-spec =
     (λ c. search needs)
     (λ c. search needs)
     (λ c κs. search needs)
+    (λ c. search needs)
+    (λ c. search needs)
+    (λ c. search needs)
     returns)

@@ -5,8 +5,8 @@ use mathlib.Core.Bool.{not, _||_}
 use mathlib.Core.Path.{_≡_, ap}
 use borrow.Author.Needs.{needs}
 use lib.Dec.{leb}
-use lib.IntN.{ℤ}
 use Rattle.base.specs.Sums.{allTo}
+use Rattle.steps.specs.declared.TwoCounts.{TwoCounts}
 use Rattle.steps.specs.declared.Reply.{Reply}
 use Rattle.steps.specs.declared.Reply.the-variants.{To}
 use Rattle.areas.specs.Area.{runIn}
@@ -33,7 +33,7 @@ returns c =
     (λ q. ap (λ (z : Reply). replyGoes z q) (c .enum-told .given .1))
 
 -- the test of whom the acknowledgement is for
-reply-one : (n : ℕ) (v : Reply → ℕ → ℕ) (p : ℕ) (c : ℤ) {z : Reply} → z ≡ To p c → (1 ≤ p) × (p ≤ n) → {l : ℕ} → l ≡ v (To p c) p
+reply-one : (n : ℕ) (v : Reply → ℕ → ℕ) (p : ℕ) (c : TwoCounts) {z : Reply} → z ≡ To p c → (1 ≤ p) × (p ≤ n) → {l : ℕ} → l ≡ v (To p c) p
     → leb l 4 ≡ allTo n (λ q. not (replyGoes z q) || leb (v z q) 4)
 reply-one n v p c e u f = rw (e, f) (test-one n (λ q. leb (v (To p c) q) 4) p (u .0) (u .1))
 

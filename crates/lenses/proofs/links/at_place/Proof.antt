@@ -3,6 +3,7 @@
 use mathlib.Core.Path.{ap, _∙_}
 use mathlib.Core.Logic.{inl, inr}
 use native.Mathlib.Omega.{arith}
+use borrow.Author.Needs.{needs}
 use Rattle.areas.specs.Area.{messageOf, runIn}
 use Rattle.lenses.specs.declared.links.AtPlace.{AtPlace}
 use Rattle.lenses.specs.ReadyLaws.{ready-sizes}
@@ -50,9 +51,6 @@ returns-3 c =
     beyond-here (pre .0) (pre .1 .1) (pre .1 .0 .0) (pre .1 .0 .1) (l .before .place .ensures) (l .link-length .ensures) _ (c .before .before .if1 .left)
     (inr (c .if3 .taken))
 
-message-of-requires : tie.Need-message-of-requires
-message-of-requires c κs = rw (signed-back _ (c .word .given)) (word (c .before) .fits)
-
 returns-4 : tie.Need-returns-4
 returns-4 c =
     let w = c .before in
@@ -71,5 +69,5 @@ at-place-spec =
     (λ c. omega (arith, c .before .if2 .left))
     (λ c. omega (arith, word c .small))
     (λ c. word c .within)
-    message-of-requires
+    (λ c κs. search needs)
     returns-4)

@@ -6,23 +6,22 @@ use mathlib.Core.Path.{_≡_, sym}
 use native.Mathlib.Omega.{arith}
 use borrow.Author.Needs.{needs}
 use lib.Dec.{leb}
-use lib.IntN.{ℤ}
 use Rattle.base.specs.ChoiceLaws.{and-right}
 use Rattle.steps.specs.declared.Message.the-variants.{Ack}
 use Rattle.steps.specs.declared.Reply.{Reply}
 use Rattle.steps.specs.declared.Reply.the-variants.{To}
-use Rattle.steps.specs.Step.{small, countSmall, replyFits}
+use Rattle.steps.specs.declared.TwoCounts.{TwoCounts}
+use Rattle.steps.specs.Step.{bothSmall, countSmall, replyFits}
 use Rattle.areas.specs.AreaLaws.{stored-same}
 use Rattle.lenses.specs.Changes.{answered}
 use Rattle.lenses.specs.ReadyLaws.{ready-sizes}
-use Rattle.steps.proofs.Counts.{signed-back}
 use Rattle.lenses.proofs.sending.acknowledge.Statement.{statement}
 use Rattle.lenses.proofs.sending.acknowledge.Tie as tie
 
--- an acknowledgement that fits has its count in range
-counted : {y : Reply} (p : ℕ) (c : ℤ) → y ≡ To p c → replyFits y ≡ true → countSmall (Ack c) ≡ true
+-- an acknowledgement that fits has its counts in range
+counted : {y : Reply} (p : ℕ) (c : TwoCounts) → y ≡ To p c → replyFits y ≡ true → countSmall (Ack c) ≡ true
 unfolding replyFits countSmall
-counted p c e h = and-right (leb 1 p) (small c) (rw e at h)
+counted p c e h = and-right (leb 1 p) (bothSmall c) (rw e at h)
 
 push-requires : tie.Need-push-requires
 push-requires c κs =
@@ -36,10 +35,7 @@ push-requires c κs =
         (omega arith, omega arith),
         (
           h .1,
-          (
-            rw (signed-back (reply .0 .1 .0) (c .before .known-told .given .1 .0 .1)) (counted (reply .0 .0) (reply .0 .1 .0) (reply .1) (pre .1 .1 .0)),
-            h .2,
-          ),
+          (counted (reply .0 .0) (reply .0 .1 .0) (reply .1) (pre .1 .1 .0), h .2),
         ),
       ),
     )
@@ -54,7 +50,7 @@ returns-2 : tie.Need-returns-2
 unfolding answered
 returns-2 c =
     let reply = c .before .before .before .before .reply .given in
-    rw (reply .1) (rw (signed-back (reply .0 .1 .0) (c .before .before .before .known-told .given .1 .0 .1)) at (c .before .push .ensures))
+    rw (reply .1) (c .before .push .ensures)
 
 pub acknowledge-spec : {M : Type 1} → statement M
 acknowledge-spec =

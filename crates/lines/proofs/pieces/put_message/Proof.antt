@@ -22,11 +22,14 @@ returns-2 c =
 returns-3 : tie.Need-returns-3
 unfolding messageText
 returns-3 c =
-    let d = c .before .before in
-    let w = d .before .before .before .before in
+    let s = c .before .before in
+    let d = s .before .before .before .before .before in
+    let w = d .before .before .before .before .before in
     let e = w .before .before .before .before .message .given in
-    rw (e .1) (w .put-word3 .ensures added-then (rw (signed-back (e .0 .0) (w .before .before .before .known-told .given .0 .1)) at
-    (d .put-count-field .ensures)))
+    rw (e .1)
+    (w .put-word3 .ensures added-then
+    (rw (signed-back (e .0 .0 .count) (d .before .struct-told .given .0 .1)) at (d .put-count-field .ensures)) added-then
+    (rw (signed-back (e .0 .0 .second) (s .before .struct-told2 .given .1 .0 .1)) at (s .put-count-field2 .ensures)))
 
 pub put-message-spec : {M : Type 1} → statement M
 put-message-spec =
@@ -40,6 +43,7 @@ put-message-spec =
     (λ c κs. search needs)
     (λ c. search needs)
     (λ c. search needs)
+    (λ c κs. search needs)
     (λ c κs. search needs)
     (λ c κs. search needs)
     (λ c. search needs)

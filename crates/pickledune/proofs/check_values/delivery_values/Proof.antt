@@ -1,9 +1,8 @@
--- `pickledune::check_values::delivery_values` meets its contract: a delivered message gives its kind and its count. Assumes nothing.
+-- `pickledune::check_values::delivery_values` meets its contract: a delivered message gives its kind and its counts. Assumes nothing.
 use mathlib.Core.Path.{sym, ap, _∙_}
 use borrow.Author.Needs.{needs}
-use Rattle.steps.proofs.Counts.{signed-back}
 use Rattle.checks.specs.Calls.{deliveryNumber}
-use Rattle.pickledune.specs.Values.{deliveryKind, deliveryCount}
+use Rattle.pickledune.specs.Values.{deliveryKind, deliveryCounts}
 use Rattle.pickledune.proofs.check_values.delivery_values.Statement.{statement}
 use Rattle.pickledune.proofs.check_values.delivery_values.Tie as tie
 
@@ -12,8 +11,13 @@ returns c =
     let e = c .before .before .before .answer .given .1 in (
       sym (ap deliveryNumber e),
       c .before .kind-of .ensures ∙ sym (ap deliveryKind e),
-      signed-back (c .carried .result) (c .carried .ok) ∙ c .carried .ensures ∙ sym (ap deliveryCount e),
+      c .carried .ensures ∙ sym (ap deliveryCounts e),
     )
+
+returns-2 : tie.Need-returns-2
+returns-2 c =
+    let e = c .before .before .answer2 .given .1 in
+    (sym (ap deliveryNumber e), sym (ap deliveryKind e), c .no-counts .ensures ∙ sym (ap deliveryCounts e))
 
 pub delivery-values-spec : {M : Type 1} → statement M
 delivery-values-spec =
@@ -23,5 +27,6 @@ delivery-values-spec =
     (λ c κs. search needs)
     (λ c κs. search needs)
     (λ c. search needs)
+    (λ c κs. search needs)
     returns
-    (λ c. search needs))
+    returns-2)

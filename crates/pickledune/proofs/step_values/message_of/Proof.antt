@@ -1,6 +1,5 @@
--- `pickledune::step_values::message_of` meets its contract, by the kind; a count comes back from its bits as it was. Assumes nothing.
+-- `pickledune::step_values::message_of` meets its contract, by the kind. Assumes nothing.
 use borrow.Author.Tests.{ne-eqb}
-use Rattle.steps.proofs.Counts.{signed-back}
 use Rattle.pickledune.specs.Interface.{messageOf}
 use Rattle.pickledune.proofs.step_values.message_of.Statement.{statement}
 use Rattle.pickledune.proofs.step_values.message_of.Tie as tie
@@ -15,7 +14,7 @@ returns-2 c = rw (c .match .keys2)
 
 returns-3 : tie.Need-returns-3
 unfolding messageOf
-returns-3 c = rw (signed-back (c .before .args .count) (c .before .fits .count .sfits), c .match .keys3)
+returns-3 c = rw (c .match .keys3)
 
 returns-4 : tie.Need-returns-4
 unfolding messageOf

@@ -1,10 +1,10 @@
 -- `pickledune::step_values::step_values` meets its contract: what a taken step sends, as numbers. Assumes nothing.
 use mathlib.Core.Path.{sym, ap, _∙_}
 use borrow.Author.Needs.{needs}
-use Rattle.steps.proofs.Counts.{signed-back}
 use Rattle.steps.specs.declared.Stepped.{Stepped}
 use Rattle.pickledune.specs.Values.{steppedNumber, steppedProbes, steppedReply}
-use Rattle.pickledune.specs.Interface.{probesNumber, replyTo, replyCount}
+use Rattle.pickledune.specs.Interface.{probesNumber, replyTo}
+use Rattle.steps.specs.Effect.{replyCounts}
 use Rattle.lending.specs.Lent.{lentRecord}
 use Rattle.pickledune.proofs.step_values.step_values.Statement.{statement}
 use Rattle.pickledune.proofs.step_values.step_values.Tie as tie
@@ -17,12 +17,20 @@ returns c =
       sym (ap (λ (a : Stepped). lentRecord (c .before .before .before .before .before .before .args .lent) a) e),
       c .before .before .probes-number .ensures ∙ sym (ap (λ (a : Stepped). probesNumber (steppedProbes a)) e),
       c .before .reply-to .ensures ∙ sym (ap (λ (a : Stepped). replyTo (steppedReply a)) e),
-      signed-back (c .reply-count .result) (c .reply-count .ok) ∙ c .reply-count .ensures ∙ sym (ap (λ (a : Stepped). replyCount (steppedReply a)) e),
+      c .reply-counts .ensures ∙ sym (ap (λ (a : Stepped). replyCounts (steppedReply a)) e),
     )
 
 returns-2 : tie.Need-returns-2
 unfolding lentRecord
-returns-2 c = search needs
+returns-2 c =
+    let answer = c .before .before in
+    let e = answer .answer2 .given .1 in (
+      sym (ap steppedNumber e),
+      sym (ap (λ (a : Stepped). lentRecord (answer .before .before .args .lent) a) e),
+      sym (ap (λ (a : Stepped). probesNumber (steppedProbes a)) e),
+      sym (ap (λ (a : Stepped). replyTo (steppedReply a)) e),
+      c .no-counts .ensures ∙ sym (ap (λ (a : Stepped). replyCounts (steppedReply a)) e),
+    )
 
 pub step-values-spec : {M : Type 1} → statement M
 step-values-spec =
@@ -33,5 +41,6 @@ step-values-spec =
     (λ c κs. search needs)
     (λ c κs. search needs)
     (λ c. search needs)
+    (λ c κs. search needs)
     returns
     returns-2)

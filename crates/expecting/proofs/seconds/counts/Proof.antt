@@ -1,0 +1,28 @@
+-- `counts` is safe and ends. The measure is the number of words that are left. Assumes nothing.
+use Prim.Native.Nat.{_-_}
+use borrow.Author.Needs.{needs}
+use Rattle.expecting.proofs.seconds.counts.Statement.{statement}
+use Rattle.expecting.proofs.seconds.counts.Tie as tie
+
+abbrev Inv-loop : tie.InvT-loop
+Inv-loop area n m from end all₀ k₀ all k = Unit {0}
+
+abbrev μ-loop : tie.MeasureT-loop
+μ-loop area n m from end all₀ k₀ all k = end - k
+
+pub counts-spec : {M : Type 1} → statement M
+counts-spec =
+    tie.close
+    (tie.spec
+    Inv-loop
+    μ-loop
+    (λ c κs. search needs)
+    (λ c κs. search needs)
+    (λ c. search needs)
+    (λ c κs. search needs)
+    (λ c κs. search needs)
+    (λ c κs. search needs)
+    (λ c. search needs)
+    (λ c. search needs)
+    (λ c. search needs)
+    (λ c. search needs))
