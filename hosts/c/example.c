@@ -117,6 +117,32 @@ static void overtake(void)
     expect(pickledune_run_on(area, words, 2048, &over, &made) == 0 && over == 1 && made == 6, "8 deliveries in any order");
 }
 
+/* What a report gives. */
+struct report {
+    uint32_t deliveries;
+    uint32_t knot;
+    int32_t outside;
+    uint32_t escape;
+    uint32_t returned;
+};
+
+static struct report read_report(const int32_t *area, size_t words)
+{
+    struct report r;
+    expect(pickledune_report(area, words, &r.deliveries, &r.knot, &r.outside, &r.escape, &r.returned) == 0, "the report");
+    return r;
+}
+
+/* A whole check in the lent words, from its start to its report. */
+static struct report check(const uint8_t *table, size_t length, size_t process, size_t edition, int32_t *area, size_t words)
+{
+    uint32_t over;
+    uint32_t made;
+    expect(pickledune_start(table, length, process, edition, area, words) == 0, "a start under either edition");
+    expect(pickledune_run_on(area, words, 2048, &over, &made) == 0 && over == 1, "its end");
+    return read_report(area, words);
+}
+
 /* Editions (02, N4): process 1 waits for nobody, process 2 for itself. By edition 1 both are in a knot, by edition 2 only process 2; the
  * mark is the same by both. */
 static void judge_by_edition(void)
@@ -126,23 +152,14 @@ static void judge_by_edition(void)
     int32_t area[PICKLEDUNE_AREA_WORDS(2, 1)];
     const size_t words = PICKLEDUNE_AREA_WORDS(2, 1);
     size_t length;
-    uint32_t over;
-    uint32_t made;
-    uint32_t deliveries;
-    uint32_t knot;
-    int32_t outside;
-    uint32_t escape;
-    uint32_t returned;
     expect(pickledune_write_table(2, list, 2, table, sizeof table, &length) == 0, "writing a table of one loop");
     expect(pickledune_start(table, length, 1, 3, area, words) == 30, "no edition 3");
     for (size_t process = 1; process <= 2; process++) {
         for (size_t edition = 1; edition <= 2; edition++) {
-            expect(pickledune_start(table, length, process, edition, area, words) == 0, "a start under either edition");
-            expect(pickledune_run_on(area, words, 2048, &over, &made) == 0 && over == 1, "its end");
-            expect(pickledune_report(area, words, &deliveries, &knot, &outside, &escape, &returned) == 0, "its report");
-            expect(knot == (process == 2 || edition == 1), "the verdict by the edition");
-            expect(deliveries == (process == 2 ? 4 : 0) && outside == 0 && escape == 0, "the rest of the report by both");
-            expect(returned == (process == 2), "the mark by both");
+            const struct report r = check(table, length, process, edition, area, words);
+            expect(r.knot == (process == 2 || edition == 1), "the verdict by the edition");
+            expect(r.deliveries == (process == 2 ? 4 : 0) && r.outside == 0 && r.escape == 0, "the rest of the report by both");
+            expect(r.returned == (process == 2), "the mark by both");
         }
     }
 }
@@ -157,40 +174,26 @@ static void wait_for_a_knot(void)
     const size_t words = PICKLEDUNE_AREA_WORDS(3, 3);
     struct pickledune_process start;
     size_t length;
-    uint32_t over;
-    uint32_t made;
-    uint32_t deliveries;
-    uint32_t knot;
-    int32_t outside;
-    uint32_t escape;
-    uint32_t returned;
     expect(pickledune_write_table(3, list, 6, table, sizeof table, &length) == 0, "writing a table of three waits");
-    expect(pickledune_start(table, length, 1, 1, area, words) == 0, "its start");
-    expect(pickledune_run_on(area, words, 2048, &over, &made) == 0 && over == 1 && made == 6, "its end");
+    const struct report r = check(table, length, 1, 1, area, words);
     expect(pickledune_read_process(area, words, 1, &start) == 0 && start.cs == 2 && start.second == 0, "the sums of the start");
-    expect(pickledune_report(area, words, &deliveries, &knot, &outside, &escape, &returned) == 0, "its report");
-    expect(knot == 0 && outside == 2 && escape == 2 && returned == 1, "in no knot, and returned");
+    expect(r.deliveries == 6 && r.knot == 0 && r.outside == 2 && r.escape == 2 && r.returned == 1, "in no knot, and returned");
 }
 
 static void print_report(const int32_t *area)
 {
-    uint32_t deliveries;
-    uint32_t knot;
-    int32_t outside;
-    uint32_t escape;
-    uint32_t returned;
+    const struct report r = read_report(area, WORDS);
     for (size_t p = 1; p <= PROCESSES; p++) {
         struct pickledune_process x;
         expect(pickledune_read_process(area, WORDS, p, &x) == 0, "reading a record");
         printf("process %zu %lu %lu %lu %ld %lu %ld\n", p, (unsigned long)x.succeeding, (unsigned long)x.preceding,
                (unsigned long)x.subordinate, (long)x.cs, (unsigned long)x.num, (long)x.second);
     }
-    expect(pickledune_report(area, WORDS, &deliveries, &knot, &outside, &escape, &returned) == 0, "the report");
-    printf("over %lu\n", (unsigned long)deliveries);
-    printf("verdict %s\n", knot ? "knot" : "none");
-    printf("outside %ld\n", (long)outside);
-    printf("escape %lu\n", (unsigned long)escape);
-    printf("mark %s\n", returned ? "returned" : "held");
+    printf("over %lu\n", (unsigned long)r.deliveries);
+    printf("verdict %s\n", r.knot ? "knot" : "none");
+    printf("outside %ld\n", (long)r.outside);
+    printf("escape %lu\n", (unsigned long)r.escape);
+    printf("mark %s\n", r.returned ? "returned" : "held");
 }
 
 int main(void)

@@ -55,9 +55,9 @@ linkOf t a b = choose (eqb (arcOf t a b) 0) (linkPlace t (arcOf t b a) + linkSiz
 
 -- ---- what the words hold
 
--- the word that says which check an area belongs to
+-- the word that says which check an area belongs to. 1 was the knot check before second sums (02, N3): such an area has counted none, and gets 21
 abbrev pub knotCheck : ℤ
-knotCheck = pos 1
+knotCheck = pos 2
 
 -- the words before the table: which check, the start, the accepted deliveries, the edition; the others are kept free and hold 0
 abbrev pub headWord : Run → ℕ → ℤ

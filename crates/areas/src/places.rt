@@ -7,7 +7,7 @@ ghost use Rattle.areas.specs.Places.{fieldPlace, recordStart, linkStart,
 // The words before the table that are in use: which check, the start, the accepted deliveries, the edition.
 pub const CHECK: usize = 0;
 
-pub const KNOT_CHECK: i32 = 1;
+pub const KNOT_CHECK: i32 = 2; // 1 in areas from before second sums (02, N3)
 
 pub const START: usize = 1;
 

@@ -693,43 +693,23 @@ ranges-in-words :
     (readAnswer (set (area (receiving idle Suc)) 32 (pos 257)) 0 ≡ Reading.Refused 21) ×
     (readAnswer (set (area (receiving idle Suc)) 32 (minus 1)) 0 ≡ Reading.Refused 21) ×
     (readAnswer (set (area (receiving idle Suc)) 33 (pos 1)) 0 ≡ Reading.Refused 25) ×  -- father of 2
-    (readAnswer (set (area (receiving idle Suc)) 33 (pos 2)) 0 ≡ Reading.Refused 21) ×
-    (readAnswer (set (area (receiving idle Suc)) 34 (pos 128)) 0 ≡ Reading.Refused 25) ×  -- the second sum of 2 (02, N3)
+    (readAnswer (set (area (receiving idle Suc)) 33 (pos 2)) 0 ≡ Reading.Refused 21)
+unfolding computing
+ranges-in-words = (refl, refl, refl, refl, refl, refl, refl, refl, refl, refl, refl, refl, refl, refl, refl, refl, refl, refl, refl, refl, refl)
+
+-- 02, N3: the second sum of 2 in words; which check an area is of, where 1 was the knot check before second sums
+seconds-in-words :
+    (readAnswer (set (area (receiving idle Suc)) 34 (pos 128)) 0 ≡ Reading.Refused 25) ×
     (readAnswer (set (area (receiving idle Suc)) 34 (pos 129)) 0 ≡ Reading.Refused 21) ×
     (readAnswer (set (area (receiving idle Suc)) 34 (minus 128)) 0 ≡ Reading.Refused 25) ×
     (readAnswer (set (area (receiving idle Suc)) 34 (minus 129)) 0 ≡ Reading.Refused 21) ×
     (readAnswer (set (area (receiving idle Suc)) 35 (pos 1)) 0 ≡ Reading.Refused 21) ×  -- a free word
-    (readAnswer (set (area (receiving idle Suc)) 34 (minus 5)) 2 ≡ Found (processOf 0 0 0 (pos 0) 0 0 (minus 5)))
+    (readAnswer (set (area (receiving idle Suc)) 34 (minus 5)) 2 ≡ Found (processOf 0 0 0 (pos 0) 0 0 (minus 5))) ×
+    (readAnswer (set (area (receiving idle Suc)) 0 (pos 1)) 0 ≡ Reading.Refused 21) ×
+    (readAnswer (set (area (receiving idle Suc)) 0 (pos 2)) 0 ≡ Reading.Refused 25) ×
+    (readAnswer (set (area (receiving idle Suc)) 0 (pos 3)) 0 ≡ Reading.Refused 21)
 unfolding computing
-ranges-in-words = (
-  refl,
-  refl,
-  refl,
-  refl,
-  refl,
-  refl,
-  refl,
-  refl,
-  refl,
-  refl,
-  refl,
-  refl,
-  refl,
-  refl,
-  refl,
-  refl,
-  refl,
-  refl,
-  refl,
-  refl,
-  refl,
-  refl,
-  refl,
-  refl,
-  refl,
-  refl,
-  refl,
-)
+seconds-in-words = (refl, refl, refl, refl, refl, refl, refl, refl, refl)
 
 -- "the edition, 1 or 2": "In an area it gives 21" (02, N4); its word is the fourth
 edition-ranges :

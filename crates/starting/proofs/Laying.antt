@@ -19,7 +19,8 @@ use Rattle.tables.specs.Table.{Fields}
 use Rattle.steps.specs.Step.{idle}
 use Rattle.areas.specs.Places.{startPlace, editionPlace, headSize, fieldPlace}
 use Rattle.areas.specs.Used.{checkPlace}
-use Rattle.areas.specs.Area.{fieldTotalOf, recordPlace, linkPlace, headWord, flagsOf, recordWord, slotWord, linkWord, arcWord, wordOf, stored, areaOf}
+use Rattle.areas.specs.Area.{fieldTotalOf, recordPlace, linkPlace, knotCheck, headWord, flagsOf, recordWord, slotWord, linkWord, arcWord, wordOf, stored}
+use Rattle.areas.specs.Area.{areaOf}
 use Rattle.areas.specs.StoredLaws.{stored-of}
 use Rattle.areas.specs.WordLaws.{wordOf-head, wordOf-field, wordOf-record, wordOf-arc, place?}
 use Rattle.areas.specs.Regions.{Place, in-head, in-table, in-record, in-links}
@@ -102,7 +103,7 @@ module _ (t : Fields) (s ed : ℕ) where
 
   module _ (w a b : List ℤ) (long : areaOf t ≤ length w) (cleared : Cleared w (areaOf t) a) (copied : Copied t a (fieldTotalOf t) b) where
     one : List ℤ
-    one = set b checkPlace (pos 1)
+    one = set b checkPlace knotCheck
 
     two : List ℤ
     two = set one startPlace (pos s)
@@ -116,7 +117,7 @@ module _ (t : Fields) (s ed : ℕ) where
     unnamed k c d e =
         getD-set-other two editionPlace k (pos ed) (pos 0) e
         ∙ getD-set-other one startPlace k (pos s) (pos 0) d
-        ∙ getD-set-other b checkPlace k (pos 1) (pos 0) c
+        ∙ getD-set-other b checkPlace k knotCheck (pos 0) c
 
     others : (k : ℕ) → 4 ≤ k → getD laid k (pos 0) ≡ getD b k (pos 0)
     others k h = unnamed k (λ e. omega arith) (λ e. omega arith) (λ e. omega arith)
@@ -126,7 +127,7 @@ module _ (t : Fields) (s ed : ℕ) where
 
     long-one : length one ≡ length w
     unfolding one
-    long-one = length-set b checkPlace (pos 1) ∙ long-b
+    long-one = length-set b checkPlace knotCheck ∙ long-b
 
     long-two : length two ≡ length w
     unfolding two
@@ -145,7 +146,7 @@ module _ (t : Fields) (s ed : ℕ) where
     head zero h =
         getD-set-other two editionPlace checkPlace (pos ed) (pos 0) (λ e. omega arith)
         ∙ getD-set-other one startPlace checkPlace (pos s) (pos 0) (λ e. omega arith)
-        ∙ getD-set-same b checkPlace (pos 1) (pos 0) (omega (arith, long-b))
+        ∙ getD-set-same b checkPlace knotCheck (pos 0) (omega (arith, long-b))
     head (suc zero) h =
         getD-set-other two editionPlace startPlace (pos ed) (pos 0) (λ e. omega arith)
         ∙ getD-set-same one startPlace (pos s) (pos 0) (omega (arith, long-one))
@@ -171,7 +172,7 @@ module _ (t : Fields) (s ed : ℕ) where
         ∙ sym (wordOf-arc t (quiet t s ed) x j l v)
         ∙ ap (wordOf t (quiet t s ed)) (sym e)
 
-    pub quiet-laid : set (set (set b checkPlace (pos 1)) startPlace (pos s)) editionPlace (pos ed) ≡ stored t (quiet t s ed) w
+    pub quiet-laid : set (set (set b checkPlace knotCheck) startPlace (pos s)) editionPlace (pos ed) ≡ stored t (quiet t s ed) w
     unfolding laid two one
     quiet-laid =
         stored-of t (quiet t s ed) w laid (pos 0) long same-long (λ k h. word k h (place? t k h))

@@ -3,10 +3,10 @@
 --   start-forgets   == .. and so is the start's
 -- Assumes nothing.
 use Prim.Native.Nat.{ℕ}
+use mathlib.Core.Bool.{Bool, true, false}
 use mathlib.Core.Path.{_≡_, refl, ap, _∙_}
 use lib.Dec.{eqb}
-use Rattle.base.specs.ChoiceLaws.{tested}
-use Rattle.base.specs.Checks.{Tested, passed, failed}
+use Rattle.base.specs.Choice.{choose}
 use Rattle.steps.specs.declared.Message.{Message}
 use Rattle.steps.specs.declared.Message.the-variants.{Suc, Pre, Ack}
 use Rattle.steps.specs.declared.Process.{Process}
@@ -17,30 +17,23 @@ use Rattle.steps.specs.Paper.{plainMessage, plainProcess, plainTurn}
 
 -- ---- rule by rule
 
+-- each rule chooses by a test in which no second number stands
+chosen : (b : Bool) (t u : Turn) → plainTurn (choose b t u) ≡ choose b (plainTurn t) (plainTurn u)
+chosen true t u = refl
+chosen false t u = refl
+
 rule1-forgets : (p : ℕ) (x : Process) → plainTurn (rule1 p x) ≡ paperRule1 p (plainProcess x)
 unfolding rule1 paperRule1
-rule1-forgets p x = at (tested (eqb (x .num) 0))
-  where
-    at : Tested (eqb (x .num) 0) → plainTurn (rule1 p x) ≡ paperRule1 p (plainProcess x)
-    at (passed f) = rw f
-    at (failed f) = rw f
+rule1-forgets p x = chosen (eqb (x .num) 0) _ _
 
 module _ (t : Turn) where
   succeeding-forgets : (o : ℕ) → plainTurn (setSucceeding o t) ≡ paperSucceeding o (plainTurn t)
   unfolding setSucceeding paperSucceeding
-  succeeding-forgets o = at (tested (eqb (t .process .succeeding) 0))
-    where
-      at : Tested (eqb (t .process .succeeding) 0) → plainTurn (setSucceeding o t) ≡ paperSucceeding o (plainTurn t)
-      at (passed f) = rw f
-      at (failed f) = rw f
+  succeeding-forgets o = chosen (eqb (t .process .succeeding) 0) _ _
 
   preceding-forgets : (i : ℕ) → plainTurn (setPreceding i t) ≡ paperPreceding i (plainTurn t)
   unfolding setPreceding paperPreceding
-  preceding-forgets i = at (tested (eqb (t .process .preceding) 0))
-    where
-      at : Tested (eqb (t .process .preceding) 0) → plainTurn (setPreceding i t) ≡ paperPreceding i (plainTurn t)
-      at (passed f) = rw f
-      at (failed f) = rw f
+  preceding-forgets i = chosen (eqb (t .process .preceding) 0) _ _
 
   rule3-forgets : plainTurn (rule3 t) ≡ paperRule3 (plainTurn t)
   unfolding rule3 paperRule3 newSubordinate gained
@@ -48,11 +41,7 @@ module _ (t : Turn) where
 
   rule4-forgets : plainTurn (rule4 t) ≡ paperRule4 (plainTurn t)
   unfolding rule4 paperRule4
-  rule4-forgets = at (tested (eqb (t .process .num) 0))
-    where
-      at : Tested (eqb (t .process .num) 0) → plainTurn (rule4 t) ≡ paperRule4 (plainTurn t)
-      at (passed f) = rw f
-      at (failed f) = rw f
+  rule4-forgets = chosen (eqb (t .process .num) 0) _ _
 
 acknowledged-forgets : (c : TwoCounts) (x : Process) → plainTurn (acknowledged c x) ≡ paperAcknowledged (c .count) (plainProcess x)
 unfolding acknowledged paperAcknowledged

@@ -4,8 +4,8 @@
 use crate::driver::{Call, Driver, Lent, Outcome};
 use crate::graphs::{Graph, Scale, WaysOut, MOST_ARCS, MOST_PROCESSES};
 use crate::layout::{
-    ack_word, draw_area, draw_count, draw_num, links, record_place, Link, EDITION, MOST_WAITING,
-    SECOND,
+    ack_word, draw_area, draw_count, draw_num, links, record_place, Link, EDITION, KNOT_CHECK,
+    MOST_WAITING, SECOND,
 };
 use crate::rng::Rng;
 use calls::{Calls, LentRecord, Received};
@@ -848,7 +848,7 @@ fn any_words<L: Calls>(driver: &mut Driver<L>, rng: &mut Rng, least: u64) -> Out
             // A heading that is right as far as it goes.
             n = rng.within(1, 4);
             lent.area[..14].fill(0);
-            (lent.area[0], lent.area[1]) = (1, 1);
+            (lent.area[0], lent.area[1]) = (KNOT_CHECK, 1);
             lent.area[EDITION] = rng.within(1, 2) as i32;
             (lent.area[14], lent.area[15]) = (n as i32, rng.below(3) as i32);
         }

@@ -6,6 +6,8 @@ use crate::rng::Rng;
 
 /// The word that names the edition.
 pub const EDITION: usize = 3;
+/// Word 0 of an area of the knot check (docs/LAYOUT.md).
+pub const KNOT_CHECK: i32 = 2;
 const HEADING: usize = 14;
 
 /// The most messages on a link.
@@ -66,7 +68,7 @@ pub fn links(graph: &Graph) -> Vec<Link> {
 pub fn draw_area(rng: &mut Rng, graph: &Graph, table: &[u8], links: &[Link]) -> Vec<i32> {
     let mut area = vec![0; graph.words_needed()];
     let start = rng.within(1, graph.n);
-    area[0] = 1;
+    area[0] = KNOT_CHECK;
     area[1] = start as i32;
     area[2] = match rng.below(8) {
         0 => 2048,

@@ -4,8 +4,8 @@ use crate::steps::{is_small, Counts, Message, Record};
 use crate::tables::{check, Sizes, Table, Waits, Words};
 use crate::{Refusal, MOST_DELIVERIES};
 
-/// Word 0 of an area of the knot check.
-pub(crate) const KNOT_CHECK: i32 = 1;
+/// Word 0 of an area of the knot check with second sums (02, N3); it was 1 before these.
+pub(crate) const KNOT_CHECK: i32 = 2;
 pub(crate) const CHECK: usize = 0;
 pub(crate) const START: usize = 1;
 pub(crate) const DELIVERIES: usize = 2;

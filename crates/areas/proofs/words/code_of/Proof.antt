@@ -2,7 +2,7 @@
 -- Assumes nothing.
 use Prim.Native.Nat.{ℕ, _≤_}
 use mathlib.Core.Bool.{true}
-use mathlib.Core.Path.{_≡_}
+use mathlib.Core.Path.{_≡_, ap, _∙_}
 use native.Mathlib.Omega.{arith}
 use borrow.Author.Needs.{needs}
 use Rattle.steps.specs.declared.Message.{Message}
@@ -30,13 +30,13 @@ lifted-requires : tie.Need-lifted-requires
 lifted-requires c κs =
     let m = c .before .before in
     let z = m .message .given .0 .0 in
-    rw (signed-back (z .count) (small-fits (z .count) (ranges m .0))) (ranges m .0)
+    ap small (signed-back (z .count) (small-fits (z .count) (ranges m .0))) ∙ ranges m .0
 
 lifted-requires-2 : tie.Need-lifted-requires-2
 lifted-requires-2 c κs =
     let m = c .before .before .before .before in
     let z = m .message .given .0 .0 in
-    rw (signed-back (z .second) (small-fits (z .second) (ranges m .1))) (ranges m .1)
+    ap small (signed-back (z .second) (small-fits (z .second) (ranges m .1))) ∙ ranges m .1
 
 -- what the two calls gave
 record Lifted (z : TwoCounts) (a b : ℕ) : Type 0 where
