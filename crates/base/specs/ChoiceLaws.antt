@@ -1,13 +1,14 @@
 -- Laws of tests and of choice by a test.
 --   tested b, same? m n, below? m n   == Tested, Same and Below (Checks), computed
 --   bit-≤1, bit-some, bit-same, bit-apart, bit-test   == a bit is at most 1; which tests have 1 and which 0
+--   none-test             == a test that says whether a number is above 0, by whether it is 0
 --   value-not, value-yes  == what a branch on a negated test says, where a callee's promise gives the test's value
 --   and-left, and-right, and-both, and-three, and-four, or-cases, or-left, or-right, or-none   == both of two tests, or one of them
 -- Assumes nothing.
-use Prim.Native.Nat.{ℕ, _≤_}
+use Prim.Native.Nat.{ℕ, zero, suc, _≤_}
 use mathlib.Core.Bool.{Bool, true, false, not, _&&_, _||_, false≢true}
 use mathlib.Core.Path.{_≡_, refl, sym, ap, _∙_}
-use mathlib.Core.Logic.{_⊎_, inl, inr}
+use mathlib.Core.Logic.{_⊎_, inl, inr, _↔_}
 use lib.Dec.{eqb, ltb}
 use borrow.Author.Tests.{eqb-true, eqb-false, ltb-true, ltb-false, eq-eqb, ne-eqb, not-true, not-false}
 use native.Mathlib.Omega.{arith}
@@ -25,6 +26,11 @@ bit-some false h = absurd (omega arith)
 pub bit-test : (b : Bool) → eqb (bit b) 1 ≡ b
 bit-test true = refl
 bit-test false = refl
+
+pub none-test : (d : ℕ) (b : Bool) → (b ≡ true) ↔ (1 ≤ d) → eqb d 0 ≡ not b
+none-test d true h = ne-eqb d 0 (λ e. absurd (omega (arith, h .0 refl)))
+none-test zero false h = refl
+none-test (suc d) false h = absurd (false≢true (h .1 (omega arith)))
 
 pub bit-same : (x k : ℕ) → x ≡ k → bit (eqb x k) ≡ 1
 bit-same x k e = ap bit (eq-eqb x k e)

@@ -4,7 +4,7 @@
 --   reaches-trans       == paths join
 --   reaches-P           == the test and the relation agree; so with reachesByArcs-P, someByArcs-P, allReachBack-P, inKnot-P, outsider-P,
 --                          outsiders-P, lowestOutsider-P, waitsForSome-P, allWait-P, sinks-P, each named after its test
---   waitsForSome-degree, waitsForSome-own   == who waits for somebody has successors, and no count of his own (02, N3)
+--   waitsForSome-degree, waitsForSome-own   == who waits for somebody has successors, and who waits for nobody adds 1 (02, N3)
 --   someByArcs-waits    == some process is reachable by one arc or more exactly if the start waits for somebody
 --   reaches-in          == whoever is reached from a process is a process
 -- Assumes nothing.
@@ -16,7 +16,7 @@ use native.Mathlib.Omega.{arith}
 use borrow.Author.Tests.{eqb-true, eq-eqb, not-true}
 use lib.Dec.{eqb}
 use Rattle.base.specs.Choice.{bit}
-use Rattle.base.specs.ChoiceLaws.{bit-≤1, bit-some, tested, same?, and-left, and-right, and-both, or-cases, or-left, or-right}
+use Rattle.base.specs.ChoiceLaws.{bit-≤1, bit-some, none-test, tested, same?, and-left, and-right, and-both, or-cases, or-left, or-right}
 use Rattle.base.specs.Checks.{Tested, passed, failed, Same, same, apart}
 use Rattle.base.specs.Sums.{sumTo, countTo, allTo, anyTo, spot, HowMany, Lowest}
 use Rattle.base.specs.SumLaws.{spot-at, spot-off, sumTo-add, sumTo-le, sumTo-part, sumTo-spot, sumTo-most, allTo-at, allTo-of, anyTo-of}
@@ -210,13 +210,7 @@ waitsForSome-degree w p = (
 -- 02, N3: who waits for nobody adds 1
 pub waitsForSome-own : (w : Waits) (p : ℕ) → ownCount (outDegree w p) ≡ bit (not (waitsForSome w p))
 unfolding ownCount
-waitsForSome-own w p = at (tested (waitsForSome w p)) (same? (outDegree w p) 0)
-  where
-    at : Tested (waitsForSome w p) → Same (outDegree w p) 0 → bit (eqb (outDegree w p) 0) ≡ bit (not (waitsForSome w p))
-    at (passed e) (same z f) = absurd (omega (arith, waitsForSome-degree w p .0 e, z))
-    at (passed e) (apart z f) = rw (e, f)
-    at (failed e) (same z f) = rw (e, f)
-    at (failed e) (apart z f) = absurd (false≢true (sym e ∙ waitsForSome-degree w p .1 (omega arith)))
+waitsForSome-own w p = ap bit (none-test (outDegree w p) (waitsForSome w p) (waitsForSome-degree w p))
 
 module _ (w : Waits) (ok : Sound w) (s : ℕ) (sIn : IsProcess (w .n) s) where
   -- whoever is reached from a process is a process

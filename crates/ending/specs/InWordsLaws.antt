@@ -35,14 +35,16 @@ bit-P : (x : ℕ) (b : Bool) {P : Type 0} → x ≡ bit b → (b ≡ true) ↔ P
 bit-P x true e h = (λ _. h .0 refl, λ _. e)
 bit-P x false e h = (λ z. absurd (omega (arith, sym e ∙ z)), λ p. e ∙ ap bit (h .1 p))
 
--- the verdict, and the mark, exactly by the test
-verdict-P : (b : Bool) {P : Type 0} → (b ≡ true) ↔ P → (choose b Knot Free ≡ Knot) ↔ P
-verdict-P true h = (λ _. h .0 refl, λ _. refl)
-verdict-P false h = (λ e. let z : _≡_ {A = ℕ} 0 1 = cc in absurd (omega arith), λ p. ap (λ (c : Bool). choose c Knot Free) (h .1 p))
+-- of two values that are not the same, the first exactly by the test
+chosen-P : {A : Type 0} (x y : A) → (y ≡ x → ⊥) → (b : Bool) {P : Type 0} → (b ≡ true) ↔ P → (choose b x y ≡ x) ↔ P
+chosen-P x y n true h = (λ _. h .0 refl, λ _. refl)
+chosen-P x y n false h = (λ e. absurd (n e), λ p. ap (λ (c : Bool). choose c x y) (h .1 p))
 
-mark-P : (b : Bool) {P : Type 0} → (b ≡ true) ↔ P → (choose b Returned Held ≡ Returned) ↔ P
-mark-P true h = (λ _. h .0 refl, λ _. refl)
-mark-P false h = (λ e. let z : _≡_ {A = ℕ} 0 1 = cc in absurd (omega arith), λ p. ap (λ (c : Bool). choose c Returned Held) (h .1 p))
+free-knot : Free ≡ Knot → ⊥
+free-knot e = let z : _≡_ {A = ℕ} 0 1 = cc in omega arith
+
+held-returned : Held ≡ Returned → ⊥
+held-returned e = let z : _≡_ {A = ℕ} 0 1 = cc in omega arith
 
 module _ (t : Fields) (right : Right t) (s : ℕ) (i : IsProcess (nOf t) s) where
   ok : Sound (waitsOf t)
@@ -79,8 +81,8 @@ module _ (t : Fields) (right : Right t) (s : ℕ) (i : IsProcess (nOf t) s) wher
         escape = lowestOutsider (waitsOf t) s;
         escape-is = lowestOutsider-P (waitsOf t) ok s i;
         reports = rw (dOf-P .2) at (h .reports);
-        knot = verdict-P (inKnot (waitsOf t) s ed) (inKnot-P (waitsOf t) ok s i ed);
-        returned = mark-P (allWait (waitsOf t) s) (allWait-P (waitsOf t) ok s i);
+        knot = chosen-P Knot Free free-knot (inKnot (waitsOf t) s ed) (inKnot-P (waitsOf t) ok s i ed);
+        returned = chosen-P Returned Held held-returned (allWait (waitsOf t) s) (allWait-P (waitsOf t) ok s i);
         sinks = sinks (waitsOf t) s;
         sinks-is = sinks-P (waitsOf t) ok s i;
         start-second = h .second s i ∙ own;

@@ -71,19 +71,19 @@ agree-P true false h = sym h
 agree-P false true h = h
 agree-P false false h = refl
 
-verdict-P : (v : Verdict) (b : Bool) → agree (isKnot v) b ≡ true → v ≡ choose b Knot Free
-unfolding agree isKnot
-verdict-P Knot true h = refl
-verdict-P Knot false h = absurd (false≢true h)
-verdict-P Free true h = absurd (false≢true h)
-verdict-P Free false h = refl
+-- of two values, the one that a test names
+agreed : {A : Type 0} (x y : A) (t : A → Bool) → ((v : A) → v ≡ choose (t v) x y) → (v : A) (b : Bool) → agree (t v) b ≡ true → v ≡ choose b x y
+agreed x y t h v b e = h v ∙ ap (λ (c : Bool). choose c x y) (agree-P (t v) b e)
 
-mark-P : (m : Mark) (b : Bool) → agree (isReturned m) b ≡ true → m ≡ choose b Returned Held
-unfolding agree isReturned
-mark-P Returned true h = refl
-mark-P Returned false h = absurd (false≢true h)
-mark-P Held true h = absurd (false≢true h)
-mark-P Held false h = refl
+verdict-is : (v : Verdict) → v ≡ choose (isKnot v) Knot Free
+unfolding isKnot
+verdict-is Knot = refl
+verdict-is Free = refl
+
+mark-is : (m : Mark) → m ≡ choose (isReturned m) Returned Held
+unfolding isReturned
+mark-is Returned = refl
+mark-is Held = refl
 
 isAt-P : (z : ℤ) (k : ℕ) → isAt z k ≡ true → z ≡ pos k
 unfolding isAt
@@ -122,10 +122,10 @@ reports-P ed x r h = at (tested (wellFormed r)) (tested (over r))
         let t = and-four (eqb (r .count) (x .d)) (agree (isKnot (verdictOf r)) (knotUnder ed x)) (isAt cs (x .outside)) escape f in
         cc (
           eqb-true (r .count) (x .d) (t .0),
-          verdict-P (verdictOf r) (knotUnder ed x) (t .1),
+          agreed Knot Free isKnot verdict-is (verdictOf r) (knotUnder ed x) (t .1),
           isAt-P cs (x .outside) (t .2),
           eqb-true (escapeOf r) (lowestOutsider (waitsFrom x) 1) (t .3),
-          mark-P marked (x .returned) m,
+          agreed Returned Held isReturned mark-is marked (x .returned) m,
         )
 
     at : Tested (wellFormed r) → Tested (over r)

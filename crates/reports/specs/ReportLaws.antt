@@ -5,16 +5,14 @@
 --   report-told                  == the report at the end, made of the start's record, the verdict, the count and the escape
 -- Assumes nothing.
 use Prim.Native.Nat.{ℕ, zero, suc, _+_, _-_, _≤_}
-use mathlib.Core.Bool.{Bool, true, not, false≢true}
-use mathlib.Core.Logic.{_↔_}
+use mathlib.Core.Bool.{Bool, true, false, not}
 use mathlib.Core.List.{List}
 use mathlib.Core.Path.{_≡_, refl, sym, ap, _∙_}
 use native.Mathlib.Omega.{arith}
 use borrow.Author.Tests.{eq-eqb, ne-eqb}
 use lib.Dec.{eqb}
 use lib.IntN.{ℤ}
-use Rattle.base.specs.ChoiceLaws.{tested, same?}
-use Rattle.base.specs.Checks.{Tested, passed, failed, Same, same, apart}
+use Rattle.base.specs.ChoiceLaws.{none-test}
 use Rattle.base.specs.PrefixLaws.{lowestTo-none, lowestTo-more}
 use Rattle.tables.specs.Table.{IsProcess}
 use Rattle.tables.specs.Sound.{Sound}
@@ -70,16 +68,13 @@ allowed-first r h = rw (ne-eqb (r .edition) 2 h)
 pub allowed-second : (r : Run) → Sound (r .waits) → IsProcess (r .waits .n) (r .start) → (d : ℕ) → r .edition ≡ 2 → d ≡ outDegree (r .waits) (r .start)
     → not (eqb d 0) ≡ allowedIn r
 unfolding editionAllows
-allowed-second r ok i d two is = rw (eq-eqb (r .edition) 2 two) (at (tested (someByArcs (r .waits) (r .start))) (same? d 0))
+allowed-second r ok i d two is =
+    let none = none-test (outDegree (r .waits) (r .start)) (someByArcs (r .waits) (r .start)) (someByArcs-waits (r .waits) ok (r .start) i) in
+    rw (eq-eqb (r .edition) 2 two, is, none) (not-not (someByArcs (r .waits) (r .start)))
   where
-    waits : (someByArcs (r .waits) (r .start) ≡ true) ↔ (1 ≤ outDegree (r .waits) (r .start))
-    waits = someByArcs-waits (r .waits) ok (r .start) i
-
-    at : Tested (someByArcs (r .waits) (r .start)) → Same d 0 → not (eqb d 0) ≡ someByArcs (r .waits) (r .start)
-    at (passed e) (same z f) = absurd (omega (arith, waits .0 e, is, z))
-    at (passed e) (apart z f) = rw (e, f)
-    at (failed e) (same z f) = rw (e, f)
-    at (failed e) (apart z f) = absurd (false≢true (sym e ∙ waits .1 (omega arith)))
+    not-not : (b : Bool) → not (not b) ≡ b
+    not-not true = refl
+    not-not false = refl
 
 -- ---- the report at the end
 

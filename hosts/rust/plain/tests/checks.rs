@@ -455,7 +455,7 @@ fn start_refuses_in_order_and_touches_only_its_words() {
     for edition in [1, 2] {
         assert_eq!(start(&bytes, 1, edition as usize, &mut area), Ok(()));
         let expected = [
-            1, 1, 0, edition, 0, 0, 0, 0, 0, 0, 0, 0, 0, 0, // heading
+            2, 1, 0, edition, 0, 0, 0, 0, 0, 0, 0, 0, 0, 0, // heading
             2, 1, 1, 0, 0, 1, 1, 2, 0, 0, // table
             3, 0, 1, 0, 0, 0, 0, 0, 0, 0, 0, 0, // records
             1, 0, 0, 0, 0, 0, 0, 0, 0, 0, 0, 0, 0, 0, 0, 0, // links
