@@ -34,11 +34,11 @@ use Rattle.checks.specs.Calls.{escapeOf, isZero, verdictOf, markOf, reported, r
 use Rattle.checks.specs.Reach.{allReachBack, inKnot, outsider, outsiders, lowestOutsider, allWait, sinks, dOf}
 use Rattle.checks.specs.Lists.{atStart, Ended, Promise}
 use Rattle.checks.specs.Lists
-use Rattle.ending.specs.Weights.{Tally, subordinates, waitless, sumIn, worthOf}
+use Rattle.ending.specs.Weights.{Tally, subordinates, waitless, sumIn, worthOf, Few}
 use Rattle.ending.specs.Invariants.{Summed, Holds}
 use Rattle.ending.specs.CountingLaws.{link-short}
 use Rattle.ending.specs.SpreadEndLaws.{sends-most, succ-end, prec-end, sub-end, sends-end, outsiders-sum, sinks-sum, knot-end, wait-end}
-use Rattle.ending.specs.SumBoundLaws.{Few, subordinates-few, waitless-few, sum-end}
+use Rattle.ending.specs.SumBoundLaws.{subordinates-few, waitless-few, sum-end}
 use Rattle.ending.specs.HoldsLaws.{holds-start, holds-formed, holds-count, holds-upheld}
 
 -- ---- D

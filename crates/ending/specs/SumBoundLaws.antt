@@ -1,6 +1,5 @@
 -- What the sums of a run say of each one: every sum and every waiting count is within −128 to 128, and what they are when nothing waits.
---   Few             == no process adds more than 1 to a tally, and has slack
---   subordinates-few, waitless-few   == so it is with both tallies
+--   subordinates-few, waitless-few   == both tallies are Few
 --   sum-small       == the sum of every process, by a tally, is in range
 --   counts-small    == every waiting count and second count is in range
 --   sum-end         == when no process is busy and nothing waits, the start has as sum what all processes add, and any other process 0
@@ -33,7 +32,7 @@ use Rattle.steps.specs.declared.TwoCounts.{TwoCounts}
 use Rattle.steps.specs.Step.{mostCount, small, bothSmall, countSmall, ownCount, newSubordinate}
 use Rattle.steps.specs.Effect.{countsOf, both}
 use Rattle.checks.specs.Run.{Run, countsSmall}
-use Rattle.ending.specs.Weights.{Tally, subordinates, waitless, sumIn, countIn, worthOf, slackOf, bothOff}
+use Rattle.ending.specs.Weights.{Tally, subordinates, waitless, sumIn, countIn, worthOf, slackOf, Few, bothOff}
 use Rattle.ending.specs.Invariants.{Tidy, Summed}
 
 -- ---- one integer, one link
@@ -100,10 +99,6 @@ sumTo-alone n i f l u h = sumTo-cong n f (spot i (f i)) (λ k p q. at k p q (sam
     at : (k : ℕ) → 1 ≤ k → k ≤ n → Same k i → f k ≡ spot i (f i) k
     at k p q (same e _) = rw (e, spot-at i (f i))
     at k p q (apart e _) = rw (spot-off i (f i) k e) (h k p q e)
-
--- no process adds more than 1, and where it adds, it has no slack
-abbrev pub Few : Tally → Waits → Run → Type 0
-Few τ w r = (i : ℕ) → IsProcess (w .n) i → τ .worth i (r .process i) + τ .slack i (r .process i) ≤ 1
 
 module _ {w : Waits} {s : ℕ} {r : Run} (tidy : Tidy w s r) where
   pub subordinates-few : Few (subordinates s) w r

@@ -1,8 +1,8 @@
 -- Sums and counts: the start gives them, and every accepted delivery keeps them. Both tallies (Weights) go by the same two laws.
---   Begins, summed-start   == what a tally says of the start's first record and of an idle one, and that the run at the start is then Summed
---   subordinates-begin, waitless-begin   == so it is with both tallies
---   Tallied, summed-kept   == what a tally says of a step, and that a delivery then keeps Summed
---   subordinates-tallied   == so it is with cs; with the second sum it is what Effect says
+--   summed-start           == the run at the start is Summed by a tally that Begins
+--   subordinates-begin, waitless-begin   == both tallies do
+--   summed-kept            == a delivery whose step is Tallied keeps Summed
+--   subordinates-tallied   == every step is, by cs; by the second sum it is what Effect says
 -- Assumes nothing.
 use Prim.Native.Nat.{ℕ, _+_}
 use mathlib.Core.Bool.{Bool, true, false}
@@ -27,10 +27,10 @@ use Rattle.steps.specs.declared.Message.{Message}
 use Rattle.steps.specs.declared.Message.the-variants.{Suc, Pre}
 use Rattle.steps.specs.declared.Process.{Process}
 use Rattle.steps.specs.Step.{Turn, idle, noCounts}
-use Rattle.steps.specs.Effect.{both, replyCounts, Balanced, Effect}
+use Rattle.steps.specs.Effect.{both, replyCounts, Effect}
 use Rattle.checks.specs.Run.{Run, knot, one, started, startRun, leaving}
 use Rattle.checks.specs.SentLaws.{first-weight, sum-count}
-use Rattle.ending.specs.Weights.{Tally, subordinates, waitless, sumIn, countIn, worthOf, slackOf, bothOff, Diffuses}
+use Rattle.ending.specs.Weights.{Tally, subordinates, waitless, sumIn, countIn, worthOf, slackOf, Begins, Tallied, bothOff, Diffuses}
 use Rattle.ending.specs.Invariants.{Tidy, Summed}
 use Rattle.ending.specs.CountingLaws.{acknowledged-in}
 
@@ -44,13 +44,6 @@ start-total w s ed μ e e′ = sumTo-zero (w .n) _ (λ a _ _. sumTo-zero (w .n) 
     at : (a b : ℕ) (c : Bool) → weight μ (choose c (one (w .waits s b) Suc ++ one (w .waits b s) Pre) []) ≡ 0
     at a b true = first-weight μ (w .waits s b) (w .waits b s) ∙ rw (e, e′) (omega arith)
     at a b false = refl
-
--- the start has as sum what it adds, and nobody else has or adds anything
-pub record Begins (w : Waits) (s : ℕ) (τ : Tally) : Type 0 where
-  pub none : τ .part noCounts ≡ pos 0
-  pub own : above (sumIn τ (started w s)) ≡ τ .worth s (started w s)
-  pub own-below : below (sumIn τ (started w s)) ≡ 0
-  pub others : (i : ℕ) → τ .worth i idle ≡ 0
 
 module _ (w : Waits) (s ed : ℕ) (τ : Tally) (h : Begins w s τ) where
   rest : (j : ℕ) → (j ≡ s → ⊥) → sumIn τ (startRun w s ed .process j) ≡ pos 0
@@ -92,12 +85,6 @@ unfolding started
 waitless-begin w s = record { none = refl; own = omega arith; own-below = refl; others = λ i. omega arith }
 
 -- ---- a delivery
-
--- what a step does to the sum of a tally
-abbrev pub Tallied : Tally → ℕ → Message → Process → Turn → Type 0
-Tallied τ b m x t =
-    Balanced (sumIn τ x) (countIn τ m) (sumIn τ (t .process)) (τ .part (replyCounts (t .reply))) (τ .worth b x) (τ .worth b (t .process))
-    (τ .slack b x) (τ .slack b (t .process))
 
 module _ {w : Waits} {s : ℕ} {r q : Run} {a b : ℕ} {m : Message} {t : Turn} {o i : ℕ} (diffusing : Diffuses w s r) (pa : IsProcess (w .n) a)
     (pb : IsProcess (w .n) b) (moved : Moved w r a b m (leaving w b t) q) (effect : Effect (eqb b s) m o i a (r .process b) t) (τ : Tally)
