@@ -159,7 +159,7 @@ turn Suc o i p x = rule4 (rule3 (setSucceeding o (rule1 p x)))
 turn Pre o i p x = rule4 (rule3 (setPreceding i (rule1 p x)))
 turn (Ack c) o i p x = rule4 (acknowledged c x)
 
--- "s receives a probe: it acknowledges with 0", twice; "s receives acknowledgement c: cs gains c, num loses 1"; s passes on neither sum
+-- "s receives a probe: it acknowledges with 0", and with second count 0; "s receives acknowledgement c: cs gains c, num loses 1"
 unfoldable pub startTurn : Message → ℕ → Process → Turn
 startTurn Suc p x = record { process = x; probes = Probes.Nothing; reply = To p noCounts }
 startTurn Pre p x = record { process = x; probes = Probes.Nothing; reply = To p noCounts }
