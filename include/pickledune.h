@@ -13,6 +13,10 @@
  * have further parameters, and the words of a run area hold the second numbers too. A host that was compiled with an earlier header must
  * be compiled again, and a check that was begun with an earlier archive must be started again.
  *
+ * The order of running on (02, N11): lowest receiver first and then lowest sender, where it was lowest sender first. In runs made by
+ * start and deliveries only `own` lines, fathers, spent runs and what follows these until both runs are over can differ. Declarations
+ * and areas are as they were.
+ *
  * What is lent. Every pointer is used only during the call that gets it; the library keeps none, has no memory of its own and no
  * state outside what is lent. A slice goes as a pointer and the number of its elements. Pointers must not be null, also where the
  * number is 0, and must be aligned for what they point to. The out-parameters of a call must be valid and distinct, and nothing that
@@ -131,8 +135,8 @@ uint32_t pickledune_start(const uint8_t *table, size_t table_bytes, size_t start
 uint32_t pickledune_pick(
     int32_t *area, size_t words, size_t from, size_t to, size_t place, uint32_t *kind, int32_t *count, int32_t *second);
 
-/* Makes up to k deliveries, each of the oldest message on the link with a message that has the lowest sender and then the lowest
- * receiver.
+/* Makes up to k deliveries, each of the oldest message on the link with a message that has the lowest receiver and then the lowest
+ * sender.
  * Lent: words words, the run area, which takes the deliveries.
  * Back: *over is 1 if the run is over and 0 if the k deliveries are spent and it is not; *made, the deliveries made. No run that
  * pickledune_start began takes more than 2048 deliveries, so that k = 2048 runs it to the end.

@@ -6,11 +6,14 @@ input of each crate that runs the check program itself, with what it must print:
   tools/check_cases.py --check   write nothing; exit 1 unless the files are what would be written
   tools/check_cases.py --list    print each case and each such input with its label and its lines
   tools/check_cases.py --print   read one input of the check program and print what it must print
+  tools/check_cases.py --planted write nothing; say of each planted mistake in the fixed order how many cases print other lines by it; exit 1
+                                 if there is a mistake that none finds
 
-What is printed comes from the run below, which is written from 01 ("Run and links", "Steps", "The check program") and 02 (N1, N3, N4)
+What is printed comes from the run below, which is written from 01 ("Run and links", "Steps", "The check program") and 02 (N1, N3, N4, N11)
 and not from the crates, and from the reader of tools/table_vectors.py. Each case names by hand what must be among its lines; the script stops
-if it is not. At the end of a run the lines are held to a graph search, too. The format of a case is in the top comment of
-crates/check_cases/src/main.rt. The cases drawn at random have a fixed seed, so every run makes the same files.
+if it is not. At the end of a run the lines are held to a graph search, too, and to those of the same input in the order before N11, which may
+differ in `own` lines only. The format of a case is in the top comment of crates/check_cases/src/main.rt. The cases drawn at random have a
+fixed seed, so every run makes the same files.
 """
 import collections, os, sys
 
@@ -85,6 +88,10 @@ def other_step(x, p, message, out_degree, in_degree):
     return sent
 
 
+class NothingWaits(Exception):
+    """24, "nothing waits on that link, or on any when running on": only a mistake in the fixed order meets it here."""
+
+
 class Run:
     def __init__(self, n, waits, start, edition):
         self.n, self.waits, self.start, self.edition, self.deliveries = n, waits, start, edition, 0
@@ -132,6 +139,8 @@ class Run:
         assert 0 <= x.num <= 256 and small(x.cs, x.second)
 
     def deliver(self, a, b):
+        if not self.link[a, b]:
+            raise NothingWaits
         message = self.link[a, b].popleft()
         self.deliveries += 1
         self.receive(b, a, message)
@@ -147,8 +156,9 @@ class Run:
             return 24
         return self.deliver(a, b)
 
-    def lowest(self):
-        return min(pair for pair, waiting in self.link.items() if waiting)
+    def waiting(self):
+        """The links with a message."""
+        return [link for link, messages in self.link.items() if messages]
 
     def escape(self):
         """02, N1: the lowest-numbered process with subordinate 1, and 0 only where there is none."""
@@ -161,6 +171,36 @@ class Run:
     def returned(self):
         """02, N3: "The report marks returned if the start's second sum is 0, else held", under either edition."""
         return self.process[self.start].second == 0
+
+
+# ---- orders of running on: for a run, the links of its deliveries, each asked for when the one before it was made
+
+def by_receiver(sender, receiver):
+    """02, N11: "The fixed order becomes lowest receiver first and then lowest sender.\""""
+    return receiver, sender
+
+
+def by_sender(sender, receiver):
+    """01, before N11: "lowest sender first and then lowest receiver among links with a message\""""
+    return sender, receiver
+
+
+def lowest(links, key):
+    if not links:
+        raise NothingWaits
+    return min(links, key=lambda link: key(*link))
+
+
+def lowest_first(key):
+    """The order that takes the lowest link with a message, by a key of sender and receiver."""
+    def order(run):
+        while True:
+            yield lowest(run.waiting(), key)
+    return order
+
+
+fixed_order = lowest_first(by_receiver)
+order_before = lowest_first(by_sender)
 
 
 def closure(first, neighbours):
@@ -241,7 +281,7 @@ def message_text(message):
     return " ".join(str(part) for part in message)
 
 
-def printed(data):
+def printed(data, order=fixed_order):
     number = input_number(data)
     if number:
         return ["refused %d" % number]
@@ -251,8 +291,9 @@ def printed(data):
         answer = run.pick(a, b)
         text = "refused %d" % answer if isinstance(answer, int) else message_text(answer)
         lines.append("pick %d %d %s" % (a, b, text))
+    chosen = order(run)
     while not run.over():
-        a, b = run.lowest()
+        a, b = next(chosen)
         lines.append("own %d %d %s" % (a, b, message_text(run.deliver(a, b))))
     hold_to_search(run)
     for p, x in run.process.items():
@@ -268,11 +309,19 @@ def printed(data):
 cases = []  # label, bytes, lines
 
 
+def is_own(line):
+    return line.startswith("own ")
+
+
 def held(label, data, wanted):
-    """What the program must print, which must hold these lines, in this order."""
+    """What the program must print, which must hold these lines, in this order. In the order before N11 it would print the same, each line at
+    its place, but for `own` lines (02, N11: "only `own` lines, fathers, spent runs and what follows these until both runs are over can
+    differ"; the program prints no father, and its running on ends over)."""
     lines = printed(data)
     rest = iter(lines)
     assert all(line in rest for line in wanted), (label, wanted, lines)
+    before = printed(data, order_before)
+    assert len(lines) == len(before) and all(new == old or is_own(new) and is_own(old) for new, old in zip(lines, before)), label
     return lines
 
 
@@ -501,9 +550,9 @@ def large(rng):
     add("1 waits for 128, and 128 for all the others", check(1, 128, [(1, 128)] + [(128, p) for p in range(2, 128)]),
         "own 128 1 ack 127 126", "process 1 1 1 0 127 0 126", "mark held")
     between = range(3, 127)
-    add("2 waits for 127 and for all between, and these wait for 128: counts far below 0 with second counts",
-        check(1, 128, [(1, 2), (2, 127), (128, 1)] + [(2, p) for p in between] + [(p, 128) for p in between]),
-        "own 128 1 ack 124 0", "own 126 2 ack -123 1", "own 2 1 ack -123 1", "process 1 1 1 0 1 0 1", "mark held")
+    add("1 waits for all between 3 and 126, and these wait for 127: counts far below 0 with second counts",
+        check(128, 128, [(128, 1), (127, 128), (3, 2)] + [(1, p) for p in between] + [(p, 127) for p in between]),
+        "own 1 3 ack 125 0", "own 127 3 ack -123 1", "process 128 1 1 0 1 0 1", "mark held")
     judged("all the others of 128 wait for 77", check(77, 128, [(p, 77) for p in range(1, 129) if p != 77]), 0, 1, "knot", "none", "over 254")
     judged("all of 128 wait for 77", check(77, 128, [(p, 77) for p in range(1, 129)]), 0, 0, "knot", "knot", "over 258")
     judged("1 and 128 wait for each other, from 1", check(1, 128, [(1, 128), (128, 1)]), 0, 0, "knot", "knot", "over 8")
@@ -564,21 +613,27 @@ def escapes():
 
 def in_orders(rng, name, data, *wanted):
     """One check, all its deliveries by picks, in orders of every kind: all that is printed of its end is the same (02, N1: "two installations
-    named different ones for equal runs"; N4: "the end state is still one for all orders"), the second sums and the mark with it."""
-    ends = set()
+    named different ones for equal runs"; N4: "the end state is still one for all orders"), the second sums and the mark with it. And once
+    without picks, which prints what the picks of the fixed order do (02, N11)."""
+    ends, lines = set(), {}
     for label, choose in (
-        ("lowest link first", min),
+        ("lowest receiver first", lambda links: lowest(links, by_receiver)),
+        ("lowest sender first", lambda links: lowest(links, by_sender)),
         ("highest link first", max),
         ("drawn", lambda links: rng.sample(links, 1)[0]),
         ("drawn again", lambda links: rng.sample(links, 1)[0]),
     ):
         run, picks = begun(data), []
         while not run.over():
-            picks.append(choose(sorted(link for link, waiting in run.link.items() if waiting)))
+            picks.append(choose(sorted(run.waiting())))
             run.deliver(*picks[-1])
         add("%s, %s" % (name, label), data + words([end for pick in picks for end in pick]), *wanted)
+        lines[label] = cases[-1][2]
         ends.add(text(cases[-1][2][len(picks):]))
     assert len(ends) == 1
+    add("%s, no picks" % name, data, *wanted)
+    assert [line.replace("own", "pick") for line in cases[-1][2]] == lines["lowest receiver first"], name
+    assert lines["lowest receiver first"] != lines["lowest sender first"], name
 
 
 def orders(rng):
@@ -592,6 +647,199 @@ def orders(rng):
               "process 5 1 1 0 3 0 0", "verdict none", "outside 3", "escape 3", "mark returned")
     in_orders(rng, "three that wait for nobody", check(2, 7, path(2, 4, 2) + path(4, 1, 3) + path(2, 6, 7) + [(6, 3), (2, 5), (4, 5), (1, 7)]),
               "process 2 1 1 0 5 0 3", "verdict none", "outside 5", "escape 1", "mark held")
+
+
+# ---- the fixed order (02, N11)
+
+def owned(label, data, *own):
+    """A case of which every `own` line is named."""
+    add(label, data)
+    assert [line[4:] for line in cases[-1][2] if is_own(line)] == list(own), (label, cases[-1][2])
+
+
+def receivers():
+    """Which receiver is the lowest, from one delivery to the next."""
+    owned("one busy sender, 1, and many receivers: each acknowledges before the next is reached", check(1, 6, [(1, p) for p in range(2, 7)]),
+          "1 2 suc", "2 1 ack 1 1", "1 3 suc", "3 1 ack 1 1", "1 4 suc", "4 1 ack 1 1", "1 5 suc", "5 1 ack 1 1", "1 6 suc", "6 1 ack 1 1")
+    owned("the same from 6: all are reached before it hears", check(6, 6, [(6, p) for p in range(1, 6)]),
+          "6 1 suc", "6 2 suc", "6 3 suc", "6 4 suc", "6 5 suc", "1 6 ack 1 1", "2 6 ack 1 1", "3 6 ack 1 1", "4 6 ack 1 1", "5 6 ack 1 1")
+    owned("the same from 3", check(3, 5, [(3, p) for p in (1, 2, 4, 5)]),
+          "3 1 suc", "3 2 suc", "1 3 ack 1 1", "2 3 ack 1 1", "3 4 suc", "4 3 ack 1 1", "3 5 suc", "5 3 ack 1 1")
+    owned("a lower receiver gets a message while a higher one waits", check(3, 4, [(3, 2), (3, 4), (2, 1)]),
+          "3 2 suc", "2 1 suc", "1 2 ack 1 1", "2 3 ack 2 1", "3 4 suc", "4 3 ack 1 1")
+    owned("the same twice, one below the other", check(4, 5, [(4, 3), (4, 5), (3, 2), (2, 1)]),
+          "4 3 suc", "3 2 suc", "2 1 suc", "1 2 ack 1 1", "2 3 ack 2 1", "3 4 ack 3 1", "4 5 suc", "5 4 ack 1 1")
+    owned("a lower receiver gets a message by a pick while a higher one waits", check(1, 4, [(1, 4), (4, 2), (1, 3)], [(1, 4)]),
+          "4 2 suc", "1 3 suc", "3 1 ack 1 1", "2 4 ack 1 1", "4 1 ack 2 1")
+
+
+def senders():
+    """Which sender to the lowest receiver is the lowest."""
+    owned("three senders to one receiver, which is the lowest", check(1, 5, [(p, 1) for p in range(2, 6)], [(1, 5), (1, 3), (1, 4)]),
+          "3 1 ack 0 0", "4 1 ack 0 0", "5 1 ack 0 0", "1 2 pre", "2 1 ack 0 0")
+    owned("the same, which is the highest", check(1, 5, [(1, p) for p in (2, 3, 4)] + [(p, 5) for p in (2, 3, 4)]),
+          "1 2 suc", "1 3 suc", "1 4 suc", "2 5 suc", "5 2 ack 1 1", "2 1 ack 2 1", "3 5 suc", "5 3 ack 0 0", "3 1 ack 1 0",
+          "4 5 suc", "5 4 ack 0 0", "4 1 ack 1 0")
+    owned("a lower sender to the same receiver gets its message while a higher one waits",
+          check(7, 7, path(7, 5, 3, 2) + path(7, 6, 3), [(7, 6), (7, 5)]),
+          "5 3 suc", "3 2 suc", "2 3 ack 1 1", "6 3 suc", "3 5 ack 2 1", "3 6 ack 0 0", "5 7 ack 3 1", "6 7 ack 1 0")
+    owned("two senders to the lowest receiver, which gets a message again after both",
+          check(2, 3, [(1, 2), (2, 1), (3, 1)], [(2, 1), (1, 2), (2, 1), (1, 3)]),
+          "2 1 ack 0 0", "3 1 ack 0 0", "1 2 ack 1 0", "1 2 pre", "2 1 ack 0 0", "1 2 ack -1 0")
+
+
+def refilled():
+    """Loops, and links that fall empty and are filled again."""
+    owned("a loop at the start, between a lower receiver and a higher one", check(2, 3, [(2, 2), (2, 1), (2, 3)]),
+          "2 1 suc", "1 2 ack 1 1", "2 2 suc", "2 2 pre", "2 2 ack 0 0", "2 2 ack 0 0", "2 3 suc", "3 2 ack 1 1")
+    owned("a loop at another process, which is probed along it and by others", check(3, 3, [(3, 1), (3, 2), (2, 2), (1, 2)]),
+          "3 1 suc", "1 2 suc", "2 2 suc", "2 2 ack 1 0", "2 1 ack 1 0", "3 2 suc", "1 3 ack 2 0", "2 3 ack 0 0")
+    owned("both links of two processes fall empty again and again", check(1, 2, [(1, 2), (2, 1)]),
+          "1 2 suc", "2 1 suc", "1 2 pre", "2 1 ack 1 0", "2 1 pre", "1 2 ack 0 0", "1 2 ack 0 0", "2 1 ack -1 0")
+    owned("a pick takes one of two messages", check(1, 2, [(1, 2), (2, 1)], [(1, 2)]),
+          "2 1 suc", "1 2 pre", "2 1 ack 1 0", "2 1 pre", "1 2 ack 0 0", "1 2 ack 0 0", "2 1 ack -1 0")
+    owned("picks empty both links and fill them again", check(1, 2, [(1, 2), (2, 1)], [(1, 2), (2, 1), (1, 2), (1, 2)]),
+          "2 1 ack 1 0", "2 1 pre", "1 2 ack 0 0", "2 1 ack -1 0")
+    owned("picks empty the link to the lowest receiver", check(2, 3, [(2, 1), (2, 3)], [(2, 1), (1, 2)]), "2 3 suc", "3 2 ack 1 1")
+
+
+def around_64(rng):
+    """The first and the last of 64, 65 and 128 processes, and those around 64, as senders and receivers."""
+    for n in (64, 65, 128):
+        few = [p for p in (1, 64, 65, 128) if p <= n]
+        more = [p for p in (1, 2, 63, 64, 65, 66, 127, 128) if p <= n]
+        for hub in few:
+            low, high = [p for p in more if p < hub], [p for p in more if p > hub]
+            owned("%d of %d waits for %s" % (hub, n, low + high), check(hub, n, [(hub, p) for p in low + high]),
+                  *["%d %d suc" % (hub, p) for p in low], *["%d %d ack 1 1" % (p, hub) for p in low],
+                  *[line for p in high for line in ("%d %d suc" % (hub, p), "%d %d ack 1 1" % (p, hub))])
+            owned("%s wait for %d of %d, and all acknowledge before it hears" % (low + high, hub, n),
+                  check(hub, n, [(p, hub) for p in low + high], [(hub, p) for p in reversed(low + high)]),
+                  *["%d %d ack 0 0" % (p, hub) for p in low + high])
+            add("all of %s wait for all of them, from %d of %d" % (few, hub, n), check(hub, n, [(a, b) for a in few for b in few]),
+                "over %d" % (4 * len(few) ** 2), "verdict knot")
+        pairs = [(a, b) for a in more for b in more]
+        add("all of %s wait for all of them, from %d" % (more, n), check(n, n, pairs), "over %d" % (4 * len(pairs)), "verdict knot")
+        for number in range(6):
+            waits = rng.sample(pairs, rng.between(4, 16))
+            drawn = random_picks(rng, n, waits, 10 * (number % 3))
+            add("drawn %d among %s of %d" % (number, more, n), check(waits[0][number % 2], n, waits, drawn, shuffled(rng)))
+
+
+# ---- mistakes in the fixed order, each of which some case finds
+
+def passed_over(end, p):
+    """Sender (0) or receiver (1) p is passed over as long as a message waits on a link of another."""
+    return lowest_first(lambda *link: (link[end] == p, by_receiver(*link)))
+
+
+def receivers_from(step):
+    """The search begins so many past the receiver of the last delivery, and at the first only if that was in vain."""
+    def order(run):
+        last = 0
+        while True:
+            links = run.waiting()
+            link = lowest([link for link in links if link[1] >= last + step] or links, by_receiver)
+            last = link[1]
+            yield link
+    return order
+
+
+def senders_from_the_last(run):
+    """For each receiver the search begins at the sender of its last delivery, and at the first only if that was in vain."""
+    last = {}
+    while True:
+        receiver = lowest(run.waiting(), by_receiver)[1]
+        links = [link for link in run.waiting() if link[1] == receiver]
+        link = lowest([link for link in links if link[0] >= last.get(receiver, 0)] or links, by_receiver)
+        last[receiver] = link[0]
+        yield link
+
+
+def same_link(run):
+    """The same link until it is empty."""
+    while True:
+        link = lowest(run.waiting(), by_receiver)
+        yield link
+        while run.link[link]:
+            yield link
+
+
+def remembering(follow, begin=Run.waiting):
+    """The fixed order by the links that are remembered to hold a message: follow changes them after a delivery, by the links, the one that it
+    came on, whether that fell empty, and what was sent, message by link."""
+    def order(run):
+        held = set(begin(run))
+        while True:
+            link = lowest(held, by_receiver)
+            before = {other: len(messages) - (other == link) for other, messages in run.link.items()}
+            yield link
+            sent = {other: list(messages)[before[other]:] for other, messages in run.link.items() if len(messages) > before[other]}
+            held = follow(held, link, before[link] == 0, sent)
+    return order
+
+
+def at_the_start(run):
+    return Run(run.n, run.waits, run.start, run.edition).waiting()
+
+
+def followed(held, link, fell_empty, sent):
+    return held - ({link} if fell_empty else set()) | set(sent)
+
+
+def without_sent(kinds):
+    """What is sent of these kinds is not remembered."""
+    return remembering(lambda held, link, fell_empty, sent: followed(
+        held, link, fell_empty, {to for to, messages in sent.items() if any(message[0] not in kinds for message in messages)}))
+
+
+def mistakes():
+    planted = {
+        "lowest sender first, as before N11": order_before,
+        "the highest sender of the lowest receiver": lowest_first(lambda a, b: (b, -a)),
+        "the highest receiver first": lowest_first(lambda a, b: (-b, a)),
+        "receivers over 64 first": lowest_first(lambda a, b: (b <= 64, b, a)),
+        "senders over 64 first": lowest_first(lambda a, b: (b, a <= 64, a)),
+        "receiver 128 first": lowest_first(lambda a, b: (b % 128, a)),
+        "sender 128 first": lowest_first(lambda a, b: (b, a % 128)),
+        "the search begins at the last receiver": receivers_from(0),
+        "receivers in turn": receivers_from(1),
+        "the search begins at a receiver's last sender": senders_from_the_last,
+        "one link until it is empty": same_link,
+        "a link is taken after it fell empty": remembering(lambda held, link, fell_empty, sent: held | set(sent)),
+        "a link is passed over after a delivery on it": remembering(lambda held, link, fell_empty, sent: held - {link} | set(sent)),
+        "a receiver is passed over after one of its links fell empty": remembering(
+            lambda held, link, fell_empty, sent: {other for other in held if not fell_empty or other[1] != link[1]} | set(sent)),
+        "a link that fell empty in the delivery that filled it again is passed over": remembering(
+            lambda held, link, fell_empty, sent: (held | set(sent)) - ({link} if fell_empty else set())),
+        "what picks took and sent is not remembered": remembering(followed, at_the_start),
+        "probes are not remembered": without_sent(("suc", "pre")),
+        "pre probes are not remembered": without_sent(("pre",)),
+        "acknowledgements are not remembered": without_sent(("ack",)),
+    }
+    for p in (1, 64, 65):
+        planted["receiver %d is passed over" % p] = passed_over(1, p)
+        planted["sender %d is passed over" % p] = passed_over(0, p)
+    return planted
+
+
+def finds(data, lines, order):
+    """Whether the program would print other lines in this order; where nothing waits it would print a refusal."""
+    try:
+        return printed(data, order) != lines
+    except NothingWaits:
+        return True
+
+
+def try_mistakes():
+    """How many cases find each; gives whether every mistake is found. First no case finds one in the order by what is remembered right."""
+    inputs = [(data, lines) for _, data, lines in cases if any(is_own(line) for line in lines)]
+    assert not any(finds(data, lines, remembering(followed)) for data, lines in inputs)
+    found = {label: sum(finds(data, lines, order) for data, lines in inputs) for label, order in mistakes().items()}
+    for label, count in found.items():
+        print("%4d of %d cases with own lines: %s" % (count, len(inputs), label))
+    print("%d of %d planted mistakes found" % (sum(count > 0 for count in found.values()), len(found)))
+    return all(found.values())
 
 
 # ---- inputs of the check program itself, each with a crate of its own
@@ -617,7 +865,7 @@ def longest():
     lines = held("longest", data, ["pick %d %d refused 24" % link for link in empty] + ["pick %d %d refused 25" % pair for pair in none]
                  + ["pick %d %d refused 23" % picks[-1], "over %d" % len(accepted), "verdict none", "mark held"])
     assert len(data) == LONGEST and sum(line.startswith("pick ") for line in lines) == len(picks)
-    assert sum(line.endswith(" refused 23") for line in lines) > 4000 and not any(line.startswith("own ") for line in lines)
+    assert sum(line.endswith(" refused 23") for line in lines) > 4000 and not any(is_own(line) for line in lines)
     return data, lines
 
 
@@ -633,7 +881,7 @@ def most():
     waits = [(p, (p + step - 1) % 128 + 1) for step in (1, 5, 25, 60) for p in range(1, 129)]
     data = under(2, check(77, 128, waits, (), shuffled(Draws(2048))))
     lines = held("most", data, ["over %d" % MOST_DELIVERIES, "verdict knot", "mark returned"])
-    assert sum(line.startswith("own ") for line in lines) == MOST_DELIVERIES
+    assert sum(is_own(line) for line in lines) == MOST_DELIVERIES
     return data, lines
 
 
@@ -665,6 +913,10 @@ def make():
     large(rng)
     escapes()
     orders(Draws(1))
+    receivers()
+    senders()
+    refilled()
+    around_64(Draws(11))
     stdin = b"".join(words([len(data)]) + data for _, data, _ in cases)
     stdout = "".join("case %d\n%s" % (number, text(lines)) for number, (_, _, lines) in enumerate(cases, 1))
     # and at the end a case that is not whole
@@ -682,6 +934,8 @@ def main():
             for line in lines:
                 print("    " + line)
         return
+    if sys.argv[1:] == ["--planted"]:
+        sys.exit(not try_mistakes())
     if sys.argv[1:] not in ([], ["--check"]):
         sys.exit(__doc__)
     store(os.path.join(CRATES, "check_cases"), files, sys.argv[1:] == ["--check"])

@@ -31,12 +31,12 @@ static void print_delivery(const char *how, size_t from, size_t to, uint32_t kin
     }
 }
 
-/* The delivery that running on makes next, by picks of the oldest message: 24 and 25 say that nothing waits there. Returns 0 if the run is
- * over. */
+/* The delivery that running on makes next, by picks of the oldest message, lowest receiver first and then lowest sender: 24 and 25 say that
+ * nothing waits there. Returns 0 if the run is over. */
 static int deliver_next(int32_t *area)
 {
-    for (size_t from = 1; from <= PROCESSES; from++) {
-        for (size_t to = 1; to <= PROCESSES; to++) {
+    for (size_t to = 1; to <= PROCESSES; to++) {
+        for (size_t from = 1; from <= PROCESSES; from++) {
             uint32_t kind;
             int32_t count;
             int32_t second;
@@ -115,6 +115,27 @@ static void overtake(void)
     expect(pickledune_pick(area, words, 1, 2, 2, &kind, &count, &second) == 0 && kind == PICKLEDUNE_PRE, "place 2 first");
     expect(pickledune_pick(area, words, 1, 2, 1, &kind, &count, &second) == 0 && kind == PICKLEDUNE_SUC, "then place 1");
     expect(pickledune_run_on(area, words, 2048, &over, &made) == 0 && over == 1 && made == 6, "8 deliveries in any order");
+}
+
+/* The order of running on (02, N11): process 3 waits for 1 and 2. After the probe to 1 the probe to 2 is delivered, before the
+ * acknowledgement from 1 to 3, since 2 is a lower receiver than 3; that 1 is a lower sender than 3 does not matter. */
+static void receivers_first(void)
+{
+    const uint16_t list[4] = {3, 1, 3, 2};
+    uint8_t table[PICKLEDUNE_TABLE_BYTES(3, 2)];
+    int32_t area[PICKLEDUNE_AREA_WORDS(3, 2)];
+    const size_t words = PICKLEDUNE_AREA_WORDS(3, 2);
+    size_t length;
+    uint32_t kind;
+    int32_t count;
+    int32_t second;
+    uint32_t over;
+    uint32_t made;
+    expect(pickledune_write_table(3, list, 4, table, sizeof table, &length) == 0, "writing a table of two waits");
+    expect(pickledune_start(table, length, 3, 1, area, words) == 0, "its start");
+    expect(pickledune_run_on(area, words, 2, &over, &made) == 0 && over == 0 && made == 2, "two deliveries");
+    expect(pickledune_pick(area, words, 3, 2, 1, &kind, &count, &second) == 24, "the probe to 2 was one of them");
+    expect(pickledune_pick(area, words, 1, 3, 1, &kind, &count, &second) == 0 && kind == PICKLEDUNE_ACK, "1's acknowledgement waits");
 }
 
 /* What a report gives. */
@@ -226,6 +247,7 @@ int main(void)
     print_report(area);
     step_by_itself();
     overtake();
+    receivers_first();
     judge_by_edition();
     wait_for_a_knot();
     return 0;

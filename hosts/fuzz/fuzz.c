@@ -4,10 +4,11 @@
  * Everything that is lent ends where a page begins that may not be touched, so reading or writing past it stops the program. What 01
  * says of every call is checked after it: a refusal gives zeros and changes nothing (running on keeps the deliveries made before it),
  * nothing but the area changes, the answers of calls that follow each other agree, a start is held to the edition that it is given and a
- * verdict to the one that the area holds (02, N4), a pick is held to the words of its link (02, N5), a mark to the start's second sum, and
- * a start, deliveries and a step to what they add to the second sums and counts (02, N3).
+ * verdict to the one that the area holds (02, N4), a pick is held to the words of its link (02, N5), the deliveries of a small running on
+ * to the words of all links (02, N11), a mark to the start's second sum, and a start, deliveries and a step to what they add to the second
+ * sums and counts (02, N3).
  * The archive itself is not built for the fuzzer, so each answer is counted as coverage (calls by their refusal numbers, accepted picks by
- * their places and accepted reports by their editions, verdicts and marks too). */
+ * their places, deliveries of small runnings on by their links, and accepted reports by their editions, verdicts and marks too). */
 #include "pickledune.h"
 
 #include <stdint.h>
@@ -17,18 +18,19 @@
 #include <sys/mman.h>
 #include <unistd.h>
 
-enum { CALLS = 10, PICKED = CALLS, JUDGED, COUNTED, ROWS, NUMBERS = 50 };
+enum { CALLS = 10, PICKED = CALLS, JUDGED, COUNTED, TAKEN, ROWS, NUMBERS = 50 };
 enum { TABLE = 8192, LIST = 2200, AREA = 12000, STEPS = 4096, WAITING = 4 };
 
 __attribute__((section("__libfuzzer_extra_counters"))) static uint8_t seen[ROWS * NUMBERS];
 
-/* The numbers that each call has answered in the whole run, printed at its end. The last three rows have accepted picks, by how many
+/* The numbers that each call has answered in the whole run, printed at its end. The last four rows have accepted picks, by how many
  * messages waited and by place: 32 is the second of three; accepted reports, by edition and verdict: 10 and 20 are none, 11 and 21 a knot,
- * and 22 is none with outside 0, all of them held, and 3 more if returned: 13, 14, 23, 24 and 25; and accepted picks by second numbers: 1
- * if the receiver added its own, 2 and 3 for a second count above and below 0, else 0. */
+ * and 22 is none with outside 0, all of them held, and 3 more if returned: 13, 14, 23, 24 and 25; accepted picks by second numbers: 1
+ * if the receiver added its own, 2 and 3 for a second count above and below 0, else 0; and the deliveries of small runnings on, by what
+ * first_link gives. */
 static const char *const row_names[ROWS] = {"read_table", "write_table", "open",        "next", "start",  "pick",
                                             "run_on",     "report",      "read_record", "step", "picked", "judged",
-                                            "counted"};
+                                            "counted",    "taken"};
 static uint64_t answered[ROWS][NUMBERS];
 
 static uint8_t *table_end, *out_end;
@@ -82,8 +84,8 @@ static void print_answers(void)
     }
 }
 
-/* The steps that this input has made; at STEPS it ends. Each record that a report is held to and each place that is tried counts as one: it
- * tests the whole area. */
+/* The steps that this input has made; at STEPS it ends. Each record that a report is held to, each place that is tried and each delivery
+ * that is made again counts as one: it tests the whole area. */
 static int steps_made;
 
 /* The input, read from its front; zeros after its end. */
@@ -402,8 +404,8 @@ static int32_t added(void)
     return own;
 }
 
-/* A pick, held to the words of its link: 02, N5. */
-static void pick_at(size_t from, size_t to, size_t place)
+/* A pick, held to the words of its link: 02, N5. Gives its number. */
+static uint32_t pick_at(size_t from, size_t to, size_t place)
 {
     uint32_t kind = 7;
     int32_t carried = 7, second = 7;
@@ -418,7 +420,7 @@ static void pick_at(size_t from, size_t to, size_t place)
         expect(area[2] == before[2] + 1, "a delivery is counted");
     }
     if (refused == 21)
-        return;
+        return refused;
     expect(has_its_words(before), "21 for an area that is too short, or has sizes, a start or an edition out of range");
     all_second_numbers(before); /* 21 also for those out of range */
     link = link_place(from, to);
@@ -427,7 +429,7 @@ static void pick_at(size_t from, size_t to, size_t place)
     uint32_t first = first_refusal_of_pick(link, load, place);
     expect(first ? refused == first : refused == 0 || refused == 22, "25, 23, 24, 31, 22, in this order");
     if (refused)
-        return;
+        return refused;
     note(PICKED, 10 * load + place);
     int32_t taken = before[link + place - 1];
     expect(taken <= 2 ? (int32_t)kind == taken : kind == 3 && 256 + carried + 512 * (256 + second) == taken, "the message at the place");
@@ -439,6 +441,7 @@ static void pick_at(size_t from, size_t to, size_t place)
     /* Only on a loop does the receiver send on the link that it got the message by. */
     for (size_t i = load; i <= WAITING && from != to; i++)
         expect(area[link + i - 1] == 0, "nothing behind the others");
+    return 0;
 }
 
 static void pick(void)
@@ -461,9 +464,49 @@ static void pick_every_place(void)
     }
 }
 
+/* The ends of the link that running on takes next in a well-formed area, by its words: of all links with a message the one with the lowest
+ * receiver and then the lowest sender (02, N11). Gives 0 if none has one, and else 1, or 2 if it would have been another link before N11,
+ * lowest sender first, and 2 more for a loop. */
+static size_t first_link(size_t *from, size_t *to)
+{
+    size_t n = (size_t)area[14], m = (size_t)area[15], links = 16 + 8 * n + 4 * m, first = SIZE_MAX, by_sender = SIZE_MAX;
+    for (size_t link = 0; link < 2 * m; link++) {
+        const int32_t *arc = area + 16 + 2 * n + 4 * (link / 2);
+        size_t sender = (size_t)arc[link % 2], receiver = (size_t)arc[1 - link % 2];
+        if (area[links + 8 * link] == 0)
+            continue;
+        if (256 * receiver + sender < first)
+            first = 256 * receiver + sender;
+        if (256 * sender + receiver < by_sender)
+            by_sender = 256 * sender + receiver;
+    }
+    *from = first % 256;
+    *to = first / 256;
+    return first == SIZE_MAX ? 0 : 1 + (by_sender != 256 * *from + *to) + 2 * (*from == *to);
+}
+
+/* A running on, accepted or refused after so many deliveries, is made again on the words before it by picks of the oldest message, each on
+ * the first link. */
+static void run_by_picks(uint32_t made, uint32_t refused)
+{
+    static int32_t ran[AREA];
+    size_t from, to, taken;
+    memcpy(ran, area, area_len * sizeof *area);
+    memcpy(area, before, area_len * sizeof *area);
+    for (uint32_t i = 0; i < made; i++) {
+        taken = first_link(&from, &to);
+        expect(taken && pick_at(from, to, 1) == 0, "a delivery is on a link with a message");
+        note(TAKEN, taken);
+        steps_made += 1;
+    }
+    expect(memcmp(ran, area, area_len * sizeof *area) == 0, "lowest receiver first and then lowest sender");
+    if (refused)
+        expect(first_link(&from, &to) ? pick_at(from, to, 1) == refused : refused == 24, "refused on the first link, or 24");
+}
+
 static void run_on(void)
 {
-    uint32_t over = 7, made = 7, more = 7, k = byte() % 4 ? byte() : word();
+    uint32_t over = 7, made = 7, more = 7, k = byte() % 2 ? byte() % 4 : byte() % 4 ? byte() : word();
     keep();
     uint32_t refused = count(6, pickledune_run_on(area, area_len, k, &over, &made));
     expect(made <= k && made <= 2048 && over <= 1, "no more than asked for");
@@ -473,6 +516,8 @@ static void run_on(void)
     }
     expect(area[2] == before[2] + (int32_t)made, "deliveries are counted");
     added();
+    if (k < 4)
+        run_by_picks(made, refused);
     if (refused) {
         expect(over == 0, "zeros with a refusal");
         return;

@@ -68,7 +68,7 @@ deliverOn r c = answering (Machines.deliverOn knot r c)
 abbrev pub runFrom : ℕ → ℕ → Run → RanOn Process Message
 runFrom k made r = Machines.runFrom knot fixedOrder k made 0 r
 
--- "Running on makes up to k deliveries, lowest sender first and then lowest receiver among links with a message."
+-- "Running on makes up to k deliveries", 02, N11: "lowest receiver first and then lowest sender", among links with a message
 abbrev pub runOn : ℕ → Run → RanOn Process Message
 runOn k r = Machines.runOn knot fixedOrder k 0 r
 

@@ -1,13 +1,13 @@
 -- Laws of a knot check's runs: the parts of a well-formed one are the machine's (machine, FormedLaws).
 --   isEdition-P, edition-few  == the test of an edition says that it is 1 or 2; so it is at most 2
 --   formed-range, formed-father   == the record of a process in a well-formed run: in range, its father 0 or a neighbour
---   turnAt-effect, turnAt-named, turnAt-sucs, turnAt-pres   == the laws of the step, of the receiver's step in a run
+--   turnAt-effect, turnAt-named   == the laws of the step, of the receiver's step in a run
 --   new-range, new-reply      == the record and the acknowledgement that an accepted delivery makes are in range
 --   nothing-sent              == the receiver's step sends to its neighbours alone
 --   new-father, replied       == the father that a step leaves is right, and whom it acknowledges is a neighbour
 --   knot-after                == an accepted delivery keeps a run well formed, whether start made it or not
 -- Assumes nothing.
-use Prim.Native.Nat.{ℕ, _+_, _≤_}
+use Prim.Native.Nat.{ℕ, _≤_}
 use mathlib.Core.Bool.{true, false, false≢true}
 use mathlib.Core.List.{List, []}
 use mathlib.Core.Path.{_≡_, refl, sym, _∙_}
@@ -32,8 +32,8 @@ use Rattle.steps.specs.declared.Probes.the-variants.{Sucs, Pres}
 use Rattle.steps.specs.declared.Reply.{Reply}
 use Rattle.steps.specs.declared.Reply.the-variants.{To}
 use Rattle.steps.specs.Step.{inRange, bothSmall, numSuffices, replyFits, fitting}
-use Rattle.steps.specs.Effect.{Known, Effect, Named, Grown}
-use Rattle.steps.specs.StepLaws.{turn-effect, startTurn-effect, turn-named, startTurn-named, turn-grown, startTurn-grown, grown-sucs, grown-pres}
+use Rattle.steps.specs.Effect.{Known, Effect, Named}
+use Rattle.steps.specs.StepLaws.{turn-effect, startTurn-effect, turn-named, startTurn-named}
 use Rattle.checks.specs.Run.{Run, IsEdition, isEdition, knot, fatherRight, one, turnOf, turnAt, replyTo, probesTo, sentTo, after, accepts}
 use Rattle.checks.specs.SentLaws.{sent-right}
 
@@ -75,20 +75,6 @@ module _ (r : Run) (a b : ℕ) (m : Message) where
       at : Tested (eqb b (r .start)) → Named a (r .process b) (turnAt r a b m)
       at (passed e) = rw e (startTurn-named m a (r .process b))
       at (failed e) = rw e (turn-named m (outDegree (r .waits) b) (inDegree (r .waits) b) a (r .process b))
-
-  turnAt-grown : Grown (outDegree (r .waits) b) (inDegree (r .waits) b) (r .process b) (turnAt r a b m)
-  unfolding turnOf
-  turnAt-grown = at (tested (eqb b (r .start)))
-    where
-      at : Tested (eqb b (r .start)) → Grown (outDegree (r .waits) b) (inDegree (r .waits) b) (r .process b) (turnAt r a b m)
-      at (passed e) = rw e (startTurn-grown m (outDegree (r .waits) b) (inDegree (r .waits) b) a (r .process b))
-      at (failed e) = rw e (turn-grown m (outDegree (r .waits) b) (inDegree (r .waits) b) a (r .process b))
-
-  pub turnAt-sucs : turnAt r a b m .probes ≡ Sucs → turnAt r a b m .process .num ≡ r .process b .num + outDegree (r .waits) b
-  turnAt-sucs = grown-sucs (outDegree (r .waits) b) (inDegree (r .waits) b) (r .process b) (turnAt r a b m) turnAt-grown
-
-  pub turnAt-pres : turnAt r a b m .probes ≡ Pres → turnAt r a b m .process .num ≡ r .process b .num + inDegree (r .waits) b
-  turnAt-pres = grown-pres (outDegree (r .waits) b) (inDegree (r .waits) b) (r .process b) (turnAt r a b m) turnAt-grown
 
 -- ---- one record of a well-formed run
 

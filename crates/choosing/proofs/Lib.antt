@@ -1,5 +1,6 @@
--- Laws that the proofs of code share: Fills (how the code fills the array), Notes (how the code notes a delivery), OnLink (the delivery on the
--- chosen link: what it asks, and what it leaves).
-pub mod Fills
-pub mod Notes
+-- Laws that the proofs of code share: Marking (one link marked, or no longer marked), Following (how the marks follow a delivery), Looking (how
+-- they are filled), OnLink (the delivery on the chosen link: what it asks, and what it leaves).
+pub mod Marking
+pub mod Following
+pub mod Looking
 pub mod OnLink

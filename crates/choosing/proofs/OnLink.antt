@@ -4,35 +4,36 @@
 --   left-small                == the ends of the link of a delivered message are processes, and so at most the largest N
 --   left-refusal, left-message   == what the answer says of the delivery: its refusal, or its message
 --   left-none                 == no link is chosen
---   link-asks, note-asks, carry-asks   == what preparing the delivery on the chosen link asks, then noting it, then carrying it out
+--   link-asks, note-asks      == what the delivery on the chosen link asks, and then noting it
 --   left-refused, left-delivered       == the delivery is refused, or a message is delivered
 -- Assumes nothing.
 use Prim.Native.Nat.{ℕ, _≤_}
 use mathlib.Core.List.{List}
 use mathlib.Core.Bool.{true}
-use mathlib.Core.Path.{_≡_, refl, sym, ap, _∙_}
+use mathlib.Core.Path.{_≡_, refl, sym, ap, _∙_, subst}
 use native.Mathlib.Omega.{arith}
-use lib.ListN.{length, getD}
 use lib.IntN.{ℤ}
 use Rattle.tables.specs.Sound.{Sound}
 use Rattle.tables.specs.Waits.{neighbours}
-use Rattle.tables.specs.Table.{mostProcesses}
+use Rattle.tables.specs.WaitsLaws.{neighbours-ends}
+use Rattle.tables.specs.Table.{mostProcesses, IsProcess}
 use Rattle.steps.specs.declared.Message.{Message}
 use Rattle.steps.specs.declared.Process.{Process}
 use Rattle.steps.specs.declared.Probes.{Probes}
+use Rattle.steps.specs.declared.TwoCounts.{TwoCounts}
 use Rattle.steps.specs.declared.Reply.{Reply}
+use Rattle.steps.specs.declared.Reply.the-variants.{To}
 use Rattle.checks.specs.declared.Delivery.{Delivery}
 use Rattle.checks.specs.declared.Delivery.the-variants.{Delivered}
 use Rattle.checks.specs.Run.{Run}
 use Rattle.checks.specs.Calls.{Picked, refused}
-use Rattle.machine.specs.Calls.{Selection, nobody, pair, lowest}
+use Rattle.machine.specs.Calls.{Selection, nobody, pair, waiting, lowest}
 use Rattle.machine.specs.ChooserLaws.{lowest-pair}
 use Rattle.areas.specs.Area.{fieldsIn, runIn, keeping}
-use Rattle.delivery.specs.declared.delivering.Prepared.{Prepared}
-use Rattle.delivery.specs.declared.delivering.Prepared.the-variants.{Go}
-use Rattle.delivery.specs.Delivering.{carriedOut, Carried, deliverAt, preparedOf}
+use Rattle.delivery.specs.declared.delivering.Told.{Told}
+use Rattle.delivery.specs.Delivering.{carriedOut, deliverAt, toldAt}
 use Rattle.delivery.specs.DeliveryFacts.{Going}
-use Rattle.delivery.specs.PreparedLaws.{refused-of, going-of}
+use Rattle.delivery.specs.PreparedLaws.{told-refused, told-going}
 use Rattle.delivery.specs.StorableLaws.{storable-on, waiting-joined}
 use Rattle.lenses.specs.Ready.{Ready}
 use Rattle.lenses.specs.ReadyLaws.{right-storable, ready-n, ready-sizes}
@@ -40,11 +41,9 @@ use Rattle.lenses.proofs.Holding.{Holding, holding-first, holding-run, holding-
 use Rattle.choosing.specs.declared.Chosen.{Chosen}
 use Rattle.choosing.specs.declared.Chosen.the-variants.{Nobody, Link}
 use Rattle.choosing.specs.declared.ChosenDelivery.{ChosenDelivery}
-use Rattle.choosing.specs.Memory.{mostBacklog, memorySize, backlogAt, Remembers}
-use Rattle.choosing.specs.Noting.{noted}
+use Rattle.choosing.specs.Memory.{Remembers}
+use Rattle.choosing.specs.Noting.{MarkedAt, Turns, notedMarks}
 use Rattle.choosing.specs.Answers.{chosenOf, chosenAnswer, nextOf}
-use Rattle.choosing.specs.SpreadLaws.{probesSent-few}
-use Rattle.choosing.specs.MemoryLaws.{remembers-few, remembers-some}
 use Rattle.choosing.specs.NotedLaws.{remembers-noted}
 use Rattle.choosing.specs.AnswerLaws.{chosenOf-nobody, chosenOf-link, deliverOn-nobody, deliverOn-pair, chosenAnswer-refused, chosenAnswer-delivered}
 
@@ -127,43 +126,50 @@ module _ {w : List ℤ} {sq : List ℕ} {n m : ℕ} (y : Ready w sq n m) {l : Li
     this : nextOf (runIn w) ≡ deliverAt (runIn w) a b 1
     this = deliverOn-pair (runIn w) a b chosen
 
-    -- o is the prepared delivery
-    module _ {o : Prepared} (f : o ≡ preparedOf (runIn w) a b 1 (runIn w .link a b)) where
-      pub left-refused : {k : ℕ} → o ≡ Prepared.Refused k → Left w sq n m (ChosenDelivery.Refused k) w l
+    -- what the delivery has told, and the area that it has left
+    module _ {o : Told} {v : List ℤ} (f : (o ≡ toldAt (runIn w) a b 1) × (v ≡ keeping w (deliverAt (runIn w) a b 1 .run))) where
+      pub left-refused : {k : ℕ} → o ≡ Told.Refused k → Left w sq n m (ChosenDelivery.Refused k) v l
       left-refused {k} e =
-          let p : nextOf (runIn w) ≡ refused k (runIn w) = this ∙ refused-of (runIn w) a b 1 k (runIn w .link a b) (sym f ∙ e) in
-          left-same p (refused-answer (pair a b) chosen p)
+          let q = told-refused (runIn w) a b 1 k (sym (f .0) ∙ e) in
+          let same : v ≡ w = f .1 ∙ ap (λ (o : Picked). keeping w (o .run)) q ∙ sym (holding-first y .is) in
+          let p : nextOf (runIn w) ≡ refused k (runIn w) = this ∙ q in
+          rw same (left-same p (refused-answer (pair a b) chosen p))
 
-      module _ {s : Message} {x : Process} {p : Probes} {z : Reply} {k : ℕ} (e : o ≡ Go s x p z k) where
-        going : Going (runIn w) n a b 1 s x p z k
-        going = going-of y a b 1 joined (sym f ∙ e)
+      kept : v ≡ keeping w (nextOf (runIn w) .run)
+      kept = f .1 ∙ ap (λ (o : Picked). keeping w (o .run)) (sym this)
+
+      holds : Holding w v (nextOf (runIn w) .run)
+      holds = holding-next-of y (holding-first y) kept
+
+      module _ {s : Message} {p : Probes} {z : Reply} (e : o ≡ Told.Delivered s p z) where
+        gone : (x : Process) × Going (runIn w) n a b 1 s x p z
+        gone = told-going y a b 1 joined (sym (f .0) ∙ e)
 
         pub note-asks
-            : (length l ≡ memorySize)
-            × (((a ≤ mostProcesses) × (1 ≤ getD l (backlogAt a) 0)) × ((b ≤ mostProcesses) × (getD l (backlogAt b) 0 ≤ mostBacklog) × (k ≤ mostProcesses)))
+            : Ready v sq n m
+            × ((IsProcess n a × IsProcess n b) × (((q : ℕ) (c : TwoCounts) → z ≡ To q c → IsProcess mostProcesses q) × MarkedAt l a b))
         note-asks =
             let q = lowest-pair (runIn w) chosen in
-            let few : runIn w .waits .n ≤ mostProcesses = sound .few in
-            let put : k ≤ mostProcesses = omega (arith, going .sent, probesSent-few (runIn w .waits) b p) in
-            let small : getD l (backlogAt b) 0 ≤ mostBacklog = omega (arith, remembers-few w h b (q .1 .0) (q .1 .1)) in
-            (h .long, ((omega (arith, q .0), remembers-some h a b (q .0) (q .1) (q .2)), (omega (arith, q .1), small, put)))
+            let is = ready-n y in (
+              holding-ready y holds,
+              (((q .0 .0, omega (arith, q .0, is)), (q .1 .0, omega (arith, q .1, is))), (to, (λ x u. waiting (runIn w .link x u), h, q .2))),
+            )
+          where
+            to : (q : ℕ) (c : TwoCounts) → z ≡ To q c → IsProcess mostProcesses q
+            to q c i =
+                let ends = neighbours-ends (runIn w .waits) sound b q (gone .1 .carried .replied q c i) in
+                (ends .2, omega (arith, ends .3, sound .few))
 
-        pub carry-asks : Ready w sq n m × Carried (runIn w) a b 1 x p z
-        carry-asks = (y, going .carried)
+        -- the run in the area
+        now-run : runIn v ≡ carriedOut (runIn w) a b 1 (gone .0) p z
+        now-run = holding-run y holds ∙ ap (λ (o : Picked). o .run) this ∙ gone .1 .run
 
-        -- what is remembered, and the area after it
-        pub left-delivered
-            : {j : List ℕ} {v : List ℤ}
-            → j ≡ noted l a b z k
-            → v ≡ keeping w (carriedOut (runIn w) a b 1 x p z)
-            → Left w sq n m (ChosenDelivery.Delivered a b s) v j
-        left-delivered {j} {v} t u =
-            let run : nextOf (runIn w) .run ≡ carriedOut (runIn w) a b 1 x p z = ap (λ (o : Picked). o .run) this ∙ going .run in
-            let kept : v ≡ keeping w (nextOf (runIn w) .run) = u ∙ ap (keeping w) (sym run) in
-            let holds = holding-next-of y (holding-first y) kept in
-            let now-run : runIn v ≡ carriedOut (runIn w) a b 1 x p z = holding-run y holds ∙ run in
-            let after = remembers-noted (runIn w) sound chosen h x p z (going .carried) k (going .sent) in
-            let says : nextOf (runIn w) .answer ≡ Delivered s = ap (λ (o : Picked). o .answer) this ∙ going .answer in
+        -- what is remembered of it
+        pub left-delivered : {j : List ℕ} → Turns l (notedMarks (runIn v) a b p z) j → Left w sq n m (ChosenDelivery.Delivered a b s) v j
+        left-delivered {j} t =
+            let noted = subst (λ (r : Run). Turns l (notedMarks r a b p z) j) now-run t in
+            let after = remembers-noted (runIn w) sound a b (gone .0) p z (gone .1 .carried) h noted in
+            let says : nextOf (runIn w) .answer ≡ Delivered s = ap (λ (o : Picked). o .answer) this ∙ gone .1 .answer in
             let told : chosenAnswer (lowest (runIn w)) (nextOf (runIn w) .answer) ≡ ChosenDelivery.Delivered a b s =
             ap (chosenAnswer (lowest (runIn w))) says ∙ ap (λ (d : Selection). chosenAnswer d (Delivered s)) chosen in
-            (sym told, (kept, (rw (now-run, t) after, holding-ready y holds)))
+            (sym told, (kept, (rw now-run after, holding-ready y holds)))

@@ -1,7 +1,7 @@
 -- What the code answers for a choice and for the delivery on it, whatever the order; and the delivery in the fixed order.
 --   chosenOf c          == the answer for a choice: its link, or nobody
 --   chosenAnswer c d    == the answer of the delivery d on the choice c: the message with its link, or the number of the refusal
---   nextOf r            == the delivery "lowest sender first and then lowest receiver among links with a message"
+--   nextOf r            == the delivery in the fixed order, "lowest receiver first and then lowest sender" (02, N11)
 -- Assumes nothing.
 use Rattle.checks.specs.declared.Delivery.{Delivery}
 use Rattle.checks.specs.Run.{Run}

@@ -1,16 +1,16 @@
--- The fixed order of running on, on a tested area. What a reader must believe: Memory (what is remembered of a run between deliveries) and
--- Answers (what the code answers for a choice and a delivery). How the code comes by it: Filling (arc by arc) and Noting (how it follows a
--- delivery). Laws: SenderLaws and SpreadLaws (which links each part of a delivery changes), ArcLaws (a backlog, arc by arc), FillLaws,
--- OrderLaws (how the first link with a message is found), MemoryLaws, NotedLaws and AnswerLaws.
+-- The fixed order of running on, on a tested area. What a reader must believe: Digits (a set as the digits of a word), Memory (what is remembered of
+-- a run between deliveries) and Answers (what the code answers for a choice and a delivery). How the code comes by it: Sets (how it changes the
+-- array) and Noting (how what is remembered follows a delivery, and how it is filled). Laws: DigitLaws, SetLaws, MarkLaws, OrderLaws (how the
+-- first link with a message is found), NotedLaws, FillLaws and AnswerLaws.
+pub mod Digits
 pub mod Memory
 pub mod Answers
-pub mod Filling
+pub mod Sets
 pub mod Noting
-pub mod SenderLaws
-pub mod SpreadLaws
-pub mod ArcLaws
-pub mod FillLaws
+pub mod DigitLaws
+pub mod SetLaws
+pub mod MarkLaws
 pub mod OrderLaws
-pub mod MemoryLaws
 pub mod NotedLaws
+pub mod FillLaws
 pub mod AnswerLaws

@@ -1,51 +1,56 @@
--- What the fixed order remembers of a run from one delivery to the next: an array of numbers, three for each process. Index 0 stands for
--- no process: its bound is one of senders.
---   backlogOf r a     == how many messages wait on all links from a
---   mostBacklog       == how many these may be: as many as a link holds, for each receiver
---   memorySize        == how many numbers: three for each process, and for 0
---   backlogAt a       == where the array holds a's backlog
---   boundAt a         == .. the bound of a's receivers: nothing waits from a for a process below it; at 0, nothing waits from one below it
---   nearestAt a       == .. the bound of a's neighbours: none is below it
---   Remembers r l     == the array l holds all this of the run r
+-- What the order remembers of a run from one delivery to the next, whatever the order: which links hold a message, and how many to each
+-- receiver. An array of numbers, three for each process and for 0: a count, and two words for a set of processes, a digit for each process.
+--   memorySize             == how many numbers
+--   wordDigits             == how many processes a word has digits for
+--   countAt b              == where the array holds b's count: how many links to b hold a message
+--   setAt j                == .. the two words of the set j: for a process, from whom a message waits for it; for 0, for whom one waits at all
+--   wordAt j p, digitOf p  == which word of the set j has p's digit, and which digit that is
+--   SetIs l j S            == the set j of the array l holds exactly the processes that pass S
+--   Marks held l           == the array l holds which pairs pass the test held, from a sender to a receiver
+--   Remembers r l          == .. namely the links of the run r that hold a message
 -- Assumes nothing.
-use Prim.Native.Nat.{ℕ, _+_, _*_, _≤_, _<_}
-use mathlib.Core.Bool.{true}
-use mathlib.Core.List.{List, []}
+use Prim.Native.Nat.{ℕ, _+_, _-_, _*_, _/_, _%_, _≤_}
+use mathlib.Core.Bool.{Bool, not}
+use mathlib.Core.List.{List}
 use mathlib.Core.Path.{_≡_}
+use lib.Dec.{eqb}
 use lib.ListN.{length, getD}
-use Rattle.base.specs.Sums.{sumTo}
-use Rattle.tables.specs.Waits.{neighbours}
-use Rattle.tables.specs.Table.{mostProcesses}
+use Rattle.base.specs.Sums.{countTo}
+use Rattle.tables.specs.Table.{mostProcesses, IsProcess}
 use Rattle.tables.specs.Pairs.{squareSide}
+use Rattle.machine.specs.Calls.{waiting}
 use Rattle.checks.specs.Run.{Run}
-use Rattle.areas.specs.Used.{linkSlots}
-
--- the messages that a sender has waiting, link by link
-unfoldable pub backlogOf : Run → ℕ → ℕ
-backlogOf r a = sumTo (r .waits .n) (λ b. length (r .link a b))
-
-abbrev pub mostBacklog : ℕ
-mostBacklog = linkSlots * mostProcesses
+use Rattle.choosing.specs.Digits.{digits}
 
 abbrev pub memorySize : ℕ
 memorySize = 3 * squareSide
 
-abbrev pub backlogAt : ℕ → ℕ
-backlogAt a = a
+abbrev pub wordDigits : ℕ
+wordDigits = 64
 
-abbrev pub boundAt : ℕ → ℕ
-boundAt a = squareSide + a
+abbrev pub countAt : ℕ → ℕ
+countAt b = b
 
-abbrev pub nearestAt : ℕ → ℕ
-nearestAt a = 2 * squareSide + a
+abbrev pub setAt : ℕ → ℕ
+setAt j = squareSide + 2 * j
 
--- a bound may stand one past the last process, where nothing waits
-pub record Remembers (r : Run) (l : List ℕ) : Type 0 where
+-- the first 64 processes in the first word, the others in the second
+abbrev pub wordAt : ℕ → ℕ → ℕ
+wordAt j p = setAt j + (p - 1) / wordDigits
+
+abbrev pub digitOf : ℕ → ℕ
+digitOf p = (p - 1) % wordDigits
+
+-- word h of the set holds the processes from 64 h + 1 on
+pub record SetIs (l : List ℕ) (j : ℕ) (S : ℕ → Bool) : Type 0 where
+  pub words : (h : ℕ) → h ≤ 1 → getD l (setAt j + h) 0 ≡ digits wordDigits (λ i. S (wordDigits * h + i + 1))
+
+pub record Marks (held : ℕ → ℕ → Bool) (l : List ℕ) : Type 0 where
   pub long : length l ≡ memorySize
-  pub backlogs : (a : ℕ) → 1 ≤ a → a ≤ r .waits .n → getD l (backlogAt a) 0 ≡ backlogOf r a
-  pub least : (1 ≤ getD l (boundAt 0) 0) × (getD l (boundAt 0) 0 ≤ r .waits .n + 1)
-  pub firsts : (a : ℕ) → 1 ≤ a → a ≤ r .waits .n → (1 ≤ getD l (boundAt a) 0) × (getD l (boundAt a) 0 ≤ r .waits .n + 1)
-  pub senders : (a b : ℕ) → 1 ≤ a → a ≤ r .waits .n → a < getD l (boundAt 0) 0 → 1 ≤ b → b ≤ r .waits .n → r .link a b ≡ []
-  pub receivers : (a b : ℕ) → 1 ≤ a → a ≤ r .waits .n → 1 ≤ b → b ≤ r .waits .n → b < getD l (boundAt a) 0 → r .link a b ≡ []
-  pub near : (a : ℕ) → 1 ≤ a → a ≤ r .waits .n → 1 ≤ getD l (nearestAt a) 0
-  pub nearest : (a b : ℕ) → neighbours (r .waits) a b ≡ true → getD l (nearestAt a) 0 ≤ b
+  pub counts : (b : ℕ) → IsProcess mostProcesses b → getD l (countAt b) 0 ≡ countTo mostProcesses (λ a. held a b)
+  pub receivers : SetIs l 0 (λ b. not (eqb (getD l (countAt b) 0) 0))
+  pub senders : (b : ℕ) → IsProcess mostProcesses b → SetIs l b (λ a. held a b)
+
+-- between processes alone do messages wait, so that all numbers that a process may have are counted
+abbrev pub Remembers : Run → List ℕ → Type 0
+Remembers r l = Marks (λ a b. waiting (r .link a b)) l

@@ -1,215 +1,169 @@
--- What is remembered follows a delivery of the first message of all.
---   remembers-noted    == the array that the code keeps is what is to be remembered after the delivery
+-- What is remembered follows a delivery of the oldest message from a to b.
+--   sent-turned        == one process more to whom b has sent a message
+--   remembers-noted    == the marks that the code makes are what is to be remembered after the delivery
 -- Assumes nothing.
-use Prim.Native.Nat.{ℕ, _+_, _-_, _≤_, _<_, min}
-use mathlib.Core.Bool.{false, false≢true}
-use mathlib.Core.List.{List, [], _∷_}
-use mathlib.Core.Path.{_≡_, refl, sym, _∙_}
-use mathlib.Core.Logic.{_⊎_, inl, inr}
+use Prim.Native.Nat.{ℕ, _+_}
+use mathlib.Core.Bool.{Bool, true, false, _&&_, _||_}
+use mathlib.Core.List.{List, [], _∷_, _++_}
+use mathlib.Core.Path.{_≡_, refl, sym, ap, _∙_}
 use native.Mathlib.Omega.{arith}
+use borrow.Author.Tests.{eq-eqb, ne-eqb}
 use lib.Dec.{eqb}
-use lib.ListN.{getD, set, length-set}
-use lib.Seq.{getD-set-same, set-getD}
+use Rattle.machine.specs.Machine.{taken}
 use Rattle.base.specs.Choice.{choose}
-use Rattle.base.specs.ChoiceLaws.{tested, same?}
-use Rattle.base.specs.Checks.{Tested, passed, failed, Same, same, apart}
+use Rattle.base.specs.ChoiceLaws.{same?}
+use Rattle.base.specs.Checks.{Same, same, apart}
 use Rattle.tables.specs.Sound.{Sound}
-use Rattle.tables.specs.Waits.{neighbours}
-use Rattle.tables.specs.WaitsLaws.{neighbours-ends}
+use Rattle.tables.specs.Waits.{Waits}
 use Rattle.steps.specs.declared.Message.{Message}
 use Rattle.steps.specs.declared.Process.{Process}
 use Rattle.steps.specs.declared.Probes.{Probes}
+use Rattle.steps.specs.declared.Probes.the-variants.{Sucs, Pres}
 use Rattle.steps.specs.declared.Reply.{Reply}
 use Rattle.steps.specs.declared.Reply.the-variants.{To}
-use Rattle.checks.specs.Run.{Run}
-use Rattle.tables.specs.Table.{mostProcesses, IsProcess}
-use Rattle.machine.specs.Calls.{pair, waiting, lowest}
-use Rattle.machine.specs.ChooserLaws.{lowest-pair, lowest-first}
+use Rattle.machine.specs.Calls.{waiting}
+use Rattle.machine.specs.ChooserLaws.{waiting-some}
+use Rattle.machine.specs.Among.{Here}
+use Rattle.machine.specs.AmongLaws.{atPlace-here}
+use Rattle.checks.specs.Run.{Run, one, replyTo, probesTo}
+use Rattle.areas.specs.Replaced.{putProcess, putLink, putCount}
 use Rattle.lenses.specs.Changes.{answered}
-use Rattle.delivery.specs.Delivering.{spreadBy, carriedOut, Carried, probesSent, changed}
-use Rattle.choosing.specs.Memory.{backlogOf, backlogAt, boundAt, nearestAt, Remembers}
-use Rattle.choosing.specs.Noting.{renewed, notedTaken, notedReply, notedProbes, noted, LinksFrom, spread}
-use Rattle.choosing.specs.SenderLaws.{taken-from, taken-empty, taken-backlog, replied-from, replied-other, replied-backlog}
-use Rattle.choosing.specs.SpreadLaws.{spread-from, spread-none, spread-far, spread-backlog}
-use Rattle.choosing.specs.MemoryLaws.{renewed-least, remembers-renewed}
+use Rattle.delivery.specs.Delivering.{replyGoes, changed, carriedOut, Carried}
+use Rattle.delivery.specs.DeliveryLaws.{relinked-waits, answered-relinked, spreadBy-relinked, carried-link}
+use Rattle.choosing.specs.Memory.{Remembers}
+use Rattle.choosing.specs.Sets.{turned}
+use Rattle.choosing.specs.Noting.{Turns, takenMarks, sentMarks, goesTo, notedMarks}
+use Rattle.choosing.specs.MarkLaws.{marks-cong}
 
--- ---- nothing waits before the first link with a message
+-- ---- marks
 
-none-waits : (ms : List Message) → waiting ms ≡ false → ms ≡ []
-none-waits [] e = refl
-none-waits (m ∷ ms) e = absurd (false≢true (sym e))
+-- who is marked by b and by p
+pub sent-turned : (held : ℕ → ℕ → Bool) (b p : ℕ) (x y : ℕ) → turned held b p true x y ≡ sentMarks held b (λ q. eqb p q) x y
+sent-turned held b p x y = at (same? x b) (same? y p)
+  where
+    ends : (h : Bool) → true ≡ (h || true)
+    ends true = refl
+    ends false = refl
 
-module _ (r : Run) {a b : ℕ} (e : lowest r ≡ pair a b) where
-  first-none : (x y : ℕ) → IsProcess (r .waits .n) x → IsProcess (r .waits .n) y → ((a < x) ⊎ ((x ≡ a) × (b ≤ y)) → ⊥) → r .link x y ≡ []
-  first-none x y p q h = at (tested (waiting (r .link x y)))
+    stays : (h : Bool) → h ≡ (h || false)
+    stays true = refl
+    stays false = refl
+
+    at : Same x b → Same y p → choose (eqb x b && eqb y p) true (held x y) ≡ (held x y || (eqb x b && eqb p y))
+    at (same e f) (same g h) = rw (f, h, eq-eqb p y (sym g)) (ends (held x y))
+    at (same e f) (apart g h) = rw (f, h, ne-eqb p y (λ q. g (sym q))) (stays (held x y))
+    at (apart e f) _ = rw f (stays (held x y))
+
+-- ---- messages
+
+waiting-append : (xs ys : List Message) → waiting (xs ++ ys) ≡ (waiting xs || waiting ys)
+waiting-append [] ys = refl
+waiting-append (x ∷ xs) ys = refl
+
+waiting-one : (t : Bool) (m : Message) → waiting (one t m) ≡ t
+waiting-one true m = refl
+waiting-one false m = refl
+
+eqb-turned : (x y : ℕ) → eqb x y ≡ eqb y x
+eqb-turned x y = at (same? x y)
+  where
+    at : Same x y → eqb x y ≡ eqb y x
+    at (same e f) = f ∙ sym (eq-eqb y x (sym e))
+    at (apart e f) = f ∙ sym (ne-eqb y x (λ q. e (sym q)))
+
+waiting-reply : (z : Reply) (q : ℕ) → waiting (replyTo z q) ≡ replyGoes z q
+unfolding replyTo
+waiting-reply Reply.Nothing q = refl
+waiting-reply (To p c) q = waiting-one (eqb q p) _ ∙ eqb-turned q p
+
+waiting-probes : (w : Waits) (b : ℕ) (y : Probes) (q : ℕ) → waiting (probesTo w b y q) ≡ goesTo w y b q
+unfolding probesTo
+waiting-probes w b Probes.Nothing q = refl
+waiting-probes w b Sucs q = waiting-one (w .waits b q) _
+waiting-probes w b Pres q = waiting-one (w .waits q b) _
+
+-- ---- the delivery
+
+-- sent after what stood there, or not sent
+sent-waiting : (t : Bool) (k p q : List Message) {i j l : Bool} → waiting k ≡ i → waiting p ≡ j → waiting q ≡ l
+    → waiting (choose t (k ++ (p ++ q)) k) ≡ ((i || (t && j)) || (t && l))
+sent-waiting t k p q {i} {j} {l} e f g = at t
+  where
+    both : (u v w : Bool) → (u || (v || w)) ≡ ((u || v) || w)
+    both true v w = refl
+    both false v w = refl
+
+    none : (u : Bool) → u ≡ ((u || false) || false)
+    none true = refl
+    none false = refl
+
+    at : (t : Bool) → waiting (choose t (k ++ (p ++ q)) k) ≡ ((i || (t && j)) || (t && l))
+    at true = waiting-append k (p ++ q) ∙ ap (λ (u : Bool). waiting k || u) (waiting-append p q) ∙ rw (e, f, g) (both i j l)
+    at false = e ∙ none i
+
+-- what was sent on the link itself counts once
+sent-twice : (i j l : Bool) → ((i || j) || l) ≡ ((((i || j) || l) || j) || l)
+sent-twice true j l = refl
+sent-twice false true l = refl
+sent-twice false false true = refl
+sent-twice false false false = refl
+
+module _ (r : Run) (s : Sound (r .waits)) (a b : ℕ) (x : Process) (y : Probes) (z : Reply) (k : Carried r a b 1 x y z) where
+  here : Here 1 (r .link a b)
+  here = atPlace-here 1 (r .link a b) (k .placed .0) (k .placed .1)
+
+  -- which links hold a message, and the run after the delivery
+  abbrev held : ℕ → ℕ → Bool
+  held u v = waiting (r .link u v)
+
+  abbrev end : Run
+  end = carriedOut r a b 1 x y z
+
+  end-waits : end .waits ≡ r .waits
+  unfolding carriedOut putCount putProcess putLink
+  end-waits = relinked-waits (spreadBy-relinked y (answered (changed r a b 1 x) b z) b) ∙ relinked-waits (answered-relinked (changed r a b 1 x) b z)
+
+  -- what waits on a link by what stayed there
+  end-link : (u v : ℕ) {i : Bool} → waiting (taken r a b (here .rest) u v) ≡ i
+      → waiting (end .link u v) ≡ ((i || (eqb u b && replyGoes z v)) || (eqb u b && goesTo (end .waits) y b v))
+  unfolding carriedOut putCount
+  end-link u v e =
+      ap (λ (ms : List Message). waiting ms) (carried-link r s a b 1 (here .message) (here .rest) (here .is) x y z u v)
+      ∙ sent-waiting (eqb u b) (taken r a b (here .rest) u v) (replyTo z v) (probesTo (r .waits) b y v) e (waiting-reply z v)
+      (waiting-probes (r .waits) b y v ∙ ap (λ (w : Waits). goesTo w y b v) (sym end-waits))
+
+  -- the mark of the link itself, and of another
+  mark-here : (t : Bool) → takenMarks t a b held a b ≡ t
+  mark-here true = waiting-some (r .link a b) (λ e. absurd (omega (arith, k .placed)))
+  mark-here false = rw (eq-eqb a a refl, eq-eqb b b refl)
+
+  mark-other : (t : Bool) (u v : ℕ) → (eqb u a && eqb v b) ≡ false → takenMarks t a b held u v ≡ held u v
+  mark-other true u v e = refl
+  mark-other false u v e = rw e
+
+  -- what b has sent to v, if it is u
+  abbrev sent : ℕ → ℕ → Bool → Bool
+  sent u v i = (i || (eqb u b && replyGoes z v)) || (eqb u b && goesTo (end .waits) y b v)
+
+  noted-other : (u v : ℕ) → (eqb u a && eqb v b) ≡ false → waiting (end .link u v) ≡ notedMarks end a b y z held u v
+  unfolding taken
+  noted-other u v e =
+      end-link u v (ap (λ (c : Bool). waiting (choose c (here .rest) (r .link u v))) e) ∙ ap (sent u v) (sym (mark-other (waiting (end .link a b)) u v e))
+
+  noted-here : waiting (end .link a b) ≡ notedMarks end a b y z held a b
+  noted-here =
+      let i : Bool = waiting (taken r a b (here .rest) a b) in
+      let w : waiting (end .link a b) ≡ sent a b i = end-link a b refl in
+      w ∙ sent-twice i (eqb a b && replyGoes z b) (eqb a b && goesTo (end .waits) y b b) ∙ ap (sent a b) (sym w)
+      ∙ ap (sent a b) (sym (mark-here (waiting (end .link a b))))
+
+  noted-link : (u v : ℕ) → waiting (end .link u v) ≡ notedMarks end a b y z held u v
+  noted-link u v = at (same? u a) (same? v b)
     where
-      at : Tested (waiting (r .link x y)) → r .link x y ≡ []
-      at (failed g) = none-waits (r .link x y) g
-      at (passed g) = absurd (h (lowest-first r e x y p q g))
+      at : Same u a → Same v b → waiting (end .link u v) ≡ notedMarks end a b y z held u v
+      at (same e f) (same g h) = rw (e, g) noted-here
+      at (same e f) (apart g h) = noted-other u v (rw (f, h))
+      at (apart e f) _ = noted-other u v (rw f)
 
-  before-none : (x y : ℕ) → IsProcess (r .waits .n) x → IsProcess (r .waits .n) y → x < a → r .link x y ≡ []
-  before-none x y p q h = first-none x y p q no-way
-    where
-      no-way : (a < x) ⊎ ((x ≡ a) × (b ≤ y)) → ⊥
-      no-way (inl i) = omega arith
-      no-way (inr i) = omega arith
-
-  beside-none : (y : ℕ) → IsProcess (r .waits .n) y → y < b → r .link a y ≡ []
-  beside-none y q h = first-none a y (lowest-pair r e .0) q no-way
-    where
-      no-way : (a < a) ⊎ ((a ≡ a) × (b ≤ y)) → ⊥
-      no-way (inl i) = omega arith
-      no-way (inr i) = omega arith
-
--- ---- a delivery
-
-module _ (r : Run) (s : Sound (r .waits)) {a b : ℕ} (e : lowest r ≡ pair a b) {l : List ℕ} (h : Remembers r l) (x : Process) (y : Probes) (z : Reply)
-    (k : Carried r a b 1 x y z) where
-  sender : IsProcess (r .waits .n) a
-  sender = lowest-pair r e .0
-
-  receiver : IsProcess (r .waits .n) b
-  receiver = lowest-pair r e .1
-
-  -- what is remembered between two parts of the delivery: b is not below the bound of senders
-  abbrev Between : Run → List ℕ → Type 0
-  Between q j = Remembers q j × ((q .waits ≡ r .waits) × (getD j (boundAt 0) 0 ≤ b))
-
-  between-taken : Between (changed r a b 1 x) (notedTaken l a b)
-  unfolding notedTaken
-  between-taken =
-      let here = getD-set-same (renewed l a left b) (boundAt 0) (min a b) 0 (simp length-set (omega (arith, h .long))) in
-      (remembers-renewed (taken-from r a b 1 x) h sender (s .few) left b (min a b) is bound least beside before, (taken-from r a b 1 x .waits, omega arith))
-    where
-      left : ℕ
-      left = getD l (backlogAt a) 0 - 1
-
-      is : left ≡ backlogOf (changed r a b 1 x) a
-      is =
-          let t = taken-backlog r a b 1 x (k .placed) (receiver .0) (receiver .1) in
-          omega (arith, t, h .backlogs a (sender .0) (sender .1))
-
-      bound : (1 ≤ b) × (b ≤ r .waits .n + 1)
-      bound = omega (arith, receiver)
-
-      least : (1 ≤ min a b) × (min a b ≤ r .waits .n + 1)
-      least = omega (arith, sender, receiver)
-
-      beside : (v : ℕ) → 1 ≤ v → v ≤ r .waits .n → v < b → changed r a b 1 x .link a v ≡ []
-      beside v lo hi u = taken-empty r a b 1 x a v (beside-none r e v (lo, hi) u)
-
-      before : (u v : ℕ) → 1 ≤ u → u ≤ r .waits .n → u < min a b → 1 ≤ v → v ≤ r .waits .n → changed r a b 1 x .link u v ≡ []
-      before u v lo hi i lv uv = taken-empty r a b 1 x u v (before-none r e u v (lo, hi) (lv, uv) (omega arith))
-
-  -- one more part: b's backlog is v, and below u its links are as they were
-  module _ {q t : Run} {j : List ℕ} (g : Between q j) (d : LinksFrom q t b) (v u : ℕ) where
-    there : IsProcess (q .waits .n) b
-    there = rw (g .1 .0) receiver
-
-    few-there : q .waits .n ≤ mostProcesses
-    few-there = rw (g .1 .0) (s .few)
-
-    between-more
-        : v ≡ backlogOf t b
-        → 1 ≤ u
-        → u ≤ getD j (boundAt b) 0
-        → ((y : ℕ) → 1 ≤ y → y ≤ q .waits .n → y < u → t .link b y ≡ q .link b y)
-        → Between t (renewed j b v u)
-    between-more is lu uu f =
-        (rw (set-getD (renewed j b v u) (boundAt 0) 0) at whole, (d .waits ∙ g .1 .0, omega (arith, least-is, g .1 .1)))
-      where
-        least-is : getD (renewed j b v u) (boundAt 0) 0 ≡ getD j (boundAt 0) 0
-        least-is = renewed-least j (g .0 .long) b v u (omega (arith, there, few-there)) (there .0)
-
-        below : (y : ℕ) → 1 ≤ y → y ≤ q .waits .n → y < u → t .link b y ≡ []
-        below y lo hi i = f y lo hi i ∙ g .0 .receivers b y (there .0) (there .1) lo hi (omega arith)
-
-        before : (x y : ℕ) → 1 ≤ x → x ≤ q .waits .n → x < getD (renewed j b v u) (boundAt 0) 0 → 1 ≤ y → y ≤ q .waits .n → t .link x y ≡ []
-        before x y lo hi i ly uy =
-            d .others x y (λ o. absurd (omega (arith, least-is, g .1 .1))) ∙ g .0 .senders x y lo hi (omega (arith, least-is)) ly uy
-
-        bound : (1 ≤ u) × (u ≤ q .waits .n + 1)
-        bound = omega (arith, g .0 .firsts b (there .0) (there .1))
-
-        least : (1 ≤ getD (renewed j b v u) (boundAt 0) 0) × (getD (renewed j b v u) (boundAt 0) 0 ≤ q .waits .n + 1)
-        least = omega (arith, least-is, g .0 .least)
-
-        whole : Remembers t (set (renewed j b v u) (boundAt 0) (getD (renewed j b v u) (boundAt 0) 0))
-        whole = remembers-renewed d (g .0) there few-there v u (getD (renewed j b v u) (boundAt 0) 0) is bound least below before
-
-  -- b's backlog and bound before a part
-  module _ {q : Run} {j : List ℕ} (g : Between q j) where
-    backlog-at : getD j (backlogAt b) 0 ≡ backlogOf q b
-    backlog-at = g .0 .backlogs b (receiver .0) (rw (g .1 .0) (receiver .1))
-
-    bound-at : 1 ≤ getD j (boundAt b) 0
-    bound-at = g .0 .firsts b (receiver .0) (rw (g .1 .0) (receiver .1)) .0
-
-  between-replied : Between (answered (changed r a b 1 x) b z) (notedReply (notedTaken l a b) b z)
-  unfolding notedReply answered
-  between-replied = at z refl
-    where
-      at : (v : Reply) → z ≡ v → Between (answered (changed r a b 1 x) b v) (notedReply (notedTaken l a b) b v)
-      at Reply.Nothing i = between-taken
-      at (To p c) i =
-          let n = neighbours-ends (r .waits) s b p (k .replied p c i) in
-          let q = changed r a b 1 x in
-          let j = notedTaken l a b in
-          let t = replied-backlog q b p c (n .2) (rw (taken-from r a b 1 x .waits) (n .3)) in
-          let d = replied-from q b (To p c) in
-          let low : 1 ≤ min p (getD j (boundAt b) 0) = omega (arith, n, bound-at between-taken) in
-          let is : getD j (backlogAt b) 0 + 1 ≡ backlogOf (answered q b (To p c)) b = omega (arith, t, backlog-at between-taken) in
-          let more = between-more between-taken d (getD j (backlogAt b) 0 + 1) (min p (getD j (boundAt b) 0)) is low (omega arith) in
-          more (λ v _ _ u. replied-other q b p c v (λ f. absurd (omega arith)))
-
-  pub remembers-noted : (i : ℕ) → i ≡ probesSent (r .waits) b y → Remembers (carriedOut r a b 1 x y z) (noted l a b z i)
-  unfolding notedProbes carriedOut
-  remembers-noted i f = at (same? i 0)
-    where
-      q : Run
-      q = answered (changed r a b 1 x) b z
-
-      j : List ℕ
-      j = notedReply (notedTaken l a b) b z
-
-      w : Sound (q .waits)
-      w = rw (between-replied .1 .0) s
-
-      c : ℕ
-      c = spreadBy y q b .count + 1
-
-      is : backlogOf (spread y q b c) b ≡ getD j (backlogAt b) 0 + i
-      is =
-          let t = spread-backlog y q w b c in
-          let v : i ≡ probesSent (q .waits) b y = rw (between-replied .1 .0) f in
-          omega (arith, t, v, backlog-at between-replied)
-
-      by
-          : (v u : ℕ) → v ≡ backlogOf (spread y q b c) b → 1 ≤ u → u ≤ getD j (boundAt b) 0
-          → ((o : ℕ) → 1 ≤ o → o ≤ q .waits .n → o < u → spread y q b c .link b o ≡ q .link b o)
-          → Remembers (spread y q b c) (renewed j b v u)
-      by v u o lo hi g = between-more between-replied (spread-from y q w b c) v u o lo hi g .0
-
-      low-nearest : 1 ≤ getD j (nearestAt b) 0
-      low-nearest = between-replied .0 .near b (receiver .0) (rw (between-replied .1 .0) (receiver .1))
-
-      -- who is below the bound of b's neighbours is none
-      far : (o : ℕ) → o < getD j (nearestAt b) 0 → Tested (neighbours (q .waits) b o) → spread y q b c .link b o ≡ q .link b o
-      far o u (failed t) = spread-far y q w b c o t
-      far o u (passed t) = absurd (omega (arith, between-replied .0 .nearest b o t))
-
-      old : ℕ
-      old = getD j (boundAt b) 0
-
-      new : ℕ
-      new = min old (getD j (nearestAt b) 0)
-
-      at : Same i 0 → Remembers (spread y q b c) (choose (eqb i 0) j (renewed j b (getD j (backlogAt b) 0 + i) new))
-      at (same g t) =
-          let none : probesSent (q .waits) b y ≡ 0 = rw (between-replied .1 .0) (sym f ∙ g) in
-          let more = by (getD j (backlogAt b) 0) old (omega (arith, is)) (bound-at between-replied) (omega arith) in
-          let whole = more (λ v lo hi _. spread-none y q w b c none v lo hi) in
-          rw t (rw (set-getD j (backlogAt b) 0, set-getD j (boundAt b) 0) at whole)
-      at (apart g t) =
-          let low : 1 ≤ new = omega (arith, bound-at between-replied, low-nearest) in
-          rw t (by (getD j (backlogAt b) 0 + i) new (sym is) low (omega arith) (λ o lo hi u. far o (omega arith) (tested (neighbours (q .waits) b o))))
+  pub remembers-noted : {l j : List ℕ} → Remembers r l → Turns l (notedMarks end a b y z) j → Remembers end j
+  remembers-noted h t = marks-cong (t held h) (λ u v _ _. sym (noted-link u v))

@@ -1,52 +1,61 @@
--- How what is remembered follows a delivery of the first message of all in the fixed order, from a to b.
---   renewed l p v u     == the array l with v as p's backlog and u as the bound of its receivers
---   notedTaken l a b    == the array once the message is off its link
---   notedReply l b z    == .. once b has acknowledged
---   notedProbes l b k   == .. once b has sent so many probes
---   noted l a b z k     == .. after the whole delivery
---   LinksFrom r q b     == of its links, the run q differs from r at most in those from b
---   spread y r b c      == the run once b has sent its probes, and the count of deliveries is c
+-- How what is remembered follows a delivery from a to b that was made, part by part; and how it is filled.
+--   Marked l, MarkedAt l a b == the array l holds some marks; and that of the link from a to b
+--   Turns l f k              == whatever marks the array l holds, the array k holds those that f makes of them
+--   takenMarks t a b held    == the marks once a message is off the link from a to b, which then holds one if t
+--   sentMarks held b S       == the marks once b has sent a message to each process that passes S
+--   goesTo w y b q           == a probe of b's broadcast goes to q
+--   notedMarks r a b y z held   == the marks after the whole delivery, which leaves the run r
+--   lookedMarks r a b held, alongMarks r x held   == the marks with the link from a to b looked at; and with both links of the arc x
 -- Assumes nothing.
-use Prim.Native.Nat.{ℕ, _+_, _-_, min}
+use Prim.Native.Nat.{ℕ}
+use mathlib.Core.Bool.{Bool, true, false, _&&_, _||_}
 use mathlib.Core.List.{List}
 use mathlib.Core.Path.{_≡_}
 use lib.Dec.{eqb}
-use lib.ListN.{getD, set}
 use Rattle.base.specs.Choice.{choose}
+use Rattle.tables.specs.declared.Arc.{Arc}
+use Rattle.tables.specs.declared.Chain.the-variants.{Out, In}
+use Rattle.tables.specs.Waits.{Waits}
+use Rattle.tables.specs.Chains.{joins}
 use Rattle.steps.specs.declared.Probes.{Probes}
+use Rattle.steps.specs.declared.Probes.the-variants.{Sucs, Pres}
 use Rattle.steps.specs.declared.Reply.{Reply}
-use Rattle.steps.specs.declared.Reply.the-variants.{To}
+use Rattle.machine.specs.Calls.{waiting}
 use Rattle.checks.specs.Run.{Run}
-use Rattle.areas.specs.Replaced.{putCount}
-use Rattle.delivery.specs.Delivering.{spreadBy}
-use Rattle.choosing.specs.Memory.{backlogAt, boundAt, nearestAt}
+use Rattle.delivery.specs.Delivering.{replyGoes}
+use Rattle.choosing.specs.Memory.{Marks}
+use Rattle.choosing.specs.Sets.{turned}
 
--- ---- the array
+abbrev pub Marked : List ℕ → Type 0
+Marked l = (held : ℕ → ℕ → Bool) × Marks held l
 
-abbrev pub renewed : List ℕ → ℕ → ℕ → ℕ → List ℕ
-renewed l p v u = set (set l (backlogAt p) v) (boundAt p) u
+-- the array l holds some marks, and that of the link from a to b
+abbrev pub MarkedAt : List ℕ → ℕ → ℕ → Type 0
+MarkedAt l a b = (held : ℕ → ℕ → Bool) × Marks held l × (held a b ≡ true)
 
--- nothing waits before the link from a to b, so a's bound may stand there; and b may send next
-unfoldable pub notedTaken : List ℕ → ℕ → ℕ → List ℕ
-notedTaken l a b = set (renewed l a (getD l (backlogAt a) 0 - 1) b) (boundAt 0) (min a b)
+abbrev pub Turns : List ℕ → ((ℕ → ℕ → Bool) → ℕ → ℕ → Bool) → List ℕ → Type 0
+Turns l f k = (held : ℕ → ℕ → Bool) → Marks held l → Marks (f held) k
 
-unfoldable pub notedReply : List ℕ → ℕ → Reply → List ℕ
-notedReply l b Reply.Nothing = l
-notedReply l b (To p c) = renewed l b (getD l (backlogAt b) 0 + 1) (min p (getD l (boundAt b) 0))
+-- a link falls empty if its last message is taken
+abbrev pub takenMarks : Bool → ℕ → ℕ → (ℕ → ℕ → Bool) → ℕ → ℕ → Bool
+takenMarks t a b held = choose t held (turned held a b false)
 
--- to whom the probes go is not looked up: to neighbours, and none is below the bound of those
-unfoldable pub notedProbes : List ℕ → ℕ → ℕ → List ℕ
-notedProbes l b k =
-    choose (eqb k 0) l (renewed l b (getD l (backlogAt b) 0 + k) (min (getD l (boundAt b) 0) (getD l (nearestAt b) 0)))
+abbrev pub sentMarks : (ℕ → ℕ → Bool) → ℕ → (ℕ → Bool) → ℕ → ℕ → Bool
+sentMarks held b S x y = held x y || (eqb x b && S y)
 
-abbrev pub noted : List ℕ → ℕ → ℕ → Reply → ℕ → List ℕ
-noted l a b z k = notedProbes (notedReply (notedTaken l a b) b z) b k
+-- "sends suc to all successors"; "the same with preceding and predecessors"
+abbrev pub goesTo : Waits → Probes → ℕ → ℕ → Bool
+goesTo w Probes.Nothing b q = false
+goesTo w Sucs b q = joins Out w b q
+goesTo w Pres b q = joins In w b q
 
--- ---- the run
+abbrev pub notedMarks : Run → ℕ → ℕ → Probes → Reply → (ℕ → ℕ → Bool) → ℕ → ℕ → Bool
+notedMarks r a b y z held =
+    sentMarks (sentMarks (takenMarks (waiting (r .link a b)) a b held) b (replyGoes z)) b (goesTo (r .waits) y b)
 
-pub record LinksFrom (r q : Run) (b : ℕ) : Type 0 where
-  pub waits : q .waits ≡ r .waits
-  pub others : (x y : ℕ) → (x ≡ b → ⊥) → q .link x y ≡ r .link x y
+abbrev pub lookedMarks : Run → ℕ → ℕ → (ℕ → ℕ → Bool) → ℕ → ℕ → Bool
+lookedMarks r a b held = choose (waiting (r .link a b)) (turned held a b true) held
 
-abbrev pub spread : Probes → Run → ℕ → ℕ → Run
-spread y r b c = putCount (spreadBy y r b) c
+-- the two links of an arc
+abbrev pub alongMarks : Run → Arc → (ℕ → ℕ → Bool) → ℕ → ℕ → Bool
+alongMarks r x held = lookedMarks r (x .to) (x .from) (lookedMarks r (x .from) (x .to) held)

@@ -1,16 +1,16 @@
-// The fixed order of running on: "lowest sender first and then lowest receiver among links with a message", and one delivery in it.
+// The fixed order of running on: "lowest receiver first and then lowest sender" (02, N11), and one delivery in it.
 //
 // So that a delivery costs nothing that grows with the table unless it broadcasts, the order remembers something of the links from one
-// delivery to the next: an array of numbers, which `remember` fills and `deliver_next` keeps, behind the predicate `Remembers`. Another
-// order is another such pair of functions with a predicate of its own, and the same answer. It stands on `delivery` and below; it refuses
-// what a delivery refuses, 24 and 22.
+// delivery to the next: an array of numbers, which `remember` fills and `deliver_next` keeps, behind the predicate `Remembers`. It says which
+// links hold a message, and how many to each receiver, whatever the order: another order is another way to choose by it. It stands on
+// `delivery` and below; it refuses what a delivery refuses, 24 and 22.
 mod filling;
 mod noting;
 pub mod parts;
+mod sets;
 
-use delivery::carrying;
 use delivery::delivering;
-use delivery::delivering::Prepared;
+use delivery::delivering::Told;
 use lenses::links;
 use steps::Message;
 ghost use mathlib.Core.Path.{_≡_};
@@ -49,11 +49,11 @@ pub fn remember(
     requires { ⌜ length (now memory) ≡ memorySize ⌝ }
     ensures { λ _. ⌜ Remembers (runIn (now (area .entry))) (now (memory .exit)) ⌝ }
 {
-    filling::clear(memory);
-    filling::add_arcs(area, square, n, m, memory);
+    filling::fill(area, square, n, m, memory);
 }
 
-// The first link with a message, in the fixed order, from the bounds on: a sender with none is passed over by its backlog.
+// The first link with a message, in the fixed order: the loops begin at the lowest receiver and the lowest sender that are remembered, and a
+// receiver whose links are all empty is passed over by its number.
 fn choose(
     area: &[i32],
     square: &[u16; tables::SQUARE_SIZE],
@@ -68,11 +68,11 @@ fn choose(
     let end = n + 1;
     let mut from = 0;
     let mut to = 0;
-    let least = memory[parts::bound_at(0)];
-    'scan: for a in least..end {
-        if memory[parts::backlog_at(a)] != 0 {
-            let first = memory[parts::bound_at(a)];
-            for b in first..end {
+    let least = sets::lowest_in(memory, 0);
+    'scan: for b in least..end {
+        if memory[parts::count_at(b)] != 0 {
+            let first = sets::lowest_in(memory, b);
+            for a in first..end {
                 if links::waiting_on(area, square, n, m, a, b) != 0 {
                     from = a;
                     to = b;
@@ -106,28 +106,14 @@ pub fn deliver_next(
     let Chosen::Link { from, to } = choose(area, square, n, m, memory) else {
         return ChosenDelivery::Refused(24);
     };
-    match delivering::prepare(area, square, n, m, from, to, links::OLDEST) {
-        Prepared::Refused(number) => ChosenDelivery::Refused(number),
-        Prepared::Go {
+    match delivering::deliver_and_tell(area, square, n, m, from, to, links::OLDEST) {
+        Told::Refused(number) => ChosenDelivery::Refused(number),
+        Told::Delivered {
             message,
-            process,
             probes,
             reply,
-            sent,
         } => {
-            noting::note(from, to, reply, sent, memory);
-            carrying::carry_out(
-                area,
-                square,
-                n,
-                m,
-                from,
-                to,
-                links::OLDEST,
-                process,
-                probes,
-                reply,
-            );
+            noting::note(area, square, n, m, from, to, probes, reply, memory);
             ChosenDelivery::Delivered { from, to, message }
         }
     }

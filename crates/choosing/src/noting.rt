@@ -1,83 +1,122 @@
-// How what is remembered follows a delivery of the first message of all in the fixed order, part by part.
+// How what is remembered follows a delivery, part by part, once it is made. A message is marked on its link whether one was there or not, so the
+// parts may come in any order that ends with what was sent.
 use crate::parts;
+use crate::sets;
+use lenses::chains;
+use lenses::links;
+use steps::Probes;
 use steps::Reply;
+use tables::Chain;
 ghost use mathlib.Core.Path.{_≡_};
-ghost use Prim.Native.Nat.{_+_, _≤_};
-ghost use lib.ListN.{length, getD};
-ghost use Rattle.tables.specs.Table.{mostProcesses};
-ghost use Rattle.choosing.specs.Memory.{mostBacklog, memorySize, backlogAt};
-ghost use Rattle.choosing.specs.Noting.{renewed, notedTaken, notedReply, notedProbes, noted};
+ghost use Prim.Native.Nat.{ℕ};
+ghost use Rattle.tables.specs.Table.{mostProcesses, IsProcess};
+ghost use Rattle.tables.specs.Chains.{joins};
+ghost use Rattle.steps.specs.declared.TwoCounts.{TwoCounts};
+ghost use Rattle.steps.specs.declared.Reply.the-variants.{To};
+ghost use Rattle.machine.specs.Calls.{waiting};
+ghost use Rattle.areas.specs.Area.{runIn};
+ghost use Rattle.lenses.specs.Ready.{Ready};
+ghost use Rattle.delivery.specs.Delivering.{replyGoes};
+ghost use Rattle.choosing.specs.Noting.{Marked, MarkedAt, Turns, takenMarks, sentMarks, goesTo, notedMarks};
 
-// The backlog and the bound of p anew.
-fn renew(memory: &mut [usize; parts::MEMORY_SIZE], p: usize, backlog: usize, bound: usize)
-    requires { ⌜ p ≤ mostProcesses ⌝ }
-    ensures { λ _. ⌜ now (memory .exit) ≡ renewed (now (memory .entry)) p backlog bound ⌝ }
+// A message has come off the link from a to b: the link has fallen empty if it was the last one.
+fn note_taken(
+    area: &[i32],
+    square: &[u16; tables::SQUARE_SIZE],
+    n: usize,
+    m: usize,
+    a: usize,
+    b: usize,
+    memory: &mut [usize; parts::MEMORY_SIZE],
+)
+    requires { ⌜ Ready (now area) (now square) n m ⌝ }
+    requires { ⌜ IsProcess n a × IsProcess n b ⌝ }
+    requires { ⌜ MarkedAt (now memory) a b ⌝ }
+    ensures { λ _. ⌜ Turns (now (memory .entry)) (takenMarks (waiting (runIn (now (area .entry)) .link a b)) a b) (now (memory .exit)) ⌝ }
 {
-    let first = parts::backlog_at(p);
-    let second = parts::bound_at(p);
-    memory[first] = backlog;
-    memory[second] = bound;
+    if links::waiting_on(area, square, n, m, a, b) != 0 {
+        return;
+    }
+    sets::unmark(memory, a, b);
 }
 
-// The first message of all comes off its link: none waits before that link, and its receiver may send next.
-fn note_taken(from: usize, to: usize, memory: &mut [usize; parts::MEMORY_SIZE])
-    requires { ⌜ (from ≤ mostProcesses) × (1 ≤ getD (now memory) (backlogAt from) 0) ⌝ }
-    ensures { λ _. ⌜ now (memory .exit) ≡ notedTaken (now (memory .entry)) from to ⌝ }
-{
-    let at = parts::backlog_at(from);
-    let backlog = memory[at] - 1;
-    renew(memory, from, backlog, to);
-    let least = parts::bound_at(0);
-    memory[least] = parts::smaller(from, to);
-}
-
-// An acknowledgement goes out.
-fn note_reply(reply: Reply, to: usize, memory: &mut [usize; parts::MEMORY_SIZE])
-    requires { ⌜ (to ≤ mostProcesses) × (getD (now memory) (backlogAt to) 0 ≤ mostBacklog) ⌝ }
-    ensures { λ _. ⌜ now (memory .exit) ≡ notedReply (now (memory .entry)) to reply ⌝ }
+// b's acknowledgement has gone out, if there is one.
+fn note_reply(b: usize, reply: Reply, memory: &mut [usize; parts::MEMORY_SIZE])
+    requires { ⌜ IsProcess mostProcesses b ⌝ }
+    requires { ⌜ ((p : ℕ) (c : TwoCounts) → reply ≡ To p c → IsProcess mostProcesses p) ⌝ }
+    requires { ⌜ Marked (now memory) ⌝ }
+    ensures { λ _. ⌜ Turns (now (memory .entry)) (λ held. sentMarks held b (replyGoes reply)) (now (memory .exit)) ⌝ }
 {
     match reply {
         Reply::Nothing => {}
-        Reply::To { process, counts: _ } => {
-            let at = parts::backlog_at(to);
-            let backlog = memory[at] + 1;
-            let next = parts::bound_at(to);
-            let bound = parts::smaller(process as usize, memory[next]);
-            renew(memory, to, backlog, bound);
-        }
+        Reply::To { process, counts: _ } => sets::mark(memory, b, process as usize),
     }
 }
 
-// So many probes go out, each to a neighbour.
-fn note_probes(sent: u32, to: usize, memory: &mut [usize; parts::MEMORY_SIZE])
-    requires { ⌜ (to ≤ mostProcesses) × (getD (now memory) (backlogAt to) 0 ≤ mostBacklog + 1) × (sent ≤ mostProcesses) ⌝ }
-    ensures { λ _. ⌜ now (memory .exit) ≡ notedProbes (now (memory .entry)) to sent ⌝ }
-{
-    if sent == 0 {
-        return;
-    }
-    let at = parts::backlog_at(to);
-    let backlog = memory[at] + sent as usize;
-    let next = parts::bound_at(to);
-    let near = parts::nearest_at(to);
-    let bound = parts::smaller(memory[next], memory[near]);
-    renew(memory, to, backlog, bound);
-}
-
-// What a delivery of the first message of all leaves.
-pub fn note(
-    from: usize,
-    to: usize,
-    reply: Reply,
-    sent: u32,
+// b's probes have gone out along a chain.
+fn note_chain(
+    area: &[i32],
+    square: &[u16; tables::SQUARE_SIZE],
+    n: usize,
+    m: usize,
+    c: Chain,
+    b: usize,
     memory: &mut [usize; parts::MEMORY_SIZE],
 )
-    requires { ⌜ length (now memory) ≡ memorySize ⌝ }
-    requires { ⌜ (from ≤ mostProcesses) × (1 ≤ getD (now memory) (backlogAt from) 0) ⌝ }
-    requires { ⌜ (to ≤ mostProcesses) × (getD (now memory) (backlogAt to) 0 ≤ mostBacklog) × (sent ≤ mostProcesses) ⌝ }
-    ensures { λ _. ⌜ now (memory .exit) ≡ noted (now (memory .entry)) from to reply sent ⌝ }
+    requires { ⌜ Ready (now area) (now square) n m ⌝ }
+    requires { ⌜ IsProcess n b ⌝ }
+    requires { ⌜ Marked (now memory) ⌝ }
+    ensures { λ _. ⌜ Turns (now (memory .entry)) (λ held. sentMarks held b (joins c (runIn (now (area .entry)) .waits) b)) (now (memory .exit)) ⌝ }
 {
-    note_taken(from, to, memory);
-    note_reply(reply, to, memory);
-    note_probes(sent, to, memory);
+    let mut k = chains::first_in(area, square, n, m, c, b);
+    while k != 0 {
+        let arc = chains::arc_in(area, square, n, m, k);
+        sets::mark(memory, b, chains::far_of(c, arc));
+        k = table_reader::next_of(c, arc);
+    }
+}
+
+// b's probes have gone out, if there are any.
+fn note_probes(
+    area: &[i32],
+    square: &[u16; tables::SQUARE_SIZE],
+    n: usize,
+    m: usize,
+    b: usize,
+    probes: Probes,
+    memory: &mut [usize; parts::MEMORY_SIZE],
+)
+    requires { ⌜ Ready (now area) (now square) n m ⌝ }
+    requires { ⌜ IsProcess n b ⌝ }
+    requires { ⌜ Marked (now memory) ⌝ }
+    ensures { λ _. ⌜ Turns (now (memory .entry)) (λ held. sentMarks held b (goesTo (runIn (now (area .entry)) .waits) probes b)) (now (memory .exit)) ⌝ }
+{
+    match probes {
+        Probes::Nothing => {}
+        Probes::Sucs => note_chain(area, square, n, m, Chain::Out, b, memory),
+        Probes::Pres => note_chain(area, square, n, m, Chain::In, b, memory),
+    }
+}
+
+// What a delivery from a to b has left in the area.
+pub fn note(
+    area: &[i32],
+    square: &[u16; tables::SQUARE_SIZE],
+    n: usize,
+    m: usize,
+    a: usize,
+    b: usize,
+    probes: Probes,
+    reply: Reply,
+    memory: &mut [usize; parts::MEMORY_SIZE],
+)
+    requires { ⌜ Ready (now area) (now square) n m ⌝ }
+    requires { ⌜ IsProcess n a × IsProcess n b ⌝ }
+    requires { ⌜ ((p : ℕ) (c : TwoCounts) → reply ≡ To p c → IsProcess mostProcesses p) ⌝ }
+    requires { ⌜ MarkedAt (now memory) a b ⌝ }
+    ensures { λ _. ⌜ Turns (now (memory .entry)) (notedMarks (runIn (now (area .entry))) a b probes reply) (now (memory .exit)) ⌝ }
+{
+    note_taken(area, square, n, m, a, b, memory);
+    note_reply(b, reply, memory);
+    note_probes(area, square, n, m, b, probes, memory);
 }

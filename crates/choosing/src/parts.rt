@@ -1,39 +1,61 @@
-// Where the array of what is remembered holds what. Each process has three numbers, and so has 0; only this file says where they stand.
+// Where the array of what is remembered holds what; only this file says where it stands. Each process has a number and a set of processes, and
+// so has 0. A set is two words, a process a digit of one: the first 64 processes in the first word, the others in the second.
 ghost use mathlib.Core.Path.{_≡_};
-ghost use Prim.Native.Nat.{_≤_, min};
-ghost use Rattle.tables.specs.Table.{mostProcesses};
-ghost use Rattle.choosing.specs.Memory.{backlogAt, boundAt, nearestAt};
+ghost use Prim.Native.Nat.{_/_, _%_, _^_, _≤_};
+ghost use lib.Dec.{eqb};
+ghost use Rattle.tables.specs.Table.{mostProcesses, IsProcess};
+ghost use Rattle.choosing.specs.Memory.{countAt, setAt, wordAt, digitOf};
 
-// Three numbers for each.
+// Three words for each.
 pub const MEMORY_SIZE: usize = 3 * tables::SIDE;
 
-// How many messages wait from p.
-pub fn backlog_at(p: usize) -> usize
-    requires { ⌜ p ≤ mostProcesses ⌝ }
-    ensures { λ r. ⌜ r ≡ backlogAt p ⌝ }
+// How many processes a word has digits for.
+const WORD_DIGITS: usize = 64;
+
+// How many links to p hold a message.
+pub fn count_at(p: usize) -> usize
+    ensures { λ r. ⌜ r ≡ countAt p ⌝ }
 {
     p
 }
 
-// Below which receiver nothing waits from p; for 0, below which sender nothing waits at all.
-pub fn bound_at(p: usize) -> usize
-    requires { ⌜ p ≤ mostProcesses ⌝ }
-    ensures { λ r. ⌜ r ≡ boundAt p ⌝ }
+// The first word of the set j: for a process, from whom a message waits for it; for 0, for whom one waits at all.
+pub fn set_at(j: usize) -> usize
+    requires { ⌜ j ≤ mostProcesses ⌝ }
+    ensures { λ r. ⌜ r ≡ setAt j ⌝ }
 {
-    tables::SIDE + p
+    tables::SIDE + 2 * j
 }
 
-// Below which process p has no neighbour.
-pub fn nearest_at(p: usize) -> usize
-    requires { ⌜ p ≤ mostProcesses ⌝ }
-    ensures { λ r. ⌜ r ≡ nearestAt p ⌝ }
+// The word that has a digit for p, in the set j.
+pub fn word_at(j: usize, p: usize) -> usize
+    requires { ⌜ j ≤ mostProcesses ⌝ }
+    requires { ⌜ IsProcess mostProcesses p ⌝ }
+    ensures { λ r. ⌜ r ≡ wordAt j p ⌝ }
 {
-    2 * tables::SIDE + p
+    set_at(j) + (p - 1) / WORD_DIGITS
 }
 
-// The smaller of two numbers.
-pub fn smaller(x: usize, y: usize) -> usize
-    ensures { λ r. ⌜ r ≡ min x y ⌝ }
+// Where p's digit stands in its word.
+fn digit_of(p: usize) -> usize
+    requires { ⌜ 1 ≤ p ⌝ }
+    ensures { λ r. ⌜ r ≡ digitOf p ⌝ }
 {
-    if x < y { x } else { y }
+    (p - 1) % WORD_DIGITS
+}
+
+// p's digit as a number.
+pub fn power_of(p: usize) -> usize
+    requires { ⌜ 1 ≤ p ⌝ }
+    ensures { λ r. ⌜ r ≡ 2 ^ digitOf p ⌝ }
+{
+    1usize << digit_of(p)
+}
+
+// Whether p's digit is set in a word.
+pub fn is_set(word: usize, p: usize) -> bool
+    requires { ⌜ 1 ≤ p ⌝ }
+    ensures { λ r. ⌜ r ≡ eqb (word / 2 ^ digitOf p % 2) 1 ⌝ }
+{
+    (word >> digit_of(p)) % 2 == 1
 }

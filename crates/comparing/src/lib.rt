@@ -1,8 +1,9 @@
 // One run of a case, from its start to its end, with every call compared with what the plain search expects (the crate `expecting`), for
 // the program `trials`. It calls the library as a host does: `starting`, `runs` and `reports`. It promises only that it is safe and ends; a
-// difference is an answer. The module `exchanging` puts other editions, second sums and messages into the area of a run that is over, `waiting`
-// looks at the messages on a link, and `written` compares how a table is read back.
+// difference is an answer. The module `exchanging` puts other editions, second sums and messages into the area of a run that is over, `lowest`
+// makes the deliveries of running on by picks, `waiting` looks at the messages on a link, and `written` compares how a table is read back.
 pub mod exchanging;
+pub mod lowest;
 pub mod waiting;
 pub mod written;
 
@@ -36,13 +37,25 @@ fn pick(area: &mut [i32], found: &[bool; 16899], call: Call, c: Course) -> Cours
     )
 }
 
+// Runs on. In small areas it leaves what as many picks in the fixed order leave.
+fn run_on(area: &mut [i32], n: usize, call: Call, c: Course) -> Course {
+    let followed = ordering::is_followed(area.len(), call, c);
+    let expected = lowest::digest(area, n, call.k, followed);
+    let answer = runs::running::run_on(area, call.k);
+    let d = answers::ran(call.k, answer, c);
+    if !followed {
+        return d;
+    }
+    answers::expect(d, words::digest(area) == expected, faults::ORDER)
+}
+
 // Makes a call, with N.
 fn make(area: &mut [i32], found: &[bool; 16899], n: usize, call: Call, c: Course) -> Course {
     let kind = call.kind;
     let p = call.from;
     match kind {
         ordering::PICK => pick(area, found, call, c),
-        ordering::RUN_ON => answers::ran(call.k, runs::running::run_on(area, call.k), c),
+        ordering::RUN_ON => run_on(area, n, call, c),
         _ => answers::read(n, p, reports::read_record(area, p), c),
     }
 }

@@ -111,7 +111,8 @@ fn take_all(area: &mut [i32], call: Call) -> OnLink {
     messages
 }
 
-fn copy(area: &[i32], room: &mut [i32]) {
+// Copies words, as many as there is room for.
+pub fn copy(area: &[i32], room: &mut [i32]) {
     let mut k = 0;
     while k < area.len() && k < room.len() {
         room[k] = area[k];

@@ -3,10 +3,11 @@
 --   place-asks            == what is asked for what waits at a place
 --   nothing-waits, none-there, message-small, message-prepared   == the answer by what waits there
 --   Sent w sq n m a b x   == what is known where x is delivered from a to b
---   step-asks, room-asks, process-asks, sent-asks   == what the step, the test of room, the reading of the record and the count of probes ask
+--   step-asks, room-asks, process-asks   == what the step, the test of room and the reading of the record ask
 --   step-refused, count-full, links-full, prepared   == the answer at each return
---   Outcome w a b i d v   == the answer d and the area v that a delivery from a to b leaves
+--   Outcome w a b i d v   == what is told, d, and the area v that a delivery from a to b leaves
 --   refusal, delivery     == the outcome where it is refused, and where it is carried out
+--   told-number, told-message   == what is told, by its number or its message alone
 -- Assumes nothing.
 use Prim.Native.Nat.{ℕ, _≤_, _<_}
 use mathlib.Core.Bool.{Bool, true, false, not}
@@ -16,7 +17,6 @@ use native.Mathlib.Omega.{arith}
 use lib.IntN.{ℤ}
 use Rattle.base.specs.Sums.{allTo}
 use Rattle.tables.specs.Table.{mostProcesses}
-use Rattle.tables.specs.declared.Chain.{Chain}
 use Rattle.tables.specs.Waits.{neighbours}
 use Rattle.tables.specs.WaitsLaws.{neighbours-ends}
 use Rattle.steps.specs.declared.Message.{Message}
@@ -46,12 +46,13 @@ use Rattle.lenses.specs.ReadyLaws.{right-storable, ready-n, ready-sizes}
 use Rattle.lenses.specs.ChangeLaws.{link-message}
 use Rattle.lenses.specs.StandingLaws.{message-standing}
 use Rattle.delivery.specs.Rooms.{roomy, roomTo}
-use Rattle.delivery.specs.Delivering.{steppedAt, probesOf, carriedOut, Carried, grownBy, deliverAt, PreparedFor, preparedOf}
+use Rattle.delivery.specs.Delivering.{steppedAt, carriedOut, Carried, deliverAt, PreparedFor, preparedOf, toldOf, toldAt}
 use Rattle.delivery.specs.AcceptLaws.{accepts-refused, accepts-full, taken-replied, accepts-crowded}
-use Rattle.delivery.specs.PreparedLaws.{prepared-nothing, prepared-beyond, prepared-at, prepared-refused, sent-grows, sent-is, prepared-go}
-use Rattle.delivery.specs.PreparedLaws.{refused-of, going-of}
+use Rattle.delivery.specs.PreparedLaws.{prepared-nothing, prepared-beyond, prepared-at, prepared-refused, prepared-go}
+use Rattle.delivery.specs.PreparedLaws.{refused-of, going-of, told-refused, told-going}
 use Rattle.delivery.specs.declared.delivering.Prepared.{Prepared}
 use Rattle.delivery.specs.declared.delivering.Prepared.the-variants.{Go}
+use Rattle.delivery.specs.declared.delivering.Told.{Told}
 
 -- a delivery before anything is changed
 abbrev pub Answer : List ℤ → ℕ → ℕ → ℕ → Prepared → Type 0
@@ -131,39 +132,38 @@ module _ {w : List ℤ} {sq : List ℕ} {n m a b : ℕ} {x : Message} (h : Sent 
     links-full v e k =
         by-22 (λ rest l. accepts-crowded (runIn w) (f .formed) (f .sound) a b (h .near) x (h .small) rest l q p z (sym t ∙ o) (value-not (sym (room-is e)) k))
 
-    -- the record as it was, of which the growth of num is counted
-    module _ {v : Process} (d : v ≡ runIn w .process b) where
-      pub sent-asks : (c : Chain) → p ≡ probesOf c → v .num ≤ q .num
-      sent-asks c e =
-          let g = sent-grows (runIn w) (f .formed) (f .sound) a b (h .near) x (h .small) q p z (sym t ∙ o) c e in
-          let u : v .num ≡ runIn w .process b .num = ap (λ (y : Process). y .num) d in
-          omega arith
-
-      pub prepared : {c : ℕ} → c ≡ runIn w .count → c < mostDeliveries → (r : Bool) → r ≡ allTo n (roomTo (runIn w) a b p z) → not r ≡ false → {k : ℕ}
-          → k ≡ grownBy v q p → PreparedFor w a b x (Go x q p z k)
-      prepared c u r e y s rest l =
-          let i = sent-is (runIn w) (f .formed) (f .sound) a b (h .near) x (h .small) q p z (sym t ∙ o) in
-          let free : roomy (runIn w) a b p z ≡ true = value-yes (sym (room-is e)) y in
-          ap (Go x q p z) (s ∙ ap (λ (y : Process). grownBy y q p) d ∙ i)
-          ∙ sym (prepared-go (runIn w) (f .formed) (f .sound) a b (h .near) x (h .small) q p z (sym t ∙ o) rest l (omega arith) free)
+    pub prepared : {c : ℕ} → c ≡ runIn w .count → c < mostDeliveries → (r : Bool) → r ≡ allTo n (roomTo (runIn w) a b p z) → not r ≡ false
+        → PreparedFor w a b x (Go x q p z)
+    prepared c u r e y rest l =
+        let free : roomy (runIn w) a b p z ≡ true = value-yes (sym (room-is e)) y in
+        sym (prepared-go (runIn w) (f .formed) (f .sound) a b (h .near) x (h .small) q p z (sym t ∙ o) rest l (omega arith) free)
 
 -- ---- the delivery itself
 
--- the answer and the area that a delivery leaves
-abbrev pub Outcome : List ℤ → ℕ → ℕ → ℕ → Delivery → List ℤ → Type 0
-Outcome w a b i d v = (d ≡ deliverAt (runIn w) a b i .answer) × (v ≡ keeping w (deliverAt (runIn w) a b i .run))
+-- what is told, and the area that a delivery leaves
+abbrev pub Outcome : List ℤ → ℕ → ℕ → ℕ → Told → List ℤ → Type 0
+Outcome w a b i d v = (d ≡ toldAt (runIn w) a b i) × (v ≡ keeping w (deliverAt (runIn w) a b i .run))
 
 module _ {w : List ℤ} {sq : List ℕ} {n m : ℕ} (y : Ready w sq n m) where
   -- a refusal leaves the area as it was
-  pub refusal : (a b i : ℕ) {d : Prepared} → Answer w a b i d → {k : ℕ} → d ≡ Prepared.Refused k → Outcome w a b i (Delivery.Refused k) w
+  pub refusal : (a b i : ℕ) {d : Prepared} → Answer w a b i d → {k : ℕ} → d ≡ Prepared.Refused k → Outcome w a b i (Told.Refused k) w
   refusal a b i t {k} o =
       let e = refused-of (runIn w) a b i k (runIn w .link a b) (sym t ∙ o) in
-      (sym (ap (λ (p : Picked). p .answer) e), sym (stored-same w (y .right)) ∙ sym (ap (λ (p : Picked). keeping w (p .run)) e))
+      (ap toldOf (sym o ∙ t), sym (stored-same w (y .right)) ∙ sym (ap (λ (p : Picked). keeping w (p .run)) e))
 
   module _ (a b i : ℕ) (j : neighbours (runIn w .waits) a b ≡ true) {d : Prepared} (t : Answer w a b i d) {g : Message} {x : Process} {p : Probes} {z : Reply}
-      {k : ℕ} (o : d ≡ Go g x p z k) where
+      (o : d ≡ Go g x p z) where
     pub carry-asks : Ready w sq n m × Carried (runIn w) a b i x p z
     carry-asks = (y, going-of y a b i j (sym t ∙ o) .carried)
 
-    pub delivery : {l : List ℤ} → l ≡ keeping w (carriedOut (runIn w) a b i x p z) → Outcome w a b i (Delivered g) l
-    delivery e = let h = going-of y a b i j (sym t ∙ o) in (sym (h .answer), e ∙ ap (keeping w) (sym (h .run)))
+    pub delivery : {l : List ℤ} → l ≡ keeping w (carriedOut (runIn w) a b i x p z) → Outcome w a b i (Told.Delivered g p z) l
+    delivery e = let h = going-of y a b i j (sym t ∙ o) in (ap toldOf (sym o ∙ t), e ∙ ap (keeping w) (sym (h .run)))
+
+  -- the message alone
+  module _ (a b i : ℕ) {d : Told} (t : d ≡ toldAt (runIn w) a b i) where
+    pub told-number : {k : ℕ} → d ≡ Told.Refused k → Delivery.Refused k ≡ deliverAt (runIn w) a b i .answer
+    told-number {k} o = sym (ap (λ (p : Picked). p .answer) (told-refused (runIn w) a b i k (sym t ∙ o)))
+
+    pub told-message : neighbours (runIn w .waits) a b ≡ true → {g : Message} {p : Probes} {z : Reply} → d ≡ Told.Delivered g p z
+        → Delivered g ≡ deliverAt (runIn w) a b i .answer
+    told-message j o = sym (told-going y a b i j (sym t ∙ o) .1 .answer)

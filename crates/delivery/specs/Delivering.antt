@@ -7,14 +7,13 @@
 --   carriedOut r a b k x y z   == the delivery as changes one after another; that this is `after` is a law
 --   Carried r a b k x y z == what makes these changes possible
 --   deliverAt r a b k     == the delivery of the message at place k of the link from a to b
---   probesSent w b y      == how many probes a broadcast of b sends
---   grownBy x y z         == by how much num grows from the record x to the record y, where the step of both sends probes
 --   preparedWith r a b m rest   == the delivery of m, where rest stays, as far as nothing is changed: 22, or what the receiver's step leaves
 --                            and sends
 --   PreparedFor w a b m d == d is that of m in the area w, wherever m stands on its link
 --   preparedOf r a b k ms == the same of the message at place k: 24, then 31, then 22
+--   toldOf p, toldAt r a b k   == what is told of a prepared delivery once it is carried out: its message and what was sent, or its refusal
 -- Assumes nothing.
-use Prim.Native.Nat.{ℕ, _+_, _-_, _≤_}
+use Prim.Native.Nat.{ℕ, _+_, _≤_}
 use mathlib.Core.Bool.{Bool, true, false}
 use mathlib.Core.List.{List, [], _∷_}
 use mathlib.Core.Path.{_≡_}
@@ -24,7 +23,7 @@ use lib.Dec.{eqb}
 use Rattle.base.specs.Choice.{choose}
 use Rattle.tables.specs.declared.Chain.{Chain}
 use Rattle.tables.specs.declared.Chain.the-variants.{Out, In}
-use Rattle.tables.specs.Waits.{Waits, outDegree, inDegree, neighbours}
+use Rattle.tables.specs.Waits.{outDegree, inDegree, neighbours}
 use Rattle.steps.specs.declared.Message.{Message}
 use Rattle.steps.specs.declared.Process.{Process}
 use Rattle.steps.specs.declared.Probes.{Probes}
@@ -44,6 +43,7 @@ use Rattle.areas.specs.Squares.{joinsBy}
 use Rattle.lenses.specs.Changes.{answered, spread, off}
 use Rattle.delivery.specs.Rooms.{loadAfter}
 use Rattle.delivery.specs.declared.delivering.Prepared.{Prepared}
+use Rattle.delivery.specs.declared.delivering.Told.{Told}
 use Rattle.delivery.specs.declared.delivering.Prepared.the-variants.{Go}
 
 abbrev pub steppedAt : Run → ℕ → ℕ → Message → Stepped
@@ -103,23 +103,11 @@ deliverAt r a b k = deliver r a b k (r .link a b)
 
 -- ---- before anything is changed
 
--- "sends suc to all successors"; "the same with preceding and predecessors"
-abbrev pub probesSent : Waits → ℕ → Probes → ℕ
-probesSent w b Probes.Nothing = 0
-probesSent w b Sucs = outDegree w b
-probesSent w b Pres = inDegree w b
-
--- "adds their number to num"
-abbrev pub grownBy : Process → Process → Probes → ℕ
-grownBy x y Probes.Nothing = 0
-grownBy x y Sucs = y .num - x .num
-grownBy x y Pres = y .num - x .num
-
 -- 22, or what the receiver's step leaves and sends
 unfoldable pub preparedWith : Run → ℕ → ℕ → Message → List Message → Prepared
 preparedWith r a b m rest =
     choose (accepts r a b m rest)
-    (Go m (turnAt r a b m .process) (turnAt r a b m .probes) (turnAt r a b m .reply) (probesSent (r .waits) b (turnAt r a b m .probes)))
+    (Go m (turnAt r a b m .process) (turnAt r a b m .probes) (turnAt r a b m .reply))
     (Prepared.Refused 22)
 
 -- d is the prepared delivery of m, wherever on the link from a to b it stands
@@ -135,3 +123,11 @@ preparedFound r a b (cut m rest) = preparedWith r a b m rest
 unfoldable pub preparedOf : Run → ℕ → ℕ → ℕ → List Message → Prepared
 preparedOf r a b k [] = Prepared.Refused 24
 preparedOf r a b k (m ∷ ms) = preparedFound r a b (atPlace k (m ∷ ms))
+
+-- what is told of a prepared delivery once it is carried out
+abbrev pub toldOf : Prepared → Told
+toldOf (Go m x y z) = Told.Delivered m y z
+toldOf (Prepared.Refused n) = Told.Refused n
+
+abbrev pub toldAt : Run → ℕ → ℕ → ℕ → Told
+toldAt r a b k = toldOf (preparedOf r a b k (r .link a b))

@@ -148,7 +148,7 @@ module _ (r : Run) (s : Sound (r .waits)) (a b k : ℕ) (m : Message) (rest : Li
       let sent = spreadBy-relinked y (answered (changed r a b k x) b z) b in
       record { is = sent .is ∙ ap (λ (p : Run). withLinks p (q .link)) (answered-relinked (changed r a b k x) b z .is) }
 
-  carried-link : (x : Process) (y : Probes) (z : Reply) (u v : ℕ)
+  pub carried-link : (x : Process) (y : Probes) (z : Reply) (u v : ℕ)
       → spreadBy y (answered (changed r a b k x) b z) b .link u v
       ≡ choose (eqb u b) (taken r a b rest u v ++ (replyTo z v ++ probesTo (r .waits) b y v)) (taken r a b rest u v)
   unfolding putProcess putLink

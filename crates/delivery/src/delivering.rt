@@ -6,7 +6,6 @@ use checks::Delivery;
 use lenses::heading;
 use lenses::links;
 use lenses::links::AtPlace;
-use lenses::records;
 use steps::Message;
 use steps::Probes;
 use steps::Process;
@@ -14,37 +13,32 @@ use steps::Reply;
 use steps::Stepped;
 ghost use mathlib.Core.Path.{_≡_};
 ghost use mathlib.Core.Bool.{true};
-ghost use Prim.Native.Nat.{_≤_, _-_};
+ghost use Prim.Native.Nat.{_≤_};
 ghost use Rattle.tables.specs.Waits.{neighbours};
 ghost use Rattle.steps.specs.Step.{countSmall};
 ghost use Rattle.areas.specs.Area.{runIn, keeping};
 ghost use Rattle.lenses.specs.Ready.{Ready};
-ghost use Rattle.delivery.specs.Delivering.{probesOf, grownBy, PreparedFor, preparedOf, deliverAt};
-ghost use Rattle.tables.specs.declared.Chain.{Chain};
+ghost use Rattle.delivery.specs.Delivering.{PreparedFor, preparedOf, toldAt, deliverAt};
 
-// A delivery before anything is changed: the message, what the receiver's step leaves and sends, and how many probes it broadcasts; or the
-// number of the refusal.
-pub enum Prepared {
+// A delivery before anything is changed: the message, and what the receiver's step leaves and sends; or the number of the refusal.
+enum Prepared {
     Go {
         message: Message,
         process: Process,
         probes: Probes,
         reply: Reply,
-        sent: u32,
     },
     Refused(u32),
 }
 
-// How many probes a step broadcasts, by the growth of num: so that nothing need be counted.
-fn probes_sent(before: Process, after: Process, probes: Probes) -> u32
-    requires { ⌜ ((c : Chain) → probes ≡ probesOf c → before .num ≤ after .num) ⌝ }
-    ensures { λ r. ⌜ r ≡ grownBy before after probes ⌝ }
-{
-    match probes {
-        Probes::Nothing => 0,
-        Probes::Sucs => after.num - before.num,
-        Probes::Pres => after.num - before.num,
-    }
+// A delivery that was made: the message, and what the receiver's step sent; or the number of the refusal.
+pub enum Told {
+    Delivered {
+        message: Message,
+        probes: Probes,
+        reply: Reply,
+    },
+    Refused(u32),
 }
 
 // The delivery of a message from a to b, which are neighbours, before anything is changed: 22, or what the receiver's step leaves and sends.
@@ -77,20 +71,17 @@ fn prepare_message(
     if !rooms::has_room(area, square, n, m, a, b, probes, reply) {
         return Prepared::Refused(22);
     }
-    let before = records::process(area, square, n, m, b);
-    let sent = probes_sent(before, process, probes);
     Prepared::Go {
         message,
         process,
         probes,
         reply,
-        sent,
     }
 }
 
 // The delivery of the message at a place of the link from a to b, which are neighbours, before anything is changed: 24 if nothing waits
 // there, then 31 if no message is at that place, then 22, and else what the receiver's step leaves and sends.
-pub fn prepare(
+fn prepare(
     area: &[i32],
     square: &[u16; tables::SQUARE_SIZE],
     n: usize,
@@ -111,7 +102,42 @@ pub fn prepare(
     }
 }
 
-// Delivers the message at a place of the link from a to b, which are neighbours: 24 if nothing waits there, then 31, 22.
+// Delivers the message at a place of the link from a to b, which are neighbours, and tells what the step sent: 24 if nothing waits there, then
+// 31, 22.
+pub fn deliver_and_tell(
+    area: &mut [i32],
+    square: &[u16; tables::SQUARE_SIZE],
+    n: usize,
+    m: usize,
+    a: usize,
+    b: usize,
+    place: usize,
+) -> Told
+    requires { ⌜ Ready (now area) (now square) n m ⌝ }
+    requires { ⌜ neighbours (runIn (now area) .waits) a b ≡ true ⌝ }
+    requires { ⌜ (a ≤ n) × (b ≤ n) ⌝ }
+    ensures { λ r. ⌜ r ≡ toldAt (runIn (now (area .entry))) a b place ⌝ }
+    ensures { λ _. ⌜ now (area .exit) ≡ keeping (now (area .entry)) (deliverAt (runIn (now (area .entry))) a b place .run) ⌝ }
+{
+    match prepare(area, square, n, m, a, b, place) {
+        Prepared::Refused(number) => Told::Refused(number),
+        Prepared::Go {
+            message,
+            process,
+            probes,
+            reply,
+        } => {
+            carrying::carry_out(area, square, n, m, a, b, place, process, probes, reply);
+            Told::Delivered {
+                message,
+                probes,
+                reply,
+            }
+        }
+    }
+}
+
+// The same, told by its message alone.
 pub fn deliver(
     area: &mut [i32],
     square: &[u16; tables::SQUARE_SIZE],
@@ -127,17 +153,12 @@ pub fn deliver(
     ensures { λ r. ⌜ r ≡ deliverAt (runIn (now (area .entry))) a b place .answer ⌝ }
     ensures { λ _. ⌜ now (area .exit) ≡ keeping (now (area .entry)) (deliverAt (runIn (now (area .entry))) a b place .run) ⌝ }
 {
-    match prepare(area, square, n, m, a, b, place) {
-        Prepared::Refused(number) => Delivery::Refused(number),
-        Prepared::Go {
+    match deliver_and_tell(area, square, n, m, a, b, place) {
+        Told::Refused(number) => Delivery::Refused(number),
+        Told::Delivered {
             message,
-            process,
-            probes,
-            reply,
-            sent: _,
-        } => {
-            carrying::carry_out(area, square, n, m, a, b, place, process, probes, reply);
-            Delivery::Delivered(message)
-        }
+            probes: _,
+            reply: _,
+        } => Delivery::Delivered(message),
     }
 }

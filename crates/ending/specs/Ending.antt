@@ -130,7 +130,7 @@ module _ (r : Run) (h : Holds r) (o : over r ≡ true) where
   unfolding report reported
   reports = rw (holds-formed r h, o, verdict-end, escape-end, mark-end, start-sum, at-d r h o)
 
-  ended : Ended (r .waits) (r .start) (r .edition) r
+  pub ended : Ended (r .waits) (r .start) (r .edition) r
   ended =
       record {
         none-waits = gone;

@@ -5,6 +5,7 @@
 --   holds-formed     == such a run is well formed: 21 is never met
 --   holds-accepts    == such a run meets no 22
 --   holds-upheld     == what the machine asks of a check's invariants
+--   holds-made       == any number of deliveries keep them
 -- Assumes nothing.
 use Prim.Native.Nat.{ℕ, _≤_}
 use mathlib.Core.Bool.{Bool, true, false, not, _&&_, false≢true}
@@ -27,7 +28,8 @@ use Rattle.machine.specs.MovedLaws.{after-moved}
 use Rattle.machine.specs.Among.{Among}
 use Rattle.machine.specs.Formed.{Formed}
 use Rattle.machine.specs.FormedLaws.{wellFormed-P, accepts-P, allRight-tail}
-use Rattle.machine.specs.Made.{Answered, none-refused, no-link, not-over}
+use Rattle.machine.specs.Made.{Made, Answered, none-refused, no-link, not-over}
+use Rattle.machine.specs.MadeLaws.{made-keeps}
 use Rattle.machine.specs.DiffusingLaws.{diffusing-start, diffusing-kept}
 use Rattle.machine.specs.RestLaws.{ack-awaited, link-neighbours, work-busy}
 use Rattle.machine.specs.TreeLaws.{treed-start, treed-kept}
@@ -253,3 +255,7 @@ holds-upheld =
       diffusing = λ r h. h .diffusing;
       treed = λ r h. h .treed;
     }
+
+-- any number of deliveries keep them
+pub holds-made : {r q : Run} {k : ℕ} → Holds r → Made knot r k q → Holds q
+holds-made h m = made-keeps Holds (holds-upheld .sure .kept) h m

@@ -28,18 +28,18 @@ use Rattle.inputs.specs.Input.{startIn, editionIn, tableFields, tableEnd, table
 use Rattle.lines.specs.Text.{messageText, verdictLine, markLine}
 use Rattle.pickledune.specs.Interface.{chainOf, messageOf}
 use Rattle.examples.specs.States.{lowFirst, processFields, arcFields, table, one, both, fork, alone, loop, met1, met2, met3, met4, met5, met6, met7}
-use Rattle.examples.specs.States.{beside, input, words, rootWith, root, two, under, receiving, three, unlinked, area, answers}
+use Rattle.examples.specs.States.{beside, input, words, rootWith, root, two, under, receiving, three, everywhere, loads, unlinked, area, answers}
 
 unfoldable pub computing : Unit {0}
 unfolding lowFirst processFields arcFields table one both fork alone loop beside met1 met2 met3 met4 met5 met6 met7 input
-    words rootWith root two under receiving three unlinked area answers
+    words rootWith root two under receiving three everywhere loads unlinked area answers
     sumTo countTo allTo anyTo lowestTo fieldOf isProcess first arcAt near next waitsOf outDegree inDegree neighbours
     walked walkedTo chainsRight sizesRight endsRight firstsRight nextsRight unlikeBefore fieldsNumber readNumber Reads.answer Reads.readingOf
     orElse openNumber openAnswer openedOf arcInside nextAnswer nextOf
     end front processField arcField writtenField bytesOf tableOver endsFit given unlike writeNumber outputFor written writingFor writingOf
     Machines.allRight Machines.taken Machines.over Machines.linkRight Machines.wellFormed Machines.startRun Machines.after Machines.accepts
     MachineCalls.behind MachineCalls.atPlace MachineCalls.delivered MachineCalls.deliver MachineCalls.pick MachineCalls.deliverOn
-    MachineCalls.runFrom MachineCalls.runOn MachineCalls.lowestReceiver MachineCalls.lowestSender MachineCalls.lowest
+    MachineCalls.runFrom MachineCalls.runOn MachineCalls.firstTo MachineCalls.linkIf MachineCalls.lowestSender MachineCalls.lowest
     bothSmall ownCount
     small inRange countSmall rule1 setSucceeding setPreceding newSubordinate gained rule3 rule4 acknowledged turn startTurn numSuffices replyFits
     fitting lentInRange stepNumber Steps.answer stepped startStepped

@@ -60,7 +60,7 @@ use Rattle.pickledune.specs.Values.{deliveryKind, deliveryCounts, ranOver, repo
 use Rattle.pickledune.specs.Values.{readingProcess, steppedNumber, steppedProbes, steppedReply}
 use Rattle.pickledune.specs.Interface.{chainOf, messageOf, processOf, probesNumber, replyTo}
 use Rattle.examples.specs.States.{minus, lowFirst, table, one, both, fork, alone, loop, met1, met2, met3, met4, met5, met6, met7, input, words, root}
-use Rattle.examples.specs.States.{beside, counted, only, plain, rootWith, two, under, receiving, three, unlinked, area, answers}
+use Rattle.examples.specs.States.{beside, counted, only, plain, rootWith, two, under, receiving, three, everywhere, loads, unlinked, area, answers}
 use Rattle.examples.specs.Computing.{computing}
 
 -- ==== Refused because of the input
@@ -417,10 +417,10 @@ running-in-order = (refl, refl, refl, refl, refl, refl, refl, refl, refl, refl, 
 -- "running on that meets 24 or 22 midway keeps its deliveries and gives their number"
 running-refused-midway :
     (runOn 9 (two 1 0 (root (pos 0) 2) idle (Suc ∷ []) []) .answer ≡ Ran.Refused 24 2) ×
-    (runOn 9 (two 1 0 (root (pos 0) 2) idle (Suc ∷ Ack (only (pos 0)) ∷ []) []) .answer ≡ Ran.Refused 22 1) ×
+    (runOn 9 (two 1 0 (root (pos 0) 2) idle (Suc ∷ Ack (only (pos 0)) ∷ []) []) .answer ≡ Ran.Refused 22 2) ×
     (runOn 9 (two 1 2047 (root (pos 0) 1) idle (Suc ∷ []) []) .answer ≡ Ran.Refused 22 1) ×
     (runOnArea 9 (area (two 1 0 (root (pos 0) 2) idle (Suc ∷ Ack (only (pos 0)) ∷ []) []))
-    ≡ area (two 1 1 (root (pos 0) 2) (plain 1 0 1 (pos 0) 0 1) (Ack (only (pos 0)) ∷ []) (Ack (counted (pos 1) (pos 1)) ∷ [])))
+    ≡ area (two 1 2 (rootWith (pos 1) (pos 1) 1) (plain 1 0 1 (pos 0) 0 1) (Ack (only (pos 0)) ∷ []) []))
 unfolding computing
 running-refused-midway = (refl, refl, refl, refl)
 
@@ -431,20 +431,26 @@ running-in-words :
     (runOnAnswer 0 (area (two 1 0 (root (pos 128) 0) idle [] [])) ≡ Ran.Over 0) ×
     (runOnAnswer 0 (area (two 1 0 (root (pos 128) 1) idle [] [])) ≡ Ran.Spent 0) ×
     (runOnAnswer 1 (area (two 1 0 (root (pos 128) 1) idle [] [])) ≡ Ran.Refused 24 0) ×
-    (runOnAnswer 9 (area (two 1 0 (root (pos 0) 2) idle (Suc ∷ Ack (only (pos 0)) ∷ []) [])) ≡ Ran.Refused 22 1) ×
+    (runOnAnswer 9 (area (two 1 0 (root (pos 0) 2) idle (Suc ∷ Ack (only (pos 0)) ∷ []) [])) ≡ Ran.Refused 22 2) ×
     (runOnArea 5 (area (two 1 0 (root (pos 129) 1) idle (Suc ∷ []) [])) ≡ area (two 1 0 (root (pos 129) 1) idle (Suc ∷ []) []))
 unfolding computing
 running-in-words = (refl, refl, refl, refl, refl, refl, refl)
 
--- "lowest sender first and then lowest receiver among links with a message": in 1-2, 1-3 with a message on each link, 2 gets the first and 3 the
--- second; in 1-2 the message from 1 goes before the one from 2
+-- 02, N11: "The fixed order becomes lowest receiver first and then lowest sender." In everywhere a message waits on each link of 1-2, 1-3: the first
+-- to go is neither the lowest sender's, from 1 to 2, nor the higher sender's to 1, from 3, nor one to a higher receiver
 running-order :
-    (runOn 1 (startRun (waitsOf (fieldOf fork)) 1 1) .run .link 1 2 ≡ []) ×
-    (runOn 1 (startRun (waitsOf (fieldOf fork)) 1 1) .run .link 1 3 ≡ Suc ∷ []) ×
-    (runOn 1 (two 1 0 (root (pos 0) 2) idle (Suc ∷ []) (Ack (only (pos 0)) ∷ [])) .run .link 1 2 ≡ []) ×
-    (runOn 1 (two 1 0 (root (pos 0) 2) idle (Suc ∷ []) (Ack (only (pos 0)) ∷ [])) .run .link 2 1 ≡ Ack (only (pos 0)) ∷ Ack (counted (pos 1) (pos 1)) ∷ [])
+    (loads everywhere ≡ 1 ∷ 1 ∷ 1 ∷ 1 ∷ []) ×
+    (loads (runOn 1 everywhere .run) ≡ 0 ∷ 1 ∷ 1 ∷ 1 ∷ []) ×  -- from 2 to 1
+    (loads (runOn 2 everywhere .run) ≡ 0 ∷ 0 ∷ 1 ∷ 1 ∷ []) ×  -- from 3 to 1
+    (loads (runOn 3 everywhere .run) ≡ 0 ∷ 0 ∷ 0 ∷ 1 ∷ []) ×  -- from 1 to 2
+    (loads (runOn 4 everywhere .run) ≡ 0 ∷ 0 ∷ 0 ∷ 0 ∷ []) ×  -- from 1 to 3
+    -- from the start in 1-2, 1-3: the probe to 2, what 2 sends to 1, and only then the probe to 3
+    (loads (startRun (waitsOf (fieldOf fork)) 1 1) ≡ 0 ∷ 0 ∷ 1 ∷ 1 ∷ []) ×
+    (loads (runOn 1 (startRun (waitsOf (fieldOf fork)) 1 1) .run) ≡ 1 ∷ 0 ∷ 0 ∷ 1 ∷ []) ×
+    (loads (runOn 2 (startRun (waitsOf (fieldOf fork)) 1 1) .run) ≡ 0 ∷ 0 ∷ 0 ∷ 1 ∷ []) ×
+    (loads (runOn 3 (startRun (waitsOf (fieldOf fork)) 1 1) .run) ≡ 0 ∷ 1 ∷ 0 ∷ 0 ∷ [])
 unfolding computing
-running-order = (refl, refl, refl, refl)
+running-order = (refl, refl, refl, refl, refl, refl, refl, refl, refl)
 
 -- ---- "The report checks 21, 26": "over count; verdict knot if cs of s is 0, else none; outside = cs of s; escape .."; "The report marks
 -- returned if the start's second sum is 0, else held" (02, N3)

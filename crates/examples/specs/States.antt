@@ -16,6 +16,8 @@
 --   under ed r          == a run with another edition
 --   receiving y m       == such a run, not over, in which m waits on the link from 1 to 2 and y is the record of 2
 --   three               == such a run, not over, in which three messages wait on that link
+--   everywhere          == a run on the waits of fork, not over, in which a message waits on each link
+--   loads r             == how many messages wait on these links: from 2 to 1, from 3 to 1, from 1 to 2, from 1 to 3
 --   unlinked            == a run with a message between two processes that are no neighbours
 --   area r              == the 52 words that hold such a run
 --   answers r ps        == the answers of picks, each on the run that the last one left
@@ -24,11 +26,11 @@ use Prim.Native.Nat.{ℕ, _/_, _%_}
 use mathlib.Core.Bool.{false, _&&_}
 use mathlib.Core.List.{List, [], _∷_, _++_}
 use lib.Dec.{eqb}
-use lib.ListN.{take, replicate}
+use lib.ListN.{length, take, replicate}
 use lib.IntN.{ℤ, pos, negℤ}
 use Rattle.base.specs.Choice.{choose}
 use Rattle.tables.specs.Table.{fieldOf}
-use Rattle.tables.specs.Waits.{waitsOf}
+use Rattle.tables.specs.Waits.{waitsOf, neighbours}
 use Rattle.steps.specs.declared.Message.{Message}
 use Rattle.steps.specs.declared.Message.the-variants.{Suc, Pre, Ack}
 use Rattle.steps.specs.declared.Process.{Process}
@@ -158,6 +160,21 @@ receiving y m = two 1 0 (root (pos 0) 1) y (m ∷ []) []
 -- three messages wait from 1 to 2, which has both flags and is busy, so that it only acknowledges the probes
 unfoldable pub three : Run
 three = two 1 0 (root (pos 0) 3) (plain 1 1 0 (pos 0) 2 1) (Suc ∷ Pre ∷ Ack (only (pos 5)) ∷ []) []
+
+-- an acknowledgement waits on each of the four links, and each process awaits more than it gets there
+unfoldable pub everywhere : Run
+everywhere =
+    record {
+      waits = waitsOf (fieldOf fork);
+      start = 1;
+      edition = 1;
+      count = 0;
+      process = λ p. choose (eqb p 1) (root (pos 0) 4) (plain 1 0 1 (pos 0) 2 1);
+      link = λ a b. choose (neighbours (waitsOf (fieldOf fork)) a b) (Ack (only (pos 0)) ∷ []) [];
+    }
+
+unfoldable pub loads : Run → List ℕ
+loads r = length (r .link 2 1) ∷ length (r .link 3 1) ∷ length (r .link 1 2) ∷ length (r .link 1 3) ∷ []
 
 -- nobody waits for anybody, so there is no link, and yet a message from 2 to 1
 unfoldable pub unlinked : Run

@@ -51,3 +51,6 @@ pub const OTHER_SUM: u32 = 22;
 // A report in an area with a message whose second count is out of range is not refused with 21, or that of the end in one with a message
 // whose counts are in range is another.
 pub const OTHER_COUNT: u32 = 23;
+// Running on left another area than as many picks, each from the link with a message that has the lowest receiver and then the lowest sender
+// (02, N11).
+pub const ORDER: u32 = 24;

@@ -7,7 +7,9 @@
 --   Selection          == a link with a message, or nobody
 --   Chooser P M        == an order of running on: from its own state and the run, the link whose oldest message goes, and its next state
 --   deliverOn, goOn, runFrom, runOn   == "Running on checks 21 first, then over, then spent, then 24, 22.", over any chooser
---   lowest r           == "lowest sender first and then lowest receiver among links with a message"
+--   firstTo n c        == the first of the choices c 1 to c n that names a link
+--   linkIf r a b       == the link from a to b, if a message waits on it
+--   lowest r           == "lowest receiver first and then lowest sender" (02, N11), among links with a message
 --   fixedOrder         == that choice as a chooser, which needs no state
 --   ranNumber, ranMade == for each case of running on's answer 01's number, and the number made
 -- Assumes nothing.
@@ -128,20 +130,23 @@ module _ {M : Type 0} where
   waiting [] = false
   waiting (m ∷ ms) = true
 
+-- the first of c 1 to c n that names a link
+unfoldable pub firstTo : ℕ → (ℕ → Selection) → Selection
+firstTo zero c = nobody
+firstTo (suc n) c = orElse (firstTo n c) (c (suc n))
+
 module _ {P M : Type 0} where
-  -- the lowest receiver of 1 to n to whom a message from a waits
-  unfoldable pub lowestReceiver : Machine P M → ℕ → ℕ → Selection
-  lowestReceiver r a zero = nobody
-  lowestReceiver r a (suc n) = orElse (lowestReceiver r a n) (choose (waiting (r .link a (suc n))) (pair a (suc n)) nobody)
+  -- the link from a to b, if a message waits on it
+  unfoldable pub linkIf : Machine P M → ℕ → ℕ → Selection
+  linkIf r a b = choose (waiting (r .link a b)) (pair a b) nobody
 
-  -- the lowest sender of 1 to n from whom a message waits, with the lowest receiver
-  unfoldable pub lowestSender : Machine P M → ℕ → Selection
-  lowestSender r zero = nobody
-  lowestSender r (suc n) = orElse (lowestSender r n) (lowestReceiver r (suc n) (r .waits .n))
+  -- the lowest sender of 1 to n from whom a message waits for b
+  unfoldable pub lowestSender : Machine P M → ℕ → ℕ → Selection
+  lowestSender r b n = firstTo n (λ a. linkIf r a b)
 
-  -- "lowest sender first and then lowest receiver among links with a message"
+  -- 02, N11, in the place of 01's order: "The fixed order becomes lowest receiver first and then lowest sender."
   unfoldable pub lowest : Machine P M → Selection
-  lowest r = lowestSender r (r .waits .n)
+  lowest r = firstTo (r .waits .n) (λ b. lowestSender r b (r .waits .n))
 
   abbrev pub fixedOrder : Chooser P M
   fixedOrder s r = (lowest r, s)

@@ -1,6 +1,6 @@
 -- Running on, turn by turn, over any chooser: what `runFrom` gives by the first thing that is met, where k deliveries are to be made in all
 -- and so many are.
---   from-over, from-more, goOn-by   == by the first thing that is met, where k are still to be made
+--   from-over, from-spent, from-more, goOn-by   == by the first thing that is met, where k are still to be made
 --   runFrom-over, runFrom-spent, runFrom-refused   == it ends here
 --   runFrom-next      == one more delivery is made
 -- Assumes nothing.
@@ -24,6 +24,10 @@ module _ {P M : Type 0} (ρ : Rules P M) (next : Chooser P M) (s : ℕ) (r : Mac
   from-over zero made o = rw o
   from-over (suc j) made o = rw (runFrom, o)
 
+  pub from-spent : (made : ℕ) → over ρ r ≡ false → runFrom ρ next 0 made s r ≡ record { answer = Spent made; run = r }
+  unfolding runFrom
+  from-spent made o = rw o
+
   pub from-more : (j made : ℕ) → over ρ r ≡ false
       → runFrom ρ next (suc j) made s r ≡ goOn made (deliverOn ρ r (next s r .0)) (λ q. runFrom ρ next j (suc made) (next s r .1) q)
   unfolding runFrom
@@ -35,8 +39,7 @@ module _ {P M : Type 0} (ρ : Rules P M) (next : Chooser P M) (s : ℕ) (r : Mac
 
     module _ (o : over ρ r ≡ false) where
       pub runFrom-spent : k ≤ made → runFrom ρ next (k - made) made s r ≡ record { answer = Spent made; run = r }
-      unfolding runFrom
-      runFrom-spent u = let z : k - made ≡ 0 = omega arith in rw (z, o)
+      runFrom-spent u = let z : k - made ≡ 0 = omega arith in rw z (from-spent made o)
 
       module _ (u : made < k) where
         rest : Machine P M → RanOn P M

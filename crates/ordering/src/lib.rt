@@ -431,3 +431,9 @@ pub fn is_looked_into(words: usize, call: Call, c: Course) -> bool {
     }
     x % 4 == 0
 }
+
+// Whether what running on leaves is compared with what picks in the fixed order leave, in an area of so many words: in small areas, before the
+// end.
+pub fn is_followed(words: usize, call: Call, c: Course) -> bool {
+    call.k > 0 && c.past == 0 && words < SMALL
+}

@@ -9,7 +9,6 @@
 --   Balanced ..               == one of the two sums: how far it and the count sent differ from the sum before and the count received
 --   Effect root m o i a x t   == what the step t of x on message m from a does, with o successors and i predecessors
 --   Named a x t               == whom the step t of any record x takes as father, and whom it acknowledges
---   Grown o i x t             == where the step t of any record x broadcasts, num gains the probes sent
 --   RecordInRange x           == the parts of inRange, by name
 --   outNeeded, inNeeded       == a degree if the step broadcasts along it, and else 0
 -- Assumes nothing.
@@ -143,10 +142,6 @@ abbrev pub inNeeded : Message → Process → ℕ → ℕ
 inNeeded Suc x i = 0
 inNeeded Pre x i = choose (eqb (x .preceding) 0) i 0
 inNeeded (Ack c) x i = 0
-
--- where a step broadcasts, num gains the probes sent
-abbrev pub Grown : ℕ → ℕ → Process → Turn → Type 0
-Grown o i x t = 1 ≤ sucsOf t + presOf t → t .process .num ≡ x .num + (sucsOf t * o + presOf t * i)
 
 -- "succeeding, preceding, subordinate (0 or 1 each), cs (−128 to 128), num (0 to 256)", second in cs's range, part by part
 pub record RecordInRange (x : Process) : Type 0 where

@@ -4,7 +4,6 @@
 --   newSubordinate-both             == of two flags: the new subordinate, and 1 for both, are succeeding
 --   turn-effect, startTurn-effect   == every step has the effect that Effect says
 --   turn-named, startTurn-named     == whom a step of any record takes as father, and whom it acknowledges
---   turn-grown, startTurn-grown, grown-sucs, grown-pres   == where the step of any record broadcasts, num grows by the number of probes
 --   stepped-needed    == a step does not depend on a degree that it does not use
 --   ownCount-small    == the 1 or 0 that a process adds to its second sum is a count in range
 --   inRange-P         == what `inRange x` says of the values of a record
@@ -13,7 +12,7 @@
 use Prim.Native.Nat.{ℕ, zero, suc, _+_, _-_, _*_, _≤_}
 use mathlib.Core.Bool.{Bool, true, false, not, _&&_, false≢true, true≢false}
 use mathlib.Core.Logic.{_⊎_, inl, inr}
-use mathlib.Core.Path.{_≡_, refl, ap, subst}
+use mathlib.Core.Path.{_≡_, refl, ap}
 use native.Mathlib.Nat.{mul-le-mul}
 use native.Mathlib.Omega.{arith}
 use borrow.Author.Tests.{leb-true, le-leb, ne-eqb, le-ltb}
@@ -31,13 +30,12 @@ use Rattle.steps.specs.declared.Message.the-variants.{Suc, Pre, Ack}
 use Rattle.steps.specs.declared.Process.{Process}
 use Rattle.steps.specs.declared.TwoCounts.{TwoCounts}
 use Rattle.steps.specs.declared.Probes.{Probes}
-use Rattle.steps.specs.declared.Probes.the-variants.{Sucs, Pres}
 use Rattle.steps.specs.declared.Reply.{Reply}
 use Rattle.steps.specs.declared.Reply.the-variants.{To}
 use Rattle.tables.specs.Table.{mostProcesses}
 use Rattle.steps.specs.Step.{small, inRange, Turn, newSubordinate, gained, rule1, setSucceeding, setPreceding, rule3, rule4, acknowledged, turn}
 use Rattle.steps.specs.Step.{mostCount, mostNum, sumsOf, noCounts, ownCount, gaining, startTurn, lentInRange, fitting, stepNumber, answer, stepped}
-use Rattle.steps.specs.Effect.{Grown, RecordInRange, kindSucs, kindPres, isProbe, isSuc, isPre, countsOf, sucsOf, presOf, replyCounts, acksTo}
+use Rattle.steps.specs.Effect.{RecordInRange, isProbe, isSuc, isPre, countsOf, sucsOf, presOf, replyCounts, acksTo}
 use Rattle.steps.specs.Effect.{heirTo, both, Known, Balanced, Effect, Named, outNeeded, inNeeded}
 
 -- ---- rules 1 and 2
@@ -467,47 +465,6 @@ unfolding startTurn
 startTurn-named Suc a x = record { father = inl refl; reply = λ q c r. inl (to-same r) }
 startTurn-named Pre a x = record { father = inl refl; reply = λ q c r. inl (to-same r) }
 startTurn-named (Ack c) a x = acknowledged-named a c x
-
--- ---- num, of any record
-
--- the same by what is broadcast
-module _ (o i : ℕ) (x : Process) (t : Turn) (g : Grown o i x t) where
-  grown-by : (v : Probes) → t .probes ≡ v → 1 ≤ kindSucs v + kindPres v → t .process .num ≡ x .num + (kindSucs v * o + kindPres v * i)
-  grown-by v e = subst (λ (v : Probes). 1 ≤ kindSucs v + kindPres v → t .process .num ≡ x .num + (kindSucs v * o + kindPres v * i)) e g
-
-  pub grown-sucs : t .probes ≡ Sucs → t .process .num ≡ x .num + o
-  grown-sucs e = omega (arith, grown-by Sucs e (omega arith))
-
-  pub grown-pres : t .probes ≡ Pres → t .process .num ≡ x .num + i
-  grown-pres e = omega (arith, grown-by Pres e (omega arith))
-
-rules34-grown : {m : Message} {o i : ℕ} {x : Process} {t : Turn} → Marked m o i x t → Grown o i x (rule4 (rule3 t))
-unfolding rule3 rule4
-rules34-grown {o = o} {i = i} {x = x} {t = t} h = at (tested (eqb (t .process .num) 0))
-  where
-    at : Tested (eqb (t .process .num) 0) → Grown o i x (rule4 (rule3 t))
-    at (passed e) = rw e (λ _. h .num)
-    at (failed e) = rw e (λ _. h .num)
-
-acknowledged-grown : (o i : ℕ) (c : TwoCounts) (x : Process) → Grown o i x (rule4 (acknowledged c x))
-unfolding acknowledged rule4
-acknowledged-grown o i c x = at (tested (eqb (x .num - 1) 0))
-  where
-    at : Tested (eqb (x .num - 1) 0) → Grown o i x (rule4 (acknowledged c x))
-    at (passed e) = rw e (λ l. absurd (omega arith))
-    at (failed e) = rw e (λ l. absurd (omega arith))
-
-pub turn-grown : (m : Message) (o i a : ℕ) (x : Process) → Grown o i x (turn m o i a x)
-unfolding turn
-turn-grown Suc o i a x = rules34-grown (setSucceeding-marked o i x (rule1 a x) (rule1-plain a x))
-turn-grown Pre o i a x = rules34-grown (setPreceding-marked o i x (rule1 a x) (rule1-plain a x))
-turn-grown (Ack c) o i a x = acknowledged-grown o i c x
-
-pub startTurn-grown : (m : Message) (o i a : ℕ) (x : Process) → Grown o i x (startTurn m a x)
-unfolding startTurn acknowledged
-startTurn-grown Suc o i a x l = absurd (omega arith)
-startTurn-grown Pre o i a x l = absurd (omega arith)
-startTurn-grown (Ack c) o i a x l = absurd (omega arith)
 
 -- ---- degrees that are not used
 

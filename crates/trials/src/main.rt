@@ -4,7 +4,8 @@
 // A case is a wait graph and a start. Its table is written by the library and read by the search, from the bytes. It is run in the fixed
 // order and in many other orders by picks (the crate `comparing`), with refused picks, readings and runnings on by nothing among them.
 // The last run of each case overtakes: its picks take younger messages first wherever two wait on a link (02, N5), and the line of a family
-// says how many deliveries did. In small areas the messages on a link are looked at, in a copy, before and after some picks.
+// says how many deliveries did. In small areas the messages on a link are looked at, in a copy, before and after some picks, and running on leaves
+// what as many picks leave in a copy, lowest receiver first and then lowest sender (02, N11).
 // The runs of a case name the two editions in turn (02, N4), and the line of a family says how many cases are knots by each; all else is
 // expected to be the same under both. It also says how many cases are returned (02, N3): every knot by the second edition is among them, those
 // that are knots by the first alone are not, and the others are no knots.

@@ -2,17 +2,21 @@
 //!
 //!     bench [PLOT.svg]
 //!
-//! Every time is the median of repetitions in which the two take turns. With KNOT_CHECK set to
+//! Every time is the median of repetitions in which the two take turns. All calls are timed on the
+//! waits in which each process waits for the next four, and a whole check by one running on also
+//! on waits of other shapes, with the bounds that it is to keep. With KNOT_CHECK set to
 //! the built check program, that program is timed from process start to exit against
 //! `plain_check`, which stands beside this one (or at PLAIN_CHECK).
 
 mod plot;
 mod programs;
 mod rows;
+mod shapes;
 mod timing;
 
 use calls::{Calls, Plain, Proved, STANDIN};
-use rows::{print_growth, print_rows, Size};
+use rows::{print_growth, print_rows, print_shapes, Shaped, Size};
+use shapes::{Shape, SHAPES};
 use std::hint::black_box;
 use std::process::ExitCode;
 use std::time::Instant;
@@ -21,9 +25,9 @@ use timing::{time_all, Timed};
 /// N and M doubled three times, up to the largest table.
 const SIZES: [usize; 4] = [16, 32, 64, 128];
 
-/// One check: every process waits for the next four, so that all arcs count in D both ways and
-/// D is 4 times M.
+/// One check on waits of one shape.
 pub struct Input {
+    shape: &'static str,
     size: Size,
     table: Vec<u8>,
     words: usize,
@@ -34,25 +38,26 @@ pub struct Input {
 }
 
 impl Input {
-    fn new(n: usize) -> Input {
-        let waits = (0..n).flat_map(|i| (1..=4).map(move |j| [i + 1, (i + j) % n + 1]));
-        let list: Vec<u16> = waits.flatten().map(|end| end as u16).collect();
+    fn new((shape, waits): Shape, n: usize) -> Input {
+        let waits = waits(n).into_iter().flat_map(|(from, to)| [from, to]);
+        let list: Vec<u16> = waits.map(|end| end as u16).collect();
         let size = Size { n, m: list.len() / 2 };
         let mut table = vec![0; 4 + 4 * size.n + 8 * size.m];
         plain::write_table(n, &list, &mut table).expect("the list is right");
         let words = 8 * size.n + 20 * size.m + 16;
         let mut started = vec![0; words];
-        plain::start(&table, 1, 1, &mut started).expect("the table is right");
-        let picks = own_picks(&table);
-        assert_eq!(picks.len(), 4 * size.m, "D of a strongly connected graph");
-        Input { size, table, words, started, picks }
+        // The start with the largest check, and the lowest of these.
+        let starts = (1..=n).map(|start| (own_picks(&table, start), start));
+        let (picks, start) = starts.rev().max_by_key(|(picks, _)| picks.len()).expect("n is not 0");
+        plain::start(&table, start, 1, &mut started).expect("the table is right");
+        Input { shape, size, table, words, started, picks }
     }
 }
 
 /// The deliveries that the check program makes by itself.
-fn own_picks(table: &[u8]) -> Vec<(usize, usize)> {
+fn own_picks(table: &[u8], start: usize) -> Vec<(usize, usize)> {
     let mut printed = Vec::new();
-    plain::check_program(&programs::input_of(table), &mut printed);
+    plain::check_program(&programs::input_of(table, start), &mut printed);
     let printed = String::from_utf8(printed).expect("it prints ASCII");
     let own = printed.lines().filter_map(|line| line.strip_prefix("own "));
     let numbers = own.map(|line| {
@@ -145,23 +150,36 @@ fn main() -> ExitCode {
     if STANDIN {
         println!("STAND-IN: the plain Rust is timed against itself, not the proved library\n");
     }
-    let inputs = SIZES.map(Input::new);
-    let largest = &inputs[SIZES.len() - 1];
+    let inputs: Vec<Input> =
+        SHAPES.into_iter().flat_map(|shape| SIZES.map(|n| Input::new(shape, n))).collect();
+    let (next_four, others) = inputs.split_at(SIZES.len());
+    let largest = &next_four[SIZES.len() - 1];
+    assert_eq!(largest.picks.len(), 4 * largest.size.m, "D of a strongly connected graph");
     let mut things: Vec<Timed> = Vec::new();
-    for input in &inputs {
+    for input in next_four {
         things.extend([read(input), start(input), pick(input), whole(input)]);
     }
+    things.extend(others.iter().map(whole));
     things.push(picks(largest));
     match programs::timed(&largest.table, &largest.picks) {
         Ok(timed) => things.extend(timed),
         Err(reason) => println!("The program is not timed: {reason}.\n"),
     }
     let rows = time_all(things);
-    let growth = rows.as_chunks::<4>().0[..SIZES.len()].to_vec();
-    print_rows(&rows[4 * (SIZES.len() - 1)..]);
-    print_growth(&growth);
+    let (growth, rest) = rows.split_at(4 * SIZES.len());
+    let (by_shape, rest) = rest.split_at(others.len());
+    let growth = growth.as_chunks::<4>().0;
+    print_rows(&[&growth[SIZES.len() - 1], rest].concat());
+    print_growth(growth);
+    let whole_checks = growth.iter().map(|rows| rows[3]).chain(by_shape.iter().copied());
+    let shaped = inputs.iter().zip(whole_checks).map(|(input, row)| Shaped {
+        shape: input.shape,
+        deliveries: input.picks.len(),
+        row,
+    });
+    print_shapes(&shaped.collect::<Vec<_>>());
     if let Some(path) = std::env::args_os().nth(1) {
-        if let Err(error) = std::fs::write(&path, plot::draw(&growth)) {
+        if let Err(error) = std::fs::write(&path, plot::draw(growth)) {
             eprintln!("bench: {}: {error}", path.to_string_lossy());
             return ExitCode::FAILURE;
         }

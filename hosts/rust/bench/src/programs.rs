@@ -13,16 +13,16 @@ fn plain_program() -> Result<PathBuf, String> {
     path.filter(|path| path.exists()).ok_or("plain_check is not built".into())
 }
 
-/// An input without picks: start process 1, edition 1, the table.
-pub fn input_of(table: &[u8]) -> Vec<u8> {
-    [&[1, 0, 1, 0], table].concat()
+/// An input without picks: the start process, edition 1, the table.
+pub fn input_of(table: &[u8], start: usize) -> Vec<u8> {
+    [&[start as u8, 0, 1, 0], table].concat()
 }
 
 /// An input without picks, and the longest input, most of it picks.
 pub fn timed(table: &[u8], picks: &[(usize, usize)]) -> Result<[Timed<'static>; 2], String> {
     let proved = env::var_os("KNOT_CHECK").map(PathBuf::from).ok_or("KNOT_CHECK is not set")?;
     let programs = [plain_program()?, proved];
-    let short = input_of(table);
+    let short = input_of(table, 1);
     let mut long = short.clone();
     // The whole check by picks, then picks that are refused.
     for &(from, to) in picks.iter().cycle() {

@@ -72,3 +72,48 @@ pub fn print_growth(growth: &[[Row; 4]]) {
         }
     }
 }
+
+/// Both times of a whole check on waits of one shape, and its deliveries.
+pub struct Shaped {
+    pub shape: &'static str,
+    pub deliveries: usize,
+    pub row: Row,
+}
+
+/// How many times as long as the plain Rust the proved code may take, by N.
+fn bound(n: usize) -> f64 {
+    match n {
+        128 => 1.5,
+        _ => 2.0,
+    }
+}
+
+/// How many times as long one delivery may take in the largest check as in the one before.
+const DELIVERY_BOUND: f64 = 1.1;
+
+/// For each shape its whole checks by size, then its time for each delivery in the two largest.
+pub fn print_shapes(shaped: &[Shaped]) {
+    println!("\n| a whole check by one running on | N, M | deliveries | proved | plain Rust | ratio | to be within |");
+    println!("|---|---|---|---|---|---|---|");
+    for Shaped { shape, deliveries, row } in shaped {
+        let Some(Size { n, m }) = row.size else { continue };
+        let ratio = row.proved / row.plain;
+        let (proved, plain) = (time(row.proved), time(row.plain));
+        println!(
+            "| {shape} | {n}, {m} | {deliveries} | {proved} | {plain} | {ratio:.2} | {} |",
+            bound(n)
+        );
+    }
+    println!("\n| time for each delivery, N 64 to 128 | proved | times as long | plain Rust | times as long | to be within |");
+    println!("|---|---|---|---|---|---|");
+    for sizes in shaped.chunk_by(|a, b| a.shape == b.shape) {
+        let [.., smaller, larger] = sizes else { continue };
+        let each = |of: fn(&Row) -> f64| {
+            let [from, to] =
+                [smaller, larger].map(|check| of(&check.row) / check.deliveries as f64);
+            format!("{} to {} | {:.2}", time(from), time(to), to / from)
+        };
+        let (proved, plain) = (each(|row| row.proved), each(|row| row.plain));
+        println!("| {} | {proved} | {plain} | {DELIVERY_BOUND} |", larger.shape);
+    }
+}

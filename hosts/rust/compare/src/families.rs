@@ -13,7 +13,7 @@ use calls::{Calls, LentRecord, Received};
 type Family<L> = fn(&mut Driver<L>, &mut Rng, u64) -> Outcome<()>;
 
 /// Every family with its name and the least number of calls in a whole comparison.
-pub fn families<L: Calls>() -> [(&'static str, u64, Family<L>); 15] {
+pub fn families<L: Calls>() -> [(&'static str, u64, Family<L>); 16] {
     [
         ("valid tables", 150_000, valid_tables),
         ("damaged tables", 200_000, damaged_tables),
@@ -30,6 +30,7 @@ pub fn families<L: Calls>() -> [(&'static str, u64, Family<L>); 15] {
         ("every place on a link", 150_000, places),
         ("editions", 150_000, editions),
         ("second sums and counts", 200_000, second_numbers),
+        ("small runnings on and picks in turn", 150_000, small_runs),
     ]
 }
 
@@ -304,6 +305,7 @@ enum Taste {
     Any,
     Probes,
     Acknowledgements,
+    /// The order of running on (02, N11), turned round.
     Last,
 }
 
@@ -336,7 +338,7 @@ fn choose_message(
                 Taste::Any => 0,
                 Taste::Probes => i32::from(message <= 2),
                 Taste::Acknowledgements => i32::from(message > 2),
-                Taste::Last => (link.from * 256 + link.to) as i32,
+                Taste::Last => (link.to * 256 + link.from) as i32,
             };
             // Among equals a drawn one.
             let worth = (worth, rng.word());
@@ -810,6 +812,44 @@ fn with_word<L: Calls>(
     every_call(driver, rng, graph.n, links, lent)?;
     lent.area[place] = held;
     Ok(())
+}
+
+/// Whole checks, and well-formed areas that no run reaches, by runnings on of 0 to 3 and single picks
+/// in turn (02, N11): the area after each shows which links the deliveries were on.
+fn small_runs<L: Calls>(driver: &mut Driver<L>, rng: &mut Rng, least: u64) -> Outcome<()> {
+    while driver.calls_in_family() < least {
+        let graph = Graph::uneven(rng);
+        let (start, edition) = (rng.within(1, graph.n), rng.choose(&EDITIONS));
+        let (mut lent, links) = begin(driver, rng, &graph, Call::Start { start, edition })?;
+        run_by_few(driver, rng, &links, &mut lent)?;
+        hold_against_search(driver, &graph, start, edition, &mut lent)?;
+        for _ in 0..4 {
+            let (mut lent, links) = unreached_area(rng, &graph);
+            run_by_few(driver, rng, &links, &mut lent)?;
+        }
+    }
+    Ok(())
+}
+
+/// Until the run is over or a running on is refused.
+fn run_by_few<L: Calls>(
+    driver: &mut Driver<L>,
+    rng: &mut Rng,
+    links: &[Link],
+    lent: &mut Lent,
+) -> Outcome<()> {
+    let order = any_order(rng);
+    loop {
+        let ran = driver.make(Call::RunOn { k: rng.below(4) as u32 }, lent)?;
+        if ran.number != 0 || ran.values[0] == 1 {
+            return Ok(());
+        }
+        if rng.one_in(2) {
+            if let Some((link, place)) = choose_message(rng, order, links, &lent.area) {
+                driver.make(pick(link, place), lent)?;
+            }
+        }
+    }
 }
 
 fn surplus_areas<L: Calls>(driver: &mut Driver<L>, rng: &mut Rng, least: u64) -> Outcome<()> {

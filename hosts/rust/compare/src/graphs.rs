@@ -184,6 +184,23 @@ impl Graph {
         Graph { n, waits }
     }
 
+    /// Waits of uneven degrees: by drawn shares some processes wait for many and some are waited for
+    /// by many, and every third or so waits for itself.
+    pub fn uneven(rng: &mut Rng) -> Graph {
+        let n = if rng.one_in(64) { MOST_PROCESSES } else { rng.within(2, 16) };
+        let mut shares =
+            || -> Vec<usize> { (0..n).map(|_| rng.choose(&[0, 1, 1, 2, 6])).collect() };
+        let (out, of) = (shares(), shares());
+        let pairs = (0..n * n).filter(|pair| match (pair / n, pair % n) {
+            (from, to) if from == to => rng.one_in(3),
+            (from, to) => rng.below(24) < out[from] * of[to],
+        });
+        let mut waits: Vec<_> = pairs.map(|pair| (pair / n + 1, pair % n + 1)).collect();
+        rng.shuffle(&mut waits);
+        waits.truncate(MOST_ARCS);
+        Graph { n, waits }
+    }
+
     /// The waits as a list for the writer.
     pub fn list(&self) -> Vec<u16> {
         self.waits.iter().flat_map(|&(from, to)| [from as u16, to as u16]).collect()

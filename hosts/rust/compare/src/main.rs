@@ -15,6 +15,8 @@ mod planted;
 mod programs;
 mod rng;
 #[cfg(test)]
+mod running;
+#[cfg(test)]
 mod seconds;
 
 use calls::{Calls, Proved, STANDIN};

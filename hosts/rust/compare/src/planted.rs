@@ -4,7 +4,8 @@
 use crate::driver::Driver;
 use crate::families::{COUNTS, EDITIONS, OTHER_EDITIONS, OTHER_EDITION_WORDS, PLACES, SUMS};
 use crate::graphs::Graph;
-use crate::layout::{ack_word, links, Link, EDITION, MOST_WAITING};
+use crate::layout::{ack_word, Link, EDITION, MOST_WAITING};
+use crate::running::{links_in, run_on_by_picks, ORDER_FAULTS};
 use crate::seconds::{
     counts_in, graph_in, is_small, pick_with_more, second_place, with_counts_swapped,
     without_second, Receiver, SecondPlaces,
@@ -15,8 +16,10 @@ use std::cell::RefCell;
 use std::collections::BTreeSet;
 
 #[derive(Clone, Copy, Debug, PartialEq)]
-enum Fault {
+pub enum Fault {
     Sound,
+    /// No fault: running on is made by picks.
+    SoundByPicks,
     ReadGivesAnotherM,
     ReadTakes7Before6,
     ReadLeavesNWhenRefused,
@@ -77,6 +80,15 @@ enum Fault {
     RunForgetsMadeWhenRefused,
     RunSaysOverForSpent,
     RunUndoesItsDeliveriesWhenRefused,
+    RunTakesSendersFirst,
+    RunTakesTheHighestSender,
+    /// To a receiver under the last one, though a message waits for it, until none is left above.
+    RunNeverGoesDown,
+    /// One link to it is empty, though a message waits on another.
+    RunForgetsAReceiverAfterOneLink,
+    RunTakesALinkThatFellEmpty,
+    /// The link to itself is empty before the receiver sends on it.
+    RunForgetsWhatALoopSends,
     ReportHasAFixedVerdict,
     ReportNamesTheStartAsEscape,
     ReportNamesNoEscape,
@@ -141,11 +153,6 @@ fn first_with(flag: usize, area: &mut [i32], mut processes: impl Iterator<Item =
     first.map_or(0, |process| process as i64)
 }
 
-/// The links of a well-formed area.
-fn links_in(area: &[i32]) -> Vec<Link> {
-    links(&graph_in(area))
-}
-
 fn is_edition(number: usize) -> bool {
     EDITIONS.contains(&number)
 }
@@ -166,6 +173,9 @@ struct Noted {
     /// Of picks that were not refused with 21, 25 or 23: how many messages waited on the link, the
     /// place, and the number that was given.
     picks: BTreeSet<(usize, usize, u32)>,
+    /// Of accepted runnings on that made one delivery: whether the order before 02, N11 has another
+    /// link, whether another sender's message waits for the receiver, and whether the link is a loop.
+    deliveries: BTreeSet<[bool; 3]>,
     /// On areas of one to three processes.
     reports: BTreeSet<Judged>,
     /// Of calls on an area that would be well formed with an edition: the call, the word in the
@@ -435,6 +445,15 @@ impl Planted {
         }
     }
 
+    fn note_delivery(&self, before: &[i32]) {
+        let links = links_in(before).into_iter().filter(|link| link.load(before) > 0);
+        let links: Vec<_> = links.map(|Link { from, to, .. }| (from, to)).collect();
+        let &(from, to) = links.iter().min_by_key(|(from, to)| (to, from)).expect("it took one");
+        let is_another = links.iter().min() != Some(&(from, to));
+        let has_another = links.iter().any(|&(other, also)| also == to && other != from);
+        self.noted.borrow_mut().deliveries.insert([is_another, has_another, from == to]);
+    }
+
     fn note_step(&self, record: LentRecord, received: Received, refused: bool) {
         let others = (LentRecord { second: 0, ..record }, Received { second_count: 0, ..received });
         if Plain.step(others.0, others.1).number != 21 {
@@ -580,11 +599,14 @@ impl Calls for Planted {
     }
 
     fn run_on(&self, area: &mut [i32], k: u32) -> Answer {
+        if self.has(SoundByPicks) || ORDER_FAULTS.contains(&self.fault) {
+            return run_on_by_picks(self.fault, area, k);
+        }
         let before = area.to_vec();
         let k = if self.has(RunTakesOnlyItsFirstStep) { k.min(1) } else { k };
         if self.has(RunTakesTheNewest) && Plain.run_on(area, 0) == Answer::new(0, [0, 0]) {
             let waiting = links_in(area).into_iter().filter(|link| link.load(area) > 0);
-            if let Some(link) = waiting.min_by_key(|link| (link.from, link.to)) {
+            if let Some(link) = waiting.min_by_key(|link| (link.to, link.from)) {
                 let load = link.load(area);
                 area[link.place..link.place + load].rotate_right(1);
             }
@@ -595,6 +617,9 @@ impl Calls for Planted {
             }
         }
         let mut answer = self.seen("run_on", area, |area| Plain.run_on(area, k));
+        if self.has(Sound) && (answer.number, answer.values[1]) == (0, 1) {
+            self.note_delivery(&before);
+        }
         match self.fault {
             RunForgetsTheEdition if answer.values[1] > 0 => area[EDITION] = 1,
             RunTakesTheNewest | RunDropsSecondCounts if answer.values[1] == 0 => {
@@ -722,9 +747,9 @@ fn add_to_step(answer: &mut Answer, lent: LentRecord, more: i64) {
     answer.values[if is_passed_on { REPLY_SECOND } else { SECOND_SUM }] += more;
 }
 
-/// The name of the call in which the comparison sees the fault.
-fn call_that_shows(fault: Fault) -> Option<String> {
-    let options = Options { seed: 7, family: None, program: None };
+/// The name of the call in which the comparison, of all families or of one, sees the fault.
+fn call_that_shows(fault: Fault, family: Option<&str>) -> Option<String> {
+    let options = Options { seed: 7, family: family.map(str::to_string), program: None };
     let library = Planted::new(fault);
     let mut driver = Driver::new(&library, options.seed);
     let outcome = compare(&mut driver, &options, 20);
@@ -737,7 +762,8 @@ fn call_that_shows(fault: Fault) -> Option<String> {
 
 #[test]
 fn the_plain_rust_agrees_with_itself() {
-    assert_eq!(call_that_shows(Sound), None);
+    assert_eq!(call_that_shows(Sound, None), None);
+    assert_eq!(call_that_shows(SoundByPicks, None), None);
 }
 
 #[test]
@@ -803,6 +829,12 @@ fn every_planted_fault_is_found_and_its_call_named() {
         (RunForgetsMadeWhenRefused, "RunOn"),
         (RunSaysOverForSpent, "RunOn"),
         (RunUndoesItsDeliveriesWhenRefused, "RunOn"),
+        (RunTakesSendersFirst, "RunOn"),
+        (RunTakesTheHighestSender, "RunOn"),
+        (RunNeverGoesDown, "RunOn"),
+        (RunForgetsAReceiverAfterOneLink, "RunOn"),
+        (RunTakesALinkThatFellEmpty, "RunOn"),
+        (RunForgetsWhatALoopSends, "RunOn"),
         (ReportHasAFixedVerdict, "Report"),
         (ReportNamesTheStartAsEscape, "Report"),
         (ReportNamesNoEscape, "Report"),
@@ -849,8 +881,20 @@ fn every_planted_fault_is_found_and_its_call_named() {
         (StepLetsTheSecondSumLeaveItsRange, "Step"),
     ];
     for (fault, call) in faults {
-        let shown = call_that_shows(fault).unwrap_or_else(|| panic!("{fault:?} is not found"));
+        let shown =
+            call_that_shows(fault, None).unwrap_or_else(|| panic!("{fault:?} is not found"));
         assert!(shown.starts_with(call), "{fault:?} shows in {shown}");
+    }
+}
+
+const SMALL_RUNS: &str = "small runnings on and picks in turn";
+
+/// 02, N11.
+#[test]
+fn every_fault_of_the_order_is_found_by_small_runnings_on() {
+    for fault in ORDER_FAULTS {
+        let shown = call_that_shows(fault, Some(SMALL_RUNS));
+        assert!(shown.is_some_and(|call| call.starts_with("RunOn")), "{fault:?} is not found");
     }
 }
 
@@ -861,6 +905,16 @@ fn noted_in(family: &str, per_mille: u64) -> Noted {
     let mut driver = Driver::new(&library, options.seed);
     compare(&mut driver, &options, per_mille).expect("no fault is planted");
     library.noted.into_inner()
+}
+
+/// 02, N11: deliveries that show which link is taken, among all kinds of links.
+#[test]
+fn small_runnings_on_choose_among_all_kinds_of_links() {
+    let Noted { deliveries, .. } = noted_in(SMALL_RUNS, 100);
+    for kind in 0..8 {
+        let kind = [1, 2, 4].map(|bit| kind & bit != 0);
+        assert!(deliveries.contains(&kind), "{kind:?} is missing");
+    }
 }
 
 /// 02, N5: on links with 0 to 4 messages.

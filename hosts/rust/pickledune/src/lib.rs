@@ -207,8 +207,8 @@ pub fn pick(area: &mut [i32], from: usize, to: usize, place: usize) -> Result<Me
     })
 }
 
-/// Makes up to `k` deliveries, each of the oldest message on the link with a message that has the lowest sender and then the lowest
-/// receiver. A run that a start began is over after at most 2048. 21 before the first delivery; 24, 22 at a delivery.
+/// Makes up to `k` deliveries, each of the oldest message on the link with a message that has the lowest receiver and then the lowest
+/// sender (02, N11). A run that a start began is over after at most 2048. 21 before the first delivery; 24, 22 at a delivery.
 pub fn run_on(area: &mut [i32], k: u32) -> Ran {
     let mut over = 0;
     let mut made = 0;

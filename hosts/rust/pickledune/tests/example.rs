@@ -112,6 +112,24 @@ fn running_on_does_what_the_picks_do() {
     assert_eq!(area, picked);
 }
 
+/// 02, N11: 3 waits for 1 and 2, which wait for nobody. Both get their probe before 3 gets the acknowledgement of 1, and both
+/// acknowledgements wait then, of which that of 1 goes first.
+#[test]
+fn running_on_takes_the_lowest_receiver_and_then_the_lowest_sender() {
+    let links = [(3, 1), (3, 2), (1, 3), (2, 3)];
+    let messages = [Message::Suc, Message::Suc, ack(1, 1), ack(1, 1)];
+    let mut picked = started(&written(3, &[3, 1, 3, 2]), 3);
+    let mut area = picked.clone();
+    for (k, ((from, to), message)) in (1..).zip(links.into_iter().zip(messages)) {
+        assert_eq!(pickledune::pick(&mut picked, from, to, 1), Ok(message));
+        let mut at_once = started(&written(3, &[3, 1, 3, 2]), 3);
+        let ran = if k < 4 { Ran::Spent } else { Ran::Over };
+        assert_eq!(pickledune::run_on(&mut area, 1), ran(1));
+        assert_eq!(pickledune::run_on(&mut at_once, k), ran(k));
+        assert_eq!((&area, &at_once), (&picked, &picked));
+    }
+}
+
 /// The verdict under editions 1 and 2 (02, N4).
 type Verdicts = [Verdict; 2];
 const KNOT: Verdicts = [Verdict::Knot, Verdict::Knot];

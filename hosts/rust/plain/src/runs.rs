@@ -70,10 +70,10 @@ impl Links for Searched {
 /// For many deliveries: where every link is, and which links hold a message.
 pub(crate) struct Indexed {
     places: [[u16; MOST_PROCESSES]; MOST_PROCESSES],
-    /// Bit q − 1 of row p − 1: a message waits on the link from p to q.
-    receivers: [u128; MOST_PROCESSES],
-    /// Bit p − 1: row p − 1 is not 0.
-    senders: u128,
+    /// Bit p − 1 of row q − 1: a message waits on the link from p to q.
+    senders: [u128; MOST_PROCESSES],
+    /// Bit q − 1: row q − 1 is not 0.
+    receivers: u128,
 }
 
 impl Links for Indexed {
@@ -81,13 +81,13 @@ impl Links for Indexed {
         usize::from(self.places[from - 1][to - 1])
     }
     fn note_sent(&mut self, from: usize, to: usize) {
-        self.receivers[from - 1] |= 1 << (to - 1);
-        self.senders |= 1 << (from - 1);
+        self.senders[to - 1] |= 1 << (from - 1);
+        self.receivers |= 1 << (to - 1);
     }
     fn note_emptied(&mut self, from: usize, to: usize) {
-        self.receivers[from - 1] &= !(1 << (to - 1));
-        if self.receivers[from - 1] == 0 {
-            self.senders &= !(1 << (from - 1));
+        self.senders[to - 1] &= !(1 << (from - 1));
+        if self.senders[to - 1] == 0 {
+            self.receivers &= !(1 << (to - 1));
         }
     }
 }
@@ -96,8 +96,8 @@ impl Indexed {
     pub(crate) fn new(run: &Run) -> Indexed {
         let mut links = Indexed {
             places: [[0; MOST_PROCESSES]; MOST_PROCESSES],
-            receivers: [0; MOST_PROCESSES],
-            senders: 0,
+            senders: [0; MOST_PROCESSES],
+            receivers: 0,
         };
         for (number, arc) in (1..).zip(run.table.arcs()) {
             let (from, to) = (arc.from(), arc.to());
@@ -116,13 +116,14 @@ impl Indexed {
         }
     }
 
-    /// The lowest sender, then the lowest receiver, among links with a message.
+    /// The first link with a message, as its sender and its receiver: "The fixed order becomes
+    /// lowest receiver first and then lowest sender" (02, N11).
     fn lowest(&self) -> Option<(usize, usize)> {
-        if self.senders == 0 {
+        if self.receivers == 0 {
             return None;
         }
-        let from = self.senders.trailing_zeros() as usize;
-        let to = self.receivers[from].trailing_zeros() as usize;
+        let to = self.receivers.trailing_zeros() as usize;
+        let from = self.senders[to].trailing_zeros() as usize;
         Some((from + 1, to + 1))
     }
 }
@@ -405,7 +406,8 @@ pub fn pick(area: &mut [i32], from: usize, to: usize, place: usize) -> Result<Me
     Run::test(area)?.pick(&mut Searched, from, to, place)
 }
 
-/// Makes up to k deliveries in the fixed order, and gives how it stopped and how many it made.
+/// Makes up to k deliveries in the fixed order (02, N11: lowest receiver first and then lowest
+/// sender), and gives how it stopped and how many it made.
 pub fn run_on(area: &mut [i32], k: u32) -> (Stopped, u32) {
     let mut run = match Run::test(area) {
         Ok(run) => run,

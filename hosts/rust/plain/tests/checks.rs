@@ -1,22 +1,11 @@
 //! 01's own examples, its table of checks, and the refusals of each call; 02's rules for the escape
 //! (N1), for the second sums and the mark (N3), for editions (N4) and for places (N5).
 
+mod common;
+
+use common::{links, printed, small_sets, started_under, table, waiting};
 use plain::*;
 use std::collections::{HashMap, HashSet};
-
-fn table(n: usize, list: &[u16]) -> Vec<u8> {
-    let mut out = vec![0; 4 + 4 * 128 + 8 * 512];
-    let length = write_table(n, list, &mut out).expect("a right list");
-    out.truncate(length);
-    out
-}
-
-fn started_under(edition: usize, n: usize, list: &[u16], first: usize) -> Vec<i32> {
-    let table = table(n, list);
-    let mut area = vec![0; words_needed(read_table(&table).unwrap())];
-    start(&table, first, edition, &mut area).unwrap();
-    area
-}
 
 fn started(n: usize, list: &[u16], first: usize) -> Vec<i32> {
     started_under(1, n, list, first)
@@ -30,12 +19,6 @@ fn ack(count: i32, second: i32) -> Message {
 /// The word of such an acknowledgement.
 fn ack_word(count: i32, second: i32) -> i32 {
     (256 + count) + 512 * (256 + second)
-}
-
-fn printed(input: &[u8]) -> String {
-    let mut out = Vec::new();
-    check_program(input, &mut out);
-    String::from_utf8(out).unwrap()
 }
 
 fn field(bytes: &mut [u8], place: usize, value: u16) {
@@ -124,11 +107,7 @@ fn assert_second_sums(area: &[i32], n: usize, start: usize, number: usize) {
 /// runs differ in the word that names the edition alone, and both mark by 02, N3.
 #[test]
 fn small_checks_are_judged_by_their_edition() {
-    let sets = (1..=3).flat_map(|n| (0..1 << (n * n)).map(move |set: u16| (n, set)));
-    for (n, set) in sets {
-        let chosen = (0..n * n).filter(|pair| set >> pair & 1 == 1);
-        let list: Vec<_> = chosen.flat_map(|pair| [pair / n + 1, pair % n + 1]).collect();
-        let n = usize::from(n);
+    for (n, list) in small_sets() {
         let ways = ways(n, &list);
         for first in 0..n {
             let reaches = |from: usize, to: usize| from == to || ways[from][to];
@@ -160,26 +139,6 @@ fn small_checks_are_judged_by_their_edition() {
             assert_eq!(report(&by_the_second), Ok(expected), "{list:?} from {}", first + 1);
         }
     }
-}
-
-/// The words where the links begin, each with the two processes of it: the first of each arc, and
-/// the second if there is no arc back.
-fn links(n: usize, list: &[u16]) -> Vec<(usize, usize, usize)> {
-    let arcs: Vec<_> = list.chunks(2).map(|arc| (arc[0].into(), arc[1].into())).collect();
-    let mut links = Vec::new();
-    for (number, &(from, to)) in arcs.iter().enumerate() {
-        let first = 16 + 8 * n + 4 * arcs.len() + 16 * number;
-        links.push((from, to, first));
-        if !arcs.contains(&(to, from)) {
-            links.push((to, from, first + 8));
-        }
-    }
-    links
-}
-
-/// The messages on a link, oldest first.
-fn waiting(area: &[i32], link: usize) -> Vec<i32> {
-    area[link..link + 4].iter().copied().take_while(|&code| code != 0).collect()
 }
 
 /// 02, N5: "All that is said of the end of a check, D included, is wanted for these picks too,
@@ -698,14 +657,15 @@ fn the_program_and_running_on_take_the_oldest() {
     let picks = [1, 0, 2, 0, 1, 0, 2, 0];
     let input = [&[1, 0, 1, 0], &table(2, &[1, 2, 2, 1])[..], &picks].concat();
     assert!(printed(&input).starts_with("pick 1 2 suc\npick 1 2 pre\n"));
+    // A suc probe and a pre probe wait on that link, and then receiver 1 comes first (02, N11).
     let own = printed(&[&[1, 0, 1, 0], &table(2, &[1, 2, 2, 1])[..]].concat());
-    assert!(own.starts_with("own 1 2 suc\nown 1 2 pre\n"), "{own}");
+    assert!(own.starts_with("own 1 2 suc\nown 2 1 suc\n"), "{own}");
     let mut area = four_on_each_link();
-    area[59] = 0;
+    area[43] = 0;
     let mut picked = area.clone();
     assert_eq!(run_on(&mut area, 2), (Stopped::Spent, 2));
-    assert_eq!(pick(&mut picked, 1, 2, 1), Ok(ack(7, 3)));
-    assert_eq!(pick(&mut picked, 1, 2, 1), Ok(Message::Pre));
+    assert_eq!(pick(&mut picked, 2, 1, 1), Ok(Message::Suc));
+    assert_eq!(pick(&mut picked, 2, 1, 1), Ok(ack(2, -1)));
     assert_eq!(area, picked);
 }
 
@@ -790,10 +750,16 @@ fn one_wait() -> Vec<i32> {
     started(2, &[1, 2], 1)
 }
 
-fn refused_untouched(area: &[i32], from: usize, to: usize) {
+fn pick_refused_untouched(area: &[i32], from: usize, to: usize) {
     let mut after = area.to_vec();
     assert_eq!(pick(&mut after, from, to, 1), Err(Refusal::Range));
     assert_eq!(after, area);
+}
+
+/// The link is the first in the order of running on, too.
+fn refused_untouched(area: &[i32], from: usize, to: usize) {
+    pick_refused_untouched(area, from, to);
+    let mut after = area.to_vec();
     let (stopped, _) = run_on(&mut after, 1);
     assert_eq!(stopped, Stopped::Refused(Refusal::Range));
     assert_eq!(after, area);
@@ -804,9 +770,15 @@ fn values_out_of_range_are_refused_with_22() {
     let mut last = one_wait();
     last[2] = 2048;
     refused_untouched(&last, 1, 2);
+    // An acknowledgement would be a fifth message: the start's, and that of 2, to which running on
+    // comes after the start (02, N11).
+    let mut full = one_wait();
+    full[36..40].fill(ack_word(0, 0));
+    full[44] = 1;
+    refused_untouched(&full, 2, 1);
     let mut full = one_wait();
     full[44..48].fill(ack_word(0, 0));
-    refused_untouched(&full, 1, 2);
+    pick_refused_untouched(&full, 1, 2);
     let mut orphan = one_wait();
     orphan[36] = ack_word(0, 0);
     refused_untouched(&orphan, 1, 2);

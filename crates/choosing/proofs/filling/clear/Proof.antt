@@ -1,30 +1,33 @@
--- `choosing::filling::clear` meets its contract. The loop's invariant: the processes below p are cleared. The measure is what is left.
+-- `choosing::filling::clear` meets its contract. The loop's invariant: the numbers before i are 0. The measure is what is left.
 -- Assumes nothing.
-use Prim.Native.Nat.{_-_, _≤_}
+use Prim.Native.Nat.{ℕ, _+_, _-_, _≤_, _<_}
+use mathlib.Core.List.{List}
+use mathlib.Core.Path.{_≡_, _∙_}
 use native.Mathlib.Omega.{arith}
-use borrow.Author.Needs.{needs}
-use Rattle.tables.specs.Pairs.{squareSide}
-use Rattle.choosing.specs.Filling.{Cleared}
-use Rattle.choosing.specs.FillLaws.{cleared-none}
-use Rattle.choosing.proofs.Fills.{cleared-by, cleared-all}
+use lib.ListN.{length, getD, set, length-set}
+use lib.Seq.{getD-set-same, getD-set-other}
+use Rattle.base.specs.ChoiceLaws.{same?}
+use Rattle.base.specs.Checks.{Same, same, apart}
+use Rattle.choosing.specs.Memory.{memorySize}
+use Rattle.choosing.specs.MarkLaws.{marks-cleared}
 use Rattle.choosing.proofs.filling.clear.Statement.{statement}
 use Rattle.choosing.proofs.filling.clear.Tie as tie
 
+abbrev Cleared : ℕ → List ℕ → Type 0
+Cleared i l = (length l ≡ memorySize) × (i ≤ memorySize) × ((j : ℕ) → j < i → getD l j 0 ≡ 0)
+
+cleared-next : (i : ℕ) (l : List ℕ) → Cleared i l → i < memorySize → Cleared (i + 1) (set l i 0)
+cleared-next i l h u = (simp length-set (h .0), omega arith, λ j v. at j v (same? j i))
+  where
+    at : (j : ℕ) → j < i + 1 → Same j i → getD (set l i 0) j 0 ≡ 0
+    at j v (same f _) = rw f (getD-set-same l i 0 0 (omega (arith, h .0)))
+    at j v (apart f _) = getD-set-other l i j 0 0 f ∙ h .2 j (omega arith)
+
 abbrev Inv-loop : tie.InvT-loop
-Inv-loop memory₀ p₀ memory p = (p ≤ squareSide) × Cleared p memory
+Inv-loop memory₀ i₀ memory i = Cleared i memory
 
 abbrev μ-loop : tie.MeasureT-loop
-μ-loop memory₀ p₀ memory p = squareSide - p
-
-loop-again : tie.Need-loop-again Inv-loop μ-loop
-loop-again c =
-    let o = c .before in
-    let a = o .before in
-    let loop = a .before .before .loop in
-    (omega arith, cleared-by (loop .inv .1) (omega arith) (a .backlog-at .ensures) (o .bound-at .ensures) (c .nearest-at .ensures))
-
-returns : tie.Need-returns Inv-loop μ-loop
-returns c = cleared-all (c .before .loop .inv .1) (omega arith)
+μ-loop memory₀ i₀ memory i = memorySize - i
 
 pub clear-spec : {M : Type 1} → statement M
 clear-spec =
@@ -32,17 +35,10 @@ clear-spec =
     (tie.spec
     Inv-loop
     μ-loop
-    (λ c. (omega arith, cleared-none (c .pre)))
-    (λ c κs. omega arith)
-    (λ c κs. omega arith)
-    (λ c κs. omega arith)
-    (λ c. search needs)
-    (λ c. search needs)
-    (λ c. search needs)
-    (λ c. search needs)
-    (λ c. search needs)
-    (λ c. search needs)
+    (λ c. (c .pre, omega arith, λ j u. absurd (omega arith)))
     (λ c. omega arith)
     (λ c. omega arith)
-    loop-again
-    returns)
+    (λ c. omega arith)
+    (λ c. omega arith)
+    (λ c. cleared-next (c .before .loop .i) (c .before .loop .memory) (c .before .loop .inv) (c .loop-test .taken))
+    (λ c. marks-cleared (c .before .loop .inv .0) (λ j u. c .before .loop .inv .2 j (omega (arith, c .loop-test .left)))))

@@ -1,32 +1,60 @@
--- `choosing::noting::note` meets its contract: the three parts, one after another.
+-- `choosing::noting::note` meets its contract: the three parts one after another.
 -- Assumes nothing.
-use borrow.Author.Needs.{needs}
-use Rattle.choosing.proofs.Notes.{reply-asks, probes-asks, noted-is}
+use Prim.Native.Nat.{ℕ}
+use mathlib.Core.List.{List}
+use lib.IntN.{ℤ}
+use Rattle.machine.specs.Calls.{waiting}
+use Rattle.checks.specs.Run.{Run}
+use Rattle.areas.specs.Area.{runIn}
+use Rattle.steps.specs.declared.Probes.{Probes}
+use Rattle.steps.specs.declared.Reply.{Reply}
+use Rattle.delivery.specs.Delivering.{replyGoes}
+use Rattle.choosing.specs.Noting.{Marked, MarkedAt, Turns, takenMarks, sentMarks, goesTo, notedMarks}
+use Rattle.choosing.proofs.Following.{process-most, turns-marked}
 use Rattle.choosing.proofs.noting.note.Statement.{statement}
 use Rattle.choosing.proofs.noting.note.Tie as tie
 
-reply : tie.Need-note-reply-requires
-reply c κs =
-    let t = c .before in
-    let s = t .before .before in
-    let x = s .args in
-    reply-asks (x .memory .now) (x .from) (x .to) (s .pre .0) (t .note-taken .ensures) (s .pre .1 .0 .0) (s .pre .1 .1 .0) (s .pre .1 .1 .1) .1
+all-parts : (r : Run) (a b : ℕ) (y : Probes) (z : Reply) {l i j k : List ℕ}
+    → Turns l (takenMarks (waiting (r .link a b)) a b) i
+    → Turns i (λ held. sentMarks held b (replyGoes z)) j
+    → Turns j (λ held. sentMarks held b (goesTo (r .waits) y b)) k
+    → Turns l (notedMarks r a b y z) k
+all-parts r a b y z t u v held h = v _ (u _ (t held h))
 
-probes : tie.Need-note-probes-requires
-probes c κs =
-    let r = c .before in
-    let t = r .before .before in
-    let s = t .before .before in
-    let x = s .args in
-    let h = reply-asks (x .memory .now) (x .from) (x .to) (s .pre .0) (t .note-taken .ensures) (s .pre .1 .0 .0) (s .pre .1 .1 .0) (s .pre .1 .1 .1) in
-    probes-asks (t .note-taken .last .1 .1 .0) (x .to) (x .reply) (h .0) (r .note-reply .ensures) (h .1 .0) (h .1 .1) (s .pre .1 .1 .2)
+-- the marks once the message is off, and once the acknowledgement is out
+module _ (w : List ℤ) {l : List ℕ} {a b : ℕ} (h : MarkedAt l a b) {i : List ℕ} (t : Turns l (takenMarks (waiting (runIn w .link a b)) a b) i) where
+  after-taken : Marked i
+  after-taken = turns-marked (takenMarks (waiting (runIn w .link a b)) a b) (h .0, h .1) t
+
+  after-reply : (z : Reply) {j : List ℕ} → Turns i (λ held. sentMarks held b (replyGoes z)) j → Marked j
+  after-reply z u = turns-marked (λ held. sentMarks held b (replyGoes z)) after-taken u
+
+note-reply-requires : tie.Need-note-reply-requires
+note-reply-requires c κs =
+    let o = c .before in
+    let s = o .before .before in
+    (process-most (s .pre .0) (s .pre .1 .0 .1), (s .pre .1 .1 .0, after-taken (s .args .area .now) (s .pre .1 .1 .1) (o .note-taken .ensures)))
+
+note-probes-requires : tie.Need-note-probes-requires
+note-probes-requires c κs =
+    let p = c .before in
+    let o = p .before .before in
+    let s = o .before .before in
+    let marked = after-reply (s .args .area .now) (s .pre .1 .1 .1) (o .note-taken .ensures) (s .args .reply) (p .note-reply .ensures) in
+    (s .pre .0, (s .pre .1 .0 .1, marked))
 
 returns : tie.Need-returns
 returns c =
-    let r = c .before .before in
-    let t = r .before .before in
-    let x = t .before .before .args in
-    noted-is (x .memory .now) (x .from) (x .to) (x .reply) (x .sent) (t .note-taken .ensures) (r .note-reply .ensures) (c .note-probes .ensures)
+    let p = c .before .before in
+    let o = p .before .before in
+    let a = o .before .before .args in
+    all-parts (runIn (a .area .now)) (a .a) (a .b) (a .probes) (a .reply) (o .note-taken .ensures) (p .note-reply .ensures) (c .note-probes .ensures)
 
 pub note-spec : {M : Type 1} → statement M
-note-spec = tie.close (tie.spec (λ c κs. search needs) reply probes returns)
+note-spec =
+    tie.close
+    (tie.spec
+    (λ c κs. let s = c .before in (s .pre .0, (s .pre .1 .0, s .pre .1 .1 .1)))
+    note-reply-requires
+    note-probes-requires
+    returns)

@@ -1,44 +1,41 @@
 -- `choosing::noting::note_reply` meets its contract.
 -- Assumes nothing.
 use Prim.Native.Nat.{ℕ}
-use mathlib.Core.Path.{ap}
-use native.Mathlib.Omega.{arith}
+use mathlib.Core.Bool.{true}
+use mathlib.Core.List.{List}
+use mathlib.Core.Path.{_≡_}
 use borrow.Author.Needs.{needs}
-use lib.ListN.{getD}
-use Rattle.choosing.proofs.Notes.{replied-none, replied-to}
+use Rattle.steps.specs.declared.Reply.{Reply}
+use Rattle.steps.specs.declared.Reply.the-variants.{To}
+use Rattle.steps.specs.declared.TwoCounts.{TwoCounts}
+use Rattle.delivery.specs.Delivering.{replyGoes}
+use Rattle.choosing.specs.Sets.{turned}
+use Rattle.choosing.specs.Noting.{Turns, sentMarks}
+use Rattle.choosing.proofs.Following.{sent-nobody, sent-one}
 use Rattle.choosing.proofs.noting.note_reply.Statement.{statement}
 use Rattle.choosing.proofs.noting.note_reply.Tie as tie
 
-add-backlog : tie.Need-add-backlog
-add-backlog c =
-    let a = c .before in
-    omega (arith, ap (λ (i : ℕ). getD (a .before .before .before .before .args .memory .now) i 0) (a .backlog-at .ensures))
+nothing : (b : ℕ) {z : Reply} → z ≡ Reply.Nothing → {l : List ℕ} → Turns l (λ held. sentMarks held b (replyGoes z)) l
+nothing b e = rw e (sent-nobody b)
+
+one : (b p : ℕ) (c : TwoCounts) {z : Reply} → z ≡ To p c → {l k : List ℕ} → Turns l (λ held. turned held b p true) k
+    → Turns l (λ held. sentMarks held b (replyGoes z)) k
+one b p c e t = rw e (sent-one b p t)
+
+mark-requires : tie.Need-mark-requires
+mark-requires c κs =
+    let k = c .before .before in
+    let s = k .before .before in
+    (s .pre .1 .1, (s .pre .0, s .pre .1 .0 _ _ (k .reply .given .1)))
 
 returns : tie.Need-returns
-returns c = replied-none _ _ (c .enum-told .given .1)
+returns c = nothing (c .before .before .args .b) (c .enum-told .given .1)
 
 returns-2 : tie.Need-returns-2
 returns-2 c =
-    let s = c .before .before in
-    let o = s .before .before in
-    let a = o .before .before in
-    replied-to _ _ (a .before .before .reply .given .1) (a .backlog-at .ensures) (o .bound-at .ensures) (s .smaller .ensures) (c .renew .ensures)
+    let k = c .before .before .before in
+    one (k .before .before .args .b) _ _ (k .reply .given .1) (c .mark .ensures)
 
 pub note-reply-spec : {M : Type 1} → statement M
 note-reply-spec =
-    tie.close
-    (tie.spec
-    (λ c. search needs)
-    (λ c. search needs)
-    (λ c κs. search needs)
-    (λ c. search needs)
-    (λ c. search needs)
-    add-backlog
-    (λ c κs. search needs)
-    (λ c. search needs)
-    (λ c. search needs)
-    (λ c. search needs)
-    (λ c κs. search needs)
-    (λ c κs. search needs)
-    returns
-    returns-2)
+    tie.close (tie.spec (λ c. search needs) (λ c. search needs) (λ c. search needs) mark-requires returns returns-2)

@@ -1,37 +1,33 @@
 -- `choosing::noting::note_taken` meets its contract.
 -- Assumes nothing.
-use Prim.Native.Nat.{ℕ}
-use mathlib.Core.Path.{ap}
 use native.Mathlib.Omega.{arith}
-use borrow.Author.Needs.{needs}
-use lib.ListN.{getD}
-use Rattle.choosing.proofs.Notes.{taken-is}
+use Rattle.areas.specs.Area.{runIn}
+use Rattle.choosing.proofs.Following.{process-most, taken-stays, taken-falls}
 use Rattle.choosing.proofs.noting.note_taken.Statement.{statement}
 use Rattle.choosing.proofs.noting.note_taken.Tie as tie
 
-sub-backlog : tie.Need-sub-backlog
-sub-backlog c =
-    let a = c .before in
-    omega (arith, ap (λ (i : ℕ). getD (a .before .args .memory .now) i 0) (a .backlog-at .ensures))
-
 returns : tie.Need-returns
 returns c =
-    let r = c .before .before in
-    let a = r .before .before .before in
-    let x = a .before .args in
-    taken-is (x .memory .now) (x .from) (x .to) (a .backlog-at .ensures) (r .renew .ensures) (c .before .bound-at .ensures) (c .smaller .ensures)
+    let a = c .before .before .args in
+    taken-stays (a .a) (a .b) (runIn (a .area .now) .link (a .a) (a .b)) (c .before .waiting-on .ensures .0)
+    (λ z. absurd (omega (arith, c .if1 .taken)))
+
+unmark-requires : tie.Need-unmark-requires
+unmark-requires c κs =
+    let s = c .before .before .before in
+    (s .pre .1 .1, (process-most (s .pre .0) (s .pre .1 .0 .0), process-most (s .pre .0) (s .pre .1 .0 .1)))
+
+returns-2 : tie.Need-returns-2
+returns-2 c =
+    let e = c .before .before in
+    let a = e .before .before .args in
+    taken-falls (a .a) (a .b) (runIn (a .area .now) .link (a .a) (a .b)) (e .before .waiting-on .ensures .0) (e .if1 .left) (c .unmark .ensures)
 
 pub note-taken-spec : {M : Type 1} → statement M
 note-taken-spec =
     tie.close
     (tie.spec
-    (λ c κs. search needs)
-    (λ c. search needs)
-    (λ c. search needs)
-    sub-backlog
-    (λ c κs. search needs)
-    (λ c κs. search needs)
-    (λ c κs. search needs)
-    (λ c. search needs)
-    (λ c. search needs)
-    returns)
+    (λ c κs. (c .pre .0, (c .pre .1 .0 .0 .1, c .pre .1 .0 .1 .1)))
+    returns
+    unmark-requires
+    returns-2)

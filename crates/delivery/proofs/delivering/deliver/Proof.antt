@@ -1,38 +1,33 @@
--- `delivery::delivering::deliver` meets its contract: a refusal changes nothing, and what is prepared is carried out.
+-- `delivery::delivering::deliver` meets its contract: what is told, by its number or its message alone.
 -- Assumes nothing.
 use borrow.Author.Needs.{needs}
-use Rattle.delivery.proofs.Deliveries.{refusal, carry-asks, delivery}
+use Rattle.delivery.proofs.Deliveries.{told-number, told-message}
 use Rattle.delivery.proofs.delivering.deliver.Statement.{statement}
 use Rattle.delivery.proofs.delivering.deliver.Tie as tie
 
-carry-out-requires : tie.Need-carry-out-requires
-carry-out-requires c κs =
-    let g = c .before .before in
-    let p = g .before .before in
-    let s = p .before .before in
-    carry-asks (s .pre .0) (s .args .a) (s .args .b) (s .args .place) (s .pre .1 .0) (p .prepare .ensures) (g .message .given .1)
-
 returns : tie.Need-returns
 returns c =
-    let p = c .before .before .before in
-    let s = p .before .before in
-    refusal (s .pre .0) (s .args .a) (s .args .b) (s .args .place) (p .prepare .ensures) (c .before .number .given .1)
+    let n = c .before in
+    let d = n .before .before .before in
+    let s = d .before .before in
+    let told = d .deliver-and-tell .ensures in
+    (told-number (s .pre .0) (s .args .a) (s .args .b) (s .args .place) (told .0) (n .number .given .1), told .1)
 
 returns-2 : tie.Need-returns-2
 returns-2 c =
-    let g = c .before .before .before .before in
-    let p = g .before .before in
-    let s = p .before .before in
-    delivery (s .pre .0) (s .args .a) (s .args .b) (s .args .place) (s .pre .1 .0) (p .prepare .ensures) (g .message .given .1) (c .before .carry-out .ensures)
+    let n = c .before in
+    let d = n .before .before .before in
+    let s = d .before .before in
+    let told = d .deliver-and-tell .ensures in
+    (told-message (s .pre .0) (s .args .a) (s .args .b) (s .args .place) (told .0) (s .pre .1 .0) (n .message .given .1), told .1)
 
 pub deliver-spec : {M : Type 1} → statement M
 deliver-spec =
     tie.close
     (tie.spec
-    (λ c κs. search needs)
+    (λ c κs. c .before .pre)
     (λ c. search needs)
     (λ c. search needs)
-    carry-out-requires
     (λ c. search needs)
     returns
     (λ c. search needs)

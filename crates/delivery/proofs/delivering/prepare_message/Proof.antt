@@ -1,7 +1,7 @@
 -- `delivery::delivering::prepare_message` meets its contract: 22 for each of its reasons, and else the step.
 -- Assumes nothing.
 use borrow.Author.Needs.{needs}
-use Rattle.delivery.proofs.Deliveries.{Sent, step-asks, process-asks, step-refused, count-full, room-asks, links-full, sent-asks, prepared}
+use Rattle.delivery.proofs.Deliveries.{Sent, step-asks, step-refused, count-full, room-asks, links-full, prepared}
 use Rattle.delivery.proofs.delivering.prepare_message.Statement.{statement}
 use Rattle.delivery.proofs.delivering.prepare_message.Tie as tie
 
@@ -32,23 +32,13 @@ returns-3 c =
     let s = d .before .before in
     links-full (known (s .before)) (s .step-at .ensures) (d .process .given .1) (c .before .has-room .result) (c .before .has-room .ensures) (c .if2 .taken)
 
-process-requires : tie.Need-process-requires
-process-requires c κs = process-asks (known (c .before .before .before .before .before .before .before .before))
-
-probes-sent-requires : tie.Need-probes-sent-requires
-probes-sent-requires c κs =
-    let d = c .before .before .before .before .before .before in
-    let s = d .before .before in
-    sent-asks (known (s .before)) (s .step-at .ensures) (d .process .given .1) (c .process2 .ensures)
-
 returns-4 : tie.Need-returns-4
 returns-4 c =
-    let o = c .before .before in
-    let k = o .before .before .before in
+    let k = c .before .before .before in
     let d = k .before .before in
     let s = d .before .before in
-    prepared (known (s .before)) (s .step-at .ensures) (d .process .given .1) (c .before .process2 .ensures) (k .count-of .ensures)
-    (o .before .before .if1 .left) (o .before .has-room .result) (o .before .has-room .ensures) (o .if2 .left) (c .probes-sent .ensures)
+    prepared (known (s .before)) (s .step-at .ensures) (d .process .given .1) (k .count-of .ensures) (c .before .before .if1 .left)
+    (c .before .has-room .result) (c .before .has-room .ensures) (c .if2 .left)
 
 pub prepare-message-spec : {M : Type 1} → statement M
 prepare-message-spec =
@@ -62,6 +52,4 @@ prepare-message-spec =
     returns-2
     has-room-requires
     returns-3
-    process-requires
-    probes-sent-requires
     returns-4)

@@ -1,0 +1,25 @@
+-- `choosing::sets::unmark` meets its contract.
+-- Assumes nothing.
+use Rattle.choosing.proofs.Marking.{unmark-asks, strike-asks, unmark-is}
+use Rattle.choosing.proofs.sets.unmark.Statement.{statement}
+use Rattle.choosing.proofs.sets.unmark.Tie as tie
+
+count-down-requires : tie.Need-count-down-requires
+count-down-requires c κs =
+    let s = c .before in
+    unmark-asks (s .args .memory .now) (s .args .a) (s .args .b) (s .pre .1 .0) (s .pre .1 .1) (s .pre .0)
+
+strike-requires : tie.Need-strike-requires
+strike-requires c κs =
+    let d = c .before in
+    let s = d .before .before in
+    strike-asks (s .args .memory .now) (s .args .a) (s .args .b) (s .pre .1 .0) (s .pre .1 .1) (s .pre .0) (d .count-down .ensures)
+
+returns : tie.Need-returns
+returns c =
+    let d = c .before .before in
+    let s = d .before .before in
+    unmark-is (s .args .memory .now) (s .args .a) (s .args .b) (s .pre .1 .0) (s .pre .1 .1) (s .pre .0) (d .count-down .ensures) (c .strike .ensures)
+
+pub unmark-spec : {M : Type 1} → statement M
+unmark-spec = tie.close (tie.spec count-down-requires strike-requires returns)

@@ -1,0 +1,32 @@
+-- `take_for` is safe and ends. The loop's invariant: the area keeps its length. The measure is the number of senders that are left.
+-- Assumes nothing.
+use Prim.Native.Nat.{_-_}
+use mathlib.Core.Path.{_≡_}
+use borrow.Author.Needs.{needs}
+use lib.ListN.{length}
+use Rattle.comparing.proofs.lowest.take_for.Statement.{statement}
+use Rattle.comparing.proofs.lowest.take_for.Tie as tie
+
+abbrev Inv-loop : tie.InvT-loop
+Inv-loop area₀ n to from₀ area from = length area ≡ length area₀
+
+abbrev μ-loop : tie.MeasureT-loop
+μ-loop area₀ n to from₀ area from = 129 - from
+
+pub take-for-spec : {M : Type 1} → statement M
+take-for-spec =
+    tie.close
+    (tie.spec
+    Inv-loop
+    μ-loop
+    (λ c. search needs)
+    (λ c. search needs)
+    (λ c. search needs)
+    (λ c κs. search needs)
+    (λ c. search needs)
+    (λ c. search needs)
+    (λ c. search needs)
+    (λ c. search needs)
+    (λ c. search needs)
+    (λ c. search needs)
+    (λ c. search needs))
