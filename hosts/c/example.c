@@ -96,22 +96,28 @@ static void step_by_itself(void)
            "a refusal keeps the record and gives zeros");
 }
 
+/* Starts a check of n processes, at most 3, with two waits. */
+static void begin(size_t n, const uint16_t list[4], size_t start, int32_t *area, size_t words)
+{
+    uint8_t table[PICKLEDUNE_TABLE_BYTES(3, 2)];
+    size_t length;
+    expect(pickledune_write_table(n, list, 4, table, sizeof table, &length) == 0, "writing a table of two waits");
+    expect(pickledune_start(table, length, start, 1, area, words) == 0, "its start");
+}
+
 /* Overtaking (02, N5): 1 and 2 wait for each other, so that a suc probe and then a pre probe wait on the link from 1 to 2. The second is
  * picked first, and the check ends as it does in any other order. */
 static void overtake(void)
 {
     const uint16_t list[4] = {1, 2, 2, 1};
-    uint8_t table[PICKLEDUNE_TABLE_BYTES(2, 2)];
     int32_t area[PICKLEDUNE_AREA_WORDS(2, 2)];
     const size_t words = PICKLEDUNE_AREA_WORDS(2, 2);
-    size_t length;
     uint32_t kind;
     int32_t count;
     int32_t second;
     uint32_t over;
     uint32_t made;
-    expect(pickledune_write_table(2, list, 4, table, sizeof table, &length) == 0, "writing a table of two waits");
-    expect(pickledune_start(table, length, 1, 1, area, words) == 0, "its start");
+    begin(2, list, 1, area, words);
     expect(pickledune_pick(area, words, 1, 2, 2, &kind, &count, &second) == 0 && kind == PICKLEDUNE_PRE, "place 2 first");
     expect(pickledune_pick(area, words, 1, 2, 1, &kind, &count, &second) == 0 && kind == PICKLEDUNE_SUC, "then place 1");
     expect(pickledune_run_on(area, words, 2048, &over, &made) == 0 && over == 1 && made == 6, "8 deliveries in any order");
@@ -122,17 +128,14 @@ static void overtake(void)
 static void receivers_first(void)
 {
     const uint16_t list[4] = {3, 1, 3, 2};
-    uint8_t table[PICKLEDUNE_TABLE_BYTES(3, 2)];
     int32_t area[PICKLEDUNE_AREA_WORDS(3, 2)];
     const size_t words = PICKLEDUNE_AREA_WORDS(3, 2);
-    size_t length;
     uint32_t kind;
     int32_t count;
     int32_t second;
     uint32_t over;
     uint32_t made;
-    expect(pickledune_write_table(3, list, 4, table, sizeof table, &length) == 0, "writing a table of two waits");
-    expect(pickledune_start(table, length, 3, 1, area, words) == 0, "its start");
+    begin(3, list, 3, area, words);
     expect(pickledune_run_on(area, words, 2, &over, &made) == 0 && over == 0 && made == 2, "two deliveries");
     expect(pickledune_pick(area, words, 3, 2, 1, &kind, &count, &second) == 24, "the probe to 2 was one of them");
     expect(pickledune_pick(area, words, 1, 3, 1, &kind, &count, &second) == 0 && kind == PICKLEDUNE_ACK, "1's acknowledgement waits");
