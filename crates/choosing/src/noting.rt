@@ -1,5 +1,5 @@
-// How what is remembered follows a delivery, part by part, once it is made. A message is marked on its link whether one was there or not, so the
-// parts may come in any order that ends with what was sent.
+// How what is remembered follows a delivery, part by part, once it is made: first what was taken, then what was sent, which marks its link
+// whether a message was there or not.
 use crate::parts;
 use crate::sets;
 use lenses::chains;

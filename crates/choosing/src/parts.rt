@@ -12,6 +12,9 @@ pub const MEMORY_SIZE: usize = 3 * tables::SIDE;
 // How many processes a word has digits for.
 const WORD_DIGITS: usize = 64;
 
+// The first process that the second word has a digit for.
+pub const SECOND_WORD: usize = WORD_DIGITS + 1;
+
 // How many links to p hold a message.
 pub fn count_at(p: usize) -> usize
     ensures { λ r. ⌜ r ≡ countAt p ⌝ }

@@ -56,7 +56,7 @@ pub fn lowest_in(memory: &[usize; parts::MEMORY_SIZE], j: usize) -> usize
         return usize::trailing_zeros(low) as usize + 1;
     }
     let high = memory[at + 1];
-    usize::trailing_zeros(high) as usize + 65
+    usize::trailing_zeros(high) as usize + parts::SECOND_WORD
 }
 
 // One link more to b holds a message.

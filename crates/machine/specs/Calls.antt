@@ -9,6 +9,7 @@
 --   deliverOn, goOn, runFrom, runOn   == "Running on checks 21 first, then over, then spent, then 24, 22.", over any chooser
 --   firstTo n c        == the first of the choices c 1 to c n that names a link
 --   linkIf r a b       == the link from a to b, if a message waits on it
+--   lowestSender r b n == the lowest sender of 1 to n from whom a message waits for b
 --   lowest r           == "lowest receiver first and then lowest sender" (02, N11), among links with a message
 --   fixedOrder         == that choice as a chooser, which needs no state
 --   ranNumber, ranMade == for each case of running on's answer 01's number, and the number made
