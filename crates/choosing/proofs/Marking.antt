@@ -1,6 +1,7 @@
 -- How the code reads and changes the sets and the counts.
 --   low-is, high-is          == the lowest of a set, by its first word, and by its second
 --   trailing-fits            == a number of digits is small
+--   word-read, word-put      == the word that has p's digit, as it is read and put
 --   up-same, up-turned, down-same, down-turned   == b's count put anew: the set 0 stands, or b is put into it, or taken out of it
 --   up-asks, down-asks       == what putting b into the set 0, and taking it out, asks
 --   count-some               == a count is not 0 where a link is marked
@@ -10,13 +11,13 @@
 use Prim.Native.Nat.{ℕ, _+_, _-_, _^_, _≤_, _<_}
 use mathlib.Core.Bool.{Bool, true, false}
 use mathlib.Core.List.{List}
-use mathlib.Core.Path.{_≡_, sym, ap, _∙_}
+use mathlib.Core.Path.{_≡_, sym, ap, ap₂, _∙_}
 use native.Mathlib.Omega.{arith}
 use borrow.Author.Tests.{eq-eqb, ne-eqb}
 use lib.Count.{trailingZeros, trailing-le}
 use lib.ListN.{length, getD, set, length-set}
 use Rattle.tables.specs.Table.{mostProcesses, IsProcess}
-use Rattle.choosing.specs.Memory.{memorySize, wordDigits, countAt, setAt, digitOf, Marks}
+use Rattle.choosing.specs.Memory.{memorySize, wordDigits, countAt, setAt, wordAt, digitOf, Marks}
 use Rattle.choosing.specs.Sets.{word, isIn, addedTo, struckFrom, lowestIn, countOf, countedUp, countedDown, turned}
 use Rattle.choosing.specs.Noting.{Marked, MarkedAt, Turns}
 use Rattle.choosing.specs.SetLaws.{isIn-is}
@@ -36,6 +37,16 @@ module _ (l : List ℕ) (j : ℕ) {i : ℕ} (e : i ≡ setAt j) where
   pub high-is : getD l i 0 ≡ 0 → trailingZeros wordDigits (getD l (i + 1) 0) + (wordDigits + 1) ≡ lowestIn l j
   unfolding lowestIn
   high-is h = rw e (rw (eq-eqb (getD l (setAt j) 0) 0 (rw e at h)))
+
+-- ---- one word of a set
+
+-- p's word as it is read, and as it is put by a sum or a difference
+module _ (l : List ℕ) (j p : ℕ) {i : ℕ} (e : i ≡ wordAt j p) where
+  pub word-read : getD l i 0 ≡ word l j p
+  word-read = ap (λ (x : ℕ). getD l x 0) e
+
+  pub word-put : (op : ℕ → ℕ → ℕ) {v : ℕ} → v ≡ 2 ^ digitOf p → set l i (op (getD l i 0) v) ≡ set l (wordAt j p) (op (word l j p) (2 ^ digitOf p))
+  word-put op f = ap₂ (λ (x y : ℕ). set l x (op (getD l x 0) y)) e f
 
 -- ---- a count
 
