@@ -3,8 +3,8 @@
  * A check says whether a process, such as a payment, is stuck in a knot of waits: whether every process that it waits for, at any
  * remove, waits for it in turn. By edition 1 of the rulebook that is all, so that a process that waits for nobody is in a knot; edition
  * 2 asks in addition that it waits for somebody, be it for itself. A host writes or brings a wait table, starts a check at one process
- * under one edition in words that it lends, delivers the messages that wait on the links, one by one (pick) or in a fixed order (run
- * on), and reads the report once the run is over.
+ * under one edition in words that it lends, delivers the messages that wait on the links, one by one (pick), in a fixed order (run on)
+ * or in an order that a seed gives (run shuffled), and reads the report once the run is over.
  *
  * The second numbers (02, N3). Beside the sum cs each process has a second sum, and beside its count each acknowledgement a second count,
  * of processes reachable from the start that wait for nobody. At the end the start's second sum is their number, itself included if it
@@ -17,6 +17,9 @@
  * start and deliveries only `own` lines, fathers, spent runs and what follows these until both runs are over can differ. Declarations
  * and areas are as they were.
  *
+ * Shuffled runs (02, N13): pickledune_run_shuffled is one call more. All other calls and the areas are as they were, so that a host that
+ * never shuffles changes nothing.
+ *
  * What is lent. Every pointer is used only during the call that gets it; the library keeps none, has no memory of its own and no
  * state outside what is lent. A slice goes as a pointer and the number of its elements. Pointers must not be null, also where the
  * number is 0, and must be aligned for what they point to. The out-parameters of a call must be valid and distinct, and nothing that
@@ -24,8 +27,8 @@
  * words that are no area are refused by their number.
  *
  * What comes back. Each call but pickledune_next returns 0, or the number of the first refusal that is met, in the order that its
- * comment gives. A refusal gives zeros in all out-parameters and changes no lent byte or word; but running on keeps the deliveries
- * that it made before the refusal and gives their number, and pickledune_step leaves the record that it was lent as it was.
+ * comment gives. A refusal gives zeros in all out-parameters and changes no lent byte or word; but running on, shuffled or not, keeps the
+ * deliveries that it made before the refusal and gives their number, and pickledune_step leaves the record that it was lent as it was.
  *
  * Threads. Calls on different memory may run at the same time. One area may not be used from two threads at once, nor may a table or
  * a record be written while a call reads it. A call needs less than 128 KiB of stack.
@@ -43,6 +46,7 @@
  *   10  the list has an odd number of entries
  *   11  the output is too short
  *   30  the edition is neither 1 nor 2
+ *   37  the seed is 0
  * Refused because of the state
  *   21  the run area is not well formed; for one process's step: the record (its second sum too), the kind, the count or the second
  *       count is out of range, or the father or a degree is over 128
@@ -143,6 +147,20 @@ uint32_t pickledune_pick(
  * Refused, in this order: 21 before the first delivery; 24, 22 at a delivery. *made then has the deliveries made before, which the area
  * keeps, and *over is 0. */
 uint32_t pickledune_run_on(int32_t *area, size_t words, uint32_t k, uint32_t *over, uint32_t *made);
+
+/* Makes up to k deliveries, as pickledune_run_on does but in an order that the seed gives and that anyone can repeat: the same area with
+ * the same k and seed gives the same answers and the same words on every machine. The state begins as the seed. Before each delivery it is
+ * xored with itself shifted left 13, then with itself shifted right 17, then with itself shifted left 5, each time without the bits past 32
+ * (Marsaglia's xorshift32). The state modulo the number of links with a message, counted from 0 in the order of pickledune_run_on, picks
+ * the link, whose oldest message goes. A check ends as it does by any other deliveries; of a process's values only the father may depend
+ * on the seed.
+ * Each call begins from its own seed and the state is not handed back, so that two calls of one delivery from one seed are not one call of
+ * two.
+ * Lent: words words, the run area, which takes the deliveries.
+ * Back: *over and *made as from pickledune_run_on; k = 2048 runs to the end here too.
+ * Refused, in this order: 21, 37 before the first delivery, 37 also where the run is over or k is 0; 24, 22 at a delivery. With 24 and 22
+ * *made has the deliveries made before, which the area keeps, and *over is 0. */
+uint32_t pickledune_run_shuffled(int32_t *area, size_t words, uint32_t k, uint32_t seed, uint32_t *over, uint32_t *made);
 
 /* The report of a run that is over.
  * Lent: words words, the run area, read only.

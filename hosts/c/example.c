@@ -1,6 +1,6 @@
 /* A first check from C: process 1 waits for process 2 (01, "The check program"). It prints the nine lines that 01 gives for this table,
- * start 1 (under edition 1) and the pick 1 2, with the second numbers of 02, N3, and returns 1 with a line on standard error if a call
- * answers anything else than it should.
+ * start 1 (under edition 1) and the pick 1 2, with the second numbers of 02, N3, then a line for each of two shuffled checks (02, N13), and
+ * returns 1 with a line on standard error if a call answers anything else than it should.
  *
  * From the root of the repository, after rt staticlib pickledune:
  *   gcc -std=c99 -Wall -Wextra -pedantic -Iinclude hosts/c/example.c target/staticlib/libpickledune.a -o target/example && target/example
@@ -96,12 +96,12 @@ static void step_by_itself(void)
            "a refusal keeps the record and gives zeros");
 }
 
-/* Starts a check of n processes, at most 3, with two waits. */
-static void begin(size_t n, const uint16_t list[4], size_t start, int32_t *area, size_t words)
+/* Starts a check of n processes, at most 3, with at most four waits. */
+static void begin(size_t n, const uint16_t *list, size_t entries, size_t start, int32_t *area, size_t words)
 {
-    uint8_t table[PICKLEDUNE_TABLE_BYTES(3, 2)];
+    uint8_t table[PICKLEDUNE_TABLE_BYTES(3, 4)];
     size_t length;
-    expect(pickledune_write_table(n, list, 4, table, sizeof table, &length) == 0, "writing a table of two waits");
+    expect(pickledune_write_table(n, list, entries, table, sizeof table, &length) == 0, "writing a table of few waits");
     expect(pickledune_start(table, length, start, 1, area, words) == 0, "its start");
 }
 
@@ -117,7 +117,7 @@ static void overtake(void)
     int32_t second;
     uint32_t over;
     uint32_t made;
-    begin(2, list, 1, area, words);
+    begin(2, list, 4, 1, area, words);
     expect(pickledune_pick(area, words, 1, 2, 2, &kind, &count, &second) == 0 && kind == PICKLEDUNE_PRE, "place 2 first");
     expect(pickledune_pick(area, words, 1, 2, 1, &kind, &count, &second) == 0 && kind == PICKLEDUNE_SUC, "then place 1");
     expect(pickledune_run_on(area, words, 2048, &over, &made) == 0 && over == 1 && made == 6, "8 deliveries in any order");
@@ -135,7 +135,7 @@ static void receivers_first(void)
     int32_t second;
     uint32_t over;
     uint32_t made;
-    begin(3, list, 3, area, words);
+    begin(3, list, 4, 3, area, words);
     expect(pickledune_run_on(area, words, 2, &over, &made) == 0 && over == 0 && made == 2, "two deliveries");
     expect(pickledune_pick(area, words, 3, 2, 1, &kind, &count, &second) == 24, "the probe to 2 was one of them");
     expect(pickledune_pick(area, words, 1, 3, 1, &kind, &count, &second) == 0 && kind == PICKLEDUNE_ACK, "1's acknowledgement waits");
@@ -165,6 +165,30 @@ static struct report check(const uint8_t *table, size_t length, size_t process, 
     expect(pickledune_start(table, length, process, edition, area, words) == 0, "a start under either edition");
     expect(pickledune_run_on(area, words, 2048, &over, &made) == 0 && over == 1, "its end");
     return read_report(area, words);
+}
+
+/* A shuffled check (02, N13): 1 waits for 2 and 3, 2 waits for 3, and 3 for 1. The same seed gives the same order on every machine. Every
+ * order takes 16 deliveries and ends alike but for the fathers, from whom a process first heard, which are printed. */
+static void shuffle(uint32_t seed)
+{
+    const uint16_t list[8] = {1, 2, 1, 3, 2, 3, 3, 1};
+    int32_t area[PICKLEDUNE_AREA_WORDS(3, 4)];
+    const size_t words = PICKLEDUNE_AREA_WORDS(3, 4);
+    struct report r;
+    uint32_t over;
+    uint32_t made;
+    begin(3, list, 8, 1, area, words);
+    expect(pickledune_run_shuffled(area, words, 2048, 0, &over, &made) == 37 && over == 0 && made == 0, "no seed 0");
+    expect(pickledune_run_shuffled(area, words, 2048, seed, &over, &made) == 0 && over == 1, "a shuffled run to the end");
+    r = read_report(area, words);
+    expect(r.deliveries == made && r.knot == 1 && r.outside == 0 && r.escape == 0 && r.returned == 1, "the report by any seed");
+    printf("seed %lu made %lu fathers", (unsigned long)seed, (unsigned long)made);
+    for (size_t p = 1; p <= 3; p++) {
+        struct pickledune_process x;
+        expect(pickledune_read_process(area, words, p, &x) == 0, "reading a record");
+        printf(" %lu", (unsigned long)x.father);
+    }
+    printf("\n");
 }
 
 /* Editions (02, N4): process 1 waits for nobody, process 2 for itself. By edition 1 both are in a knot, by edition 2 only process 2; the
@@ -251,6 +275,8 @@ int main(void)
     step_by_itself();
     overtake();
     receivers_first();
+    shuffle(2463534242u);
+    shuffle(2026u);
     judge_by_edition();
     wait_for_a_knot();
     return 0;

@@ -29,7 +29,9 @@ static void open_walk(void) { a = pickledune_open(table, sizeof table, PICKLEDUN
 static void next_arc(void) { n = pickledune_next(table, sizeof table, PICKLEDUNE_OUT, 1); }
 static void start(void) { a = pickledune_start(table, sizeof table, 1, 2, area, PICKLEDUNE_AREA_WORDS(N, M)); }
 static void pick(void) { a = pickledune_pick(area, PICKLEDUNE_AREA_WORDS(N, M), 1, 2, 1, &b, &y, &z); }
-static void run_on(void) { a = pickledune_run_on(area, PICKLEDUNE_AREA_WORDS(N, M), 2048, &b, &c); }
+/* Half of the run; the other half is shuffled. */
+static void run_on(void) { a = pickledune_run_on(area, PICKLEDUNE_AREA_WORDS(N, M), 1024, &b, &c); }
+static void run_shuffled(void) { a = pickledune_run_shuffled(area, PICKLEDUNE_AREA_WORDS(N, M), 2048, 2463534242u, &b, &c); }
 static void report(void) { a = pickledune_report(area, PICKLEDUNE_AREA_WORDS(N, M), &b, &c, &z, &d, &e); }
 static void read_record(void) { a = pickledune_read_process(area, PICKLEDUNE_AREA_WORDS(N, M), 1, &x); }
 static void step(void) { a = pickledune_step_process(&x, PICKLEDUNE_SUC, 0, 0, 4, 4, 2, &b, &c, &y, &z); }
@@ -62,8 +64,9 @@ int main(void)
         const char *name;
         void (*call)(void);
     } calls[] = {
-        {"write_table", write_table}, {"read_table", read_table}, {"open", open_walk}, {"next", next_arc}, {"start", start},
-        {"pick", pick},               {"run_on", run_on},         {"report", report},  {"read_record", read_record}, {"step", step},
+        {"write_table", write_table}, {"read_table", read_table}, {"open", open_walk}, {"next", next_arc},
+        {"start", start},             {"pick", pick},             {"run_on", run_on},  {"run_shuffled", run_shuffled},
+        {"report", report},           {"read_record", read_record}, {"step", step},
     };
     long largest = 0;
     if (posix_memalign((void **)&stack, 4096, STACK))

@@ -5,8 +5,8 @@
  * says of every call is checked after it: a refusal gives zeros and changes nothing (running on keeps the deliveries made before it),
  * nothing but the area changes, the answers of calls that follow each other agree, a start is held to the edition that it is given and a
  * verdict to the one that the area holds (02, N4), a pick is held to the words of its link (02, N5), the deliveries of a small running on
- * to the words of all links (02, N11), a mark to the start's second sum, and a start, deliveries and a step to what they add to the second
- * sums and counts (02, N3).
+ * to the words of all links (02, N11), shuffled too, and a larger shuffled one to being made again (02, N13), a mark to the start's second
+ * sum, and a start, deliveries and a step to what they add to the second sums and counts (02, N3).
  * The archive itself is not built for the fuzzer, so each answer is counted as coverage (calls by their refusal numbers, accepted picks by
  * their places, deliveries of small runnings on by their links, and accepted reports by their editions, verdicts and marks too). */
 #include "pickledune.h"
@@ -18,19 +18,19 @@
 #include <sys/mman.h>
 #include <unistd.h>
 
-enum { CALLS = 10, PICKED = CALLS, JUDGED, COUNTED, TAKEN, ROWS, NUMBERS = 50 };
+enum { CALLS = 11, PICKED = CALLS, JUDGED, COUNTED, TAKEN, SHUFFLED, ROWS, NUMBERS = 50 };
 enum { TABLE = 8192, LIST = 2200, AREA = 12000, STEPS = 4096, WAITING = 4 };
 
 __attribute__((section("__libfuzzer_extra_counters"))) static uint8_t seen[ROWS * NUMBERS];
 
-/* The numbers that each call has answered in the whole run, printed at its end. The last four rows have accepted picks, by how many
+/* The numbers that each call has answered in the whole run, printed at its end. The last five rows have accepted picks, by how many
  * messages waited and by place: 32 is the second of three; accepted reports, by edition and verdict: 10 and 20 are none, 11 and 21 a knot,
  * and 22 is none with outside 0, all of them held, and 3 more if returned: 13, 14, 23, 24 and 25; accepted picks by second numbers: 1
- * if the receiver added its own, 2 and 3 for a second count above and below 0, else 0; and the deliveries of small runnings on, by what
- * first_link gives. */
-static const char *const row_names[ROWS] = {"read_table", "write_table", "open",        "next", "start",  "pick",
-                                            "run_on",     "report",      "read_record", "step", "picked", "judged",
-                                            "counted",    "taken"};
+ * if the receiver added its own, 2 and 3 for a second count above and below 0, else 0; the deliveries of small runnings on, by what
+ * first_link gives; and those of small shuffled runs, by what shuffled_link gives. */
+static const char *const row_names[ROWS] = {"read_table",  "write_table", "open", "next",         "start",  "pick",    "run_on",
+                                            "report",      "read_record", "step", "run_shuffled", "picked", "judged",  "counted",
+                                            "taken",       "shuffled"};
 static uint64_t answered[ROWS][NUMBERS];
 
 static uint8_t *table_end, *out_end;
@@ -68,7 +68,8 @@ static void note(int row, size_t number)
 
 static uint32_t count(int call, uint32_t number)
 {
-    expect(number <= 11 || (21 <= number && number <= 26) || number == 30 || number == 31, "a number that is in no table");
+    expect(number <= 11 || (21 <= number && number <= 26) || number == 30 || number == 31 || number == 37,
+           "a number that is in no table");
     note(call, number);
     return number;
 }
@@ -485,46 +486,133 @@ static size_t first_link(size_t *from, size_t *to)
     return first == SIZE_MAX ? 0 : 1 + (by_sender != 256 * *from + *to) + 2 * (*from == *to);
 }
 
+/* The ends of the link that a state of a shuffled run picks in a well-formed area, by its words: the links with a message are marked in a
+ * square, and found in it by receiver and then by sender; the state modulo their number, counted from 0, picks one (02, N13). Gives 0 if
+ * none has a message, and else 7 times their number, at most 6, plus the place of the one picked, at most 6. */
+static size_t shuffled_link(uint32_t state, size_t *from, size_t *to)
+{
+    static uint8_t marked[129][129];
+    size_t n = (size_t)area[14], m = (size_t)area[15], links = 16 + 8 * n + 4 * m, found = 0, passed = 0;
+    memset(marked, 0, sizeof marked);
+    for (size_t link = 0; link < 2 * m; link++) {
+        const int32_t *arc = area + 16 + 2 * n + 4 * (link / 2);
+        if (area[links + 8 * link] == 0)
+            continue;
+        marked[arc[1 - link % 2]][arc[link % 2]] = 1;
+        found += 1;
+    }
+    if (found == 0)
+        return 0;
+    for (*to = 1; *to <= n; *to += 1)
+        for (*from = 1; *from <= n; *from += 1)
+            if (marked[*to][*from] && passed++ == state % found)
+                return 7 * (found < 6 ? found : 6) + (passed < 7 ? passed - 1 : 6);
+    fail("a state modulo their number is less than their number");
+    return 0;
+}
+
+/* "xored with itself shifted left 13, then right 17, then left 5" (02, N13): by products and quotients, in 64 bits of which 32 are kept. */
+static uint32_t next_state(uint32_t seed)
+{
+    uint64_t state = seed;
+    state ^= state * 8192 % 4294967296;
+    state ^= state / 131072;
+    state ^= state * 32 % 4294967296;
+    return (uint32_t)state;
+}
+
+/* The ends of the link that is next, in the fixed order if the state is 0, or by the state, which is moved on. Gives 0 if no message waits. */
+static size_t next_link(uint32_t *state, size_t *from, size_t *to)
+{
+    if (*state == 0)
+        return first_link(from, to);
+    *state = next_state(*state);
+    return shuffled_link(*state, from, to);
+}
+
 /* A running on, accepted or refused after so many deliveries, is made again on the words before it by picks of the oldest message, each on
- * the first link. */
-static void run_by_picks(uint32_t made, uint32_t refused)
+ * the link that is next, in the fixed order if the seed is 0. */
+static void run_by_picks(uint32_t made, uint32_t refused, uint32_t seed)
 {
     static int32_t ran[AREA];
+    uint32_t state = seed;
     size_t from, to, taken;
     memcpy(ran, area, area_len * sizeof *area);
     memcpy(area, before, area_len * sizeof *area);
     for (uint32_t i = 0; i < made; i++) {
-        taken = first_link(&from, &to);
+        taken = next_link(&state, &from, &to);
         expect(taken && pick_at(from, to, 1) == 0, "a delivery is on a link with a message");
-        note(TAKEN, taken);
+        note(seed ? SHUFFLED : TAKEN, taken);
         steps_made += 1;
     }
-    expect(memcmp(ran, area, area_len * sizeof *area) == 0, "lowest receiver first and then lowest sender");
+    expect(memcmp(ran, area, area_len * sizeof *area) == 0, "lowest receiver first and then lowest sender, or as the state picks");
     if (refused)
-        expect(first_link(&from, &to) ? pick_at(from, to, 1) == refused : refused == 24, "refused on the first link, or 24");
+        expect(next_link(&state, &from, &to) ? pick_at(from, to, 1) == refused : refused == 24, "refused on the next link, or 24");
 }
 
-static void run_on(void)
+/* How many deliveries to ask for: often few. */
+static uint32_t draw_k(void)
 {
-    uint32_t over = 7, made = 7, more = 7, k = byte() % 2 ? byte() % 4 : byte() % 4 ? byte() : word();
-    keep();
-    uint32_t refused = count(6, pickledune_run_on(area, area_len, k, &over, &made));
+    return byte() % 2 ? byte() % 4 : byte() % 4 ? byte() : word();
+}
+
+/* A running on is held to its answers; a small one is made again by picks, in the fixed order if the seed is 0. */
+static void hold_run(uint32_t k, uint32_t seed, uint32_t refused, uint32_t over, uint32_t made)
+{
+    uint32_t more = 7, none = 7;
     expect(made <= k && made <= 2048 && over <= 1, "no more than asked for");
     if (refused == 21) {
-        expect(made == 0 && kept(), "21 changes nothing");
+        expect(made == 0 && over == 0 && kept(), "21 changes nothing");
         return;
     }
     expect(area[2] == before[2] + (int32_t)made, "deliveries are counted");
     added();
     if (k < 4)
-        run_by_picks(made, refused);
+        run_by_picks(made, refused, seed);
     if (refused) {
         expect(over == 0, "zeros with a refusal");
         return;
     }
     expect(over == 1 || made == k, "over, or spent");
     keep();
-    expect(pickledune_run_on(area, area_len, 0, &more, &made) == 0 && made == 0 && more == over && kept(), "running on by 0");
+    expect(pickledune_run_on(area, area_len, 0, &more, &none) == 0 && none == 0 && more == over && kept(), "running on by 0");
+}
+
+static void run_on(void)
+{
+    uint32_t over = 7, made = 7, k = draw_k();
+    keep();
+    uint32_t refused = count(6, pickledune_run_on(area, area_len, k, &over, &made));
+    hold_run(k, 0, refused, over, made);
+}
+
+/* A shuffled run that is made again on the words before it gives the same answers and the same words. */
+static void shuffle_again(uint32_t k, uint32_t seed, uint32_t refused, uint32_t over, uint32_t made)
+{
+    static int32_t ran[AREA];
+    uint32_t over_again = 7, made_again = 7;
+    memcpy(ran, area, area_len * sizeof *area);
+    memcpy(area, before, area_len * sizeof *area);
+    expect(pickledune_run_shuffled(area, area_len, k, seed, &over_again, &made_again) == refused, "the same number again");
+    expect(over_again == over && made_again == made, "the same answers again");
+    expect(memcmp(ran, area, area_len * sizeof *area) == 0, "the same words again");
+    steps_made += 1;
+}
+
+static void run_shuffled(void)
+{
+    uint32_t over = 7, made = 7, k = draw_k(), seed = byte() % 8 ? word() : byte() % 3;
+    keep();
+    uint32_t refused = count(10, pickledune_run_shuffled(area, area_len, k, seed, &over, &made));
+    if (seed == 0) {
+        expect(over == 0 && made == 0 && kept(), "seed 0 changes nothing");
+        expect(refused == (pickledune_run_on(area, area_len, 0, &over, &made) == 21 ? 21 : 37), "21, 37, in this order");
+        return;
+    }
+    expect(refused != 37, "only seed 0 is refused");
+    if (k >= 4)
+        shuffle_again(k, seed, refused, over, made);
+    hold_run(k, seed, refused, over, made);
 }
 
 /* What escape must be (02, N1), by the records: the lowest-numbered process with subordinate 1, and 0 only where there is none. Only for an
@@ -626,7 +714,7 @@ int LLVMFuzzerTestOneInput(const uint8_t *data, size_t size)
     area = area_end;
     table_len = area_len = 0;
     for (steps_made = 0; steps_made < STEPS && left > 0; steps_made++) {
-        switch (byte() % 17) {
+        switch (byte() % 18) {
         case 0: /* the input's own bytes as a table */
             table_len = number() % TABLE;
             table_len = table_len < left ? table_len : left;
@@ -674,6 +762,9 @@ int LLVMFuzzerTestOneInput(const uint8_t *data, size_t size)
             break;
         case 15:
             pick_every_place();
+            break;
+        case 16:
+            run_shuffled();
             break;
         default:
             step();

@@ -1,7 +1,8 @@
--- The four calls on the words that a start left, and any list of them. Each call reads the run that the area holds, does what `checks`
+-- The calls on the words that a start left, and any list of them. Each call reads the run that the area holds, does what `checks`
 -- defines, and stores the run again; an area that is not well formed gets 21 and keeps every word.
 --   pickAnswer w a b k, pickArea w a b k   == a pick of place k
 --   runOnAnswer k w, runOnArea k w       == running on
+--   shuffledAnswer k seed w, shuffledArea k seed w   == running on with a seed (02, N13)
 --   reportAnswer w                       == the report
 --   readAnswer w p                       == reading one process's record
 --   areaPassedBy c w, areaPassed cs w    == one call, and a list: "each call gets the area as the last one left it"
@@ -15,9 +16,9 @@ use lib.{IntN.ℤ, ListN.drop}
 use Rattle.base.specs.Choice.{choose}
 use Rattle.tables.specs.Waits.{Waits}
 use Rattle.machine.specs.{declared.Ran.Ran, Calls.ranNumber, Calls.ranMade}
-use Rattle.machine.specs.Lists.{Call, picking, runningOn, reporting, reading, Passed, inTurn}
+use Rattle.machine.specs.Lists.{Call, picking, runningOn, runningShuffled, reporting, reading, Passed, inTurn}
 use Rattle.checks.specs.declared.{Delivery.Delivery, Report.Report, Reading.Reading}
-use Rattle.checks.specs.Calls.{pick, runOn, report, readRecord, deliveryNumber, deliveryMade, reportNumber, readingNumber}
+use Rattle.checks.specs.Calls.{pick, runOn, runShuffled, report, readRecord, deliveryNumber, deliveryMade, reportNumber, readingNumber}
 use Rattle.checks.specs.{Run.Run, Lists.Promise}
 use Rattle.areas.specs.Area.{keeping, runIn, areaRight}
 
@@ -33,6 +34,12 @@ runOnAnswer k w = choose (areaRight w) (runOn k (runIn w) .answer) (Ran.Refused 
 unfoldable pub runOnArea : ℕ → List ℤ → List ℤ
 runOnArea k w = choose (areaRight w) (keeping w (runOn k (runIn w) .run)) w
 
+unfoldable pub shuffledAnswer : ℕ → ℕ → List ℤ → Ran
+shuffledAnswer k seed w = choose (areaRight w) (runShuffled k seed (runIn w) .answer) (Ran.Refused 21 0)
+
+unfoldable pub shuffledArea : ℕ → ℕ → List ℤ → List ℤ
+shuffledArea k seed w = choose (areaRight w) (keeping w (runShuffled k seed (runIn w) .run)) w
+
 unfoldable pub reportAnswer : List ℤ → Report
 reportAnswer w = choose (areaRight w) (report (runIn w)) (Report.Refused 21)
 
@@ -46,6 +53,8 @@ abbrev pub areaPassedBy : Call → List ℤ → Passed (List ℤ)
 areaPassedBy (picking a b k) w =
     record { left = pickArea w a b k; made = deliveryMade (pickAnswer w a b k); numbers = deliveryNumber (pickAnswer w a b k) ∷ [] }
 areaPassedBy (runningOn k) w = record { left = runOnArea k w; made = ranMade (runOnAnswer k w); numbers = ranNumber (runOnAnswer k w) ∷ [] }
+areaPassedBy (runningShuffled k seed) w =
+    record { left = shuffledArea k seed w; made = ranMade (shuffledAnswer k seed w); numbers = ranNumber (shuffledAnswer k seed w) ∷ [] }
 areaPassedBy reporting w = record { left = w; made = 0; numbers = reportNumber (reportAnswer w) ∷ [] }
 areaPassedBy (reading p) w = record { left = w; made = 0; numbers = readingNumber (readAnswer w p) ∷ [] }
 

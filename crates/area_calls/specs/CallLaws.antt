@@ -1,7 +1,9 @@
 -- The calls by the first thing that is met.
---   pick-21, runOn-21, report-21, read-21     == an area that is not well formed
+--   pick-21, runOn-21, shuffled-21, report-21, read-21   == an area that is not well formed
 --   pick-25, pick-23, pick-on                 == a pick on a well-formed area: no link, over, or the delivery
---   runOn-on                                  == running on, from its first turn
+--   runOn-fixed                               == the area that running on leaves
+--   runOn-on                                  == running on, from its first turn: the shuffled order from state 0, which is the fixed one
+--   shuffled-37, shuffled-on                  == running on with a seed (02, N13): seed 0; from its first turn
 --   report-on, report-26, report-over         == a report on a well-formed area; before the end, and at the end
 --   read-25, read-found                       == a record
 --   passed-then                               == a list of calls after a list
@@ -11,22 +13,26 @@ use Prim.Native.Nat.{ℕ}
 use mathlib.Core.Bool.{true, false}
 use mathlib.Core.List.{List, [], _∷_, _++_}
 use mathlib.Core.Path.{_≡_, refl, sym, ap, _∙_}
-use lib.IntN.{ℤ}
+use lib.{Dec.eqb, IntN.ℤ}
 use Rattle.machine.specs.Calls as MachineCalls
-use Rattle.machine.specs.Lists.{Call, picking, runningOn, reporting, reading, inTurn}
+use Rattle.machine.specs.Calls.{RanOn, fixedOrder, shuffledOrder, runFrom}
+use Rattle.machine.specs.ChooserLaws.{shuffled-zero}
+use Rattle.machine.specs.Lists.{Call, picking, runningOn, runningShuffled, reporting, reading, inTurn}
 use Rattle.tables.specs.Table.{isProcess}
 use Rattle.tables.specs.Waits.{neighbours}
+use Rattle.steps.specs.declared.{Message.Message, Process.Process}
 use Rattle.checks.specs.declared.Delivery.{Delivery}
 use Rattle.machine.specs.declared.Ran.{Ran}
 use Rattle.checks.specs.declared.Report.{Report}
 use Rattle.checks.specs.declared.Reading.{Reading}
 use Rattle.checks.specs.declared.Reading.the-variants.{Found}
-use Rattle.checks.specs.Run.{over, wellFormed}
-use Rattle.checks.specs.Calls.{deliver, pick, runFrom, runOn, reported, report, readRecord}
+use Rattle.checks.specs.Run.{knot, over, wellFormed}
+use Rattle.checks.specs.Calls.{deliver, reported, report, readRecord}
 use Rattle.areas.specs.Area.{runIn, areaRight, keeping}
 use Rattle.areas.specs.AreaLaws.{stored-same}
 use Rattle.lenses.specs.ReadyLaws.{right-storable}
-use Rattle.area_calls.specs.AreaCalls.{pickAnswer, pickArea, runOnAnswer, runOnArea, reportAnswer, readAnswer, areaPassedBy, areaPassed}
+use Rattle.area_calls.specs.AreaCalls.{pickAnswer, pickArea, runOnAnswer, runOnArea, shuffledAnswer, shuffledArea}
+use Rattle.area_calls.specs.AreaCalls.{reportAnswer, readAnswer, areaPassedBy, areaPassed}
 
 -- ---- 21
 
@@ -38,6 +44,10 @@ module _ (w : List ℤ) (e : areaRight w ≡ false) where
   pub runOn-21 : (k : ℕ) → (Ran.Refused 21 0 ≡ runOnAnswer k w) × (w ≡ runOnArea k w)
   unfolding runOnAnswer runOnArea
   runOn-21 k = (rw e, rw e)
+
+  pub shuffled-21 : (k seed : ℕ) → (Ran.Refused 21 0 ≡ shuffledAnswer k seed w) × (w ≡ shuffledArea k seed w)
+  unfolding shuffledAnswer shuffledArea
+  shuffled-21 k seed = (rw e, rw e)
 
   pub report-21 : Report.Refused 21 ≡ reportAnswer w
   unfolding reportAnswer
@@ -71,9 +81,28 @@ module _ (w : List ℤ) (e : areaRight w ≡ true) where
   unfolding pickAnswer pickArea MachineCalls.pick
   pick-on a b k n o = (rw (e, formed, n, o), rw (e, formed, n, o))
 
-  pub runOn-on : (k : ℕ) → (runFrom k 0 (runIn w) .answer ≡ runOnAnswer k w) × (keeping w (runFrom k 0 (runIn w) .run) ≡ runOnArea k w)
+  pub runOn-fixed : (k : ℕ) → keeping w (runFrom knot fixedOrder k 0 0 (runIn w) .run) ≡ runOnArea k w
+  unfolding runOnArea MachineCalls.runOn
+  runOn-fixed k = rw (e, formed)
+
+  pub runOn-on : (k : ℕ) →
+      (runFrom knot shuffledOrder k 0 0 (runIn w) .answer ≡ runOnAnswer k w) ×
+      (keeping w (runFrom knot shuffledOrder k 0 0 (runIn w) .run) ≡ runOnArea k w)
   unfolding runOnAnswer runOnArea MachineCalls.runOn
-  runOn-on k = (rw (e, formed), rw (e, formed))
+  runOn-on k =
+      let z = shuffled-zero knot k 0 (runIn w) in
+      (rw (e, formed) (ap (λ (o : RanOn Process Message). o .answer) z), rw (e, formed) (ap (λ (o : RanOn Process Message). keeping w (o .run)) z))
+
+  -- "It refuses seed 0 with 37, after 21." (02, N13)
+  pub shuffled-37 : (k seed : ℕ) → eqb seed 0 ≡ true → (Ran.Refused 37 0 ≡ shuffledAnswer k seed w) × (w ≡ shuffledArea k seed w)
+  unfolding shuffledAnswer shuffledArea MachineCalls.runShuffled
+  shuffled-37 k seed z = (rw (e, formed, z), rw (e, formed, z) same)
+
+  pub shuffled-on : (k seed : ℕ) → eqb seed 0 ≡ false →
+      (runFrom knot shuffledOrder k 0 seed (runIn w) .answer ≡ shuffledAnswer k seed w) ×
+      (keeping w (runFrom knot shuffledOrder k 0 seed (runIn w) .run) ≡ shuffledArea k seed w)
+  unfolding shuffledAnswer shuffledArea MachineCalls.runShuffled
+  shuffled-on k seed z = (rw (e, formed, z), rw (e, formed, z))
 
   pub report-26 : over (runIn w) ≡ false → Report.Refused 26 ≡ reportAnswer w
   unfolding reportAnswer report
@@ -112,5 +141,6 @@ passed-21 w e (c ∷ cs) = ap (λ (v : List ℤ). areaPassed cs v .left) (stays 
     stays : (c : Call) → areaPassedBy c w .left ≡ w
     stays (picking a b k) = sym (pick-21 w e a b k .1)
     stays (runningOn k) = sym (runOn-21 w e k .1)
+    stays (runningShuffled k seed) = sym (shuffled-21 w e k seed .1)
     stays reporting = refl
     stays (reading p) = refl

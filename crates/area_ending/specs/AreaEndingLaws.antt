@@ -5,6 +5,7 @@
 --   area-takes        == after every list that is not over: the pick of every message that waits, wherever it stands, answers with it
 --   area-reports      == after every list that is over: what the report of the words that the list left answers
 --   area-runs-out, area-over   == after every list: running on with as many deliveries as are left ends over, with their number
+--   area-shuffled     == .. with a seed that is not 0 it answers the same (02, N13)
 --   area-runs-out-most, area-over-most   == .. as 2,048 do from wherever a list has come to
 -- Assumes nothing.
 use Prim.Native.Nat.{ℕ, _+_, _-_, _≤_}
@@ -23,10 +24,10 @@ use Rattle.tables.specs.WaitsLaws.{waitsOf-sound}
 use Rattle.machine.specs.declared.Ran.{Ran}
 use Rattle.machine.specs.Calls.{cut, atPlace, fixedOrder}
 use Rattle.machine.specs.Calls as MachineCalls
-use Rattle.machine.specs.Lists.{Call, picking, runningOn, reporting, reading, Passed, Taken}
+use Rattle.machine.specs.Lists.{Call, picking, runningOn, runningShuffled, reporting, reading, Passed, Taken}
 use Rattle.machine.specs.AmongLaws.{cut-placed}
 use Rattle.machine.specs.Made.{Made, none}
-use Rattle.machine.specs.MadeLaws.{pick-made, runOn-made}
+use Rattle.machine.specs.MadeLaws.{pick-made, runOn-made, runShuffled-made}
 use Rattle.machine.specs.ChooserLaws.{fixedOrder-finds}
 use Rattle.steps.specs.declared.Message.{Message}
 use Rattle.checks.specs.declared.Delivery.{Delivery}
@@ -35,16 +36,18 @@ use Rattle.checks.specs.declared.Verdict.the-variants.{Knot, Free}
 use Rattle.checks.specs.declared.Mark.the-variants.{Returned, Held}
 use Rattle.checks.specs.declared.Report.{Report}
 use Rattle.checks.specs.Run.{Run, IsEdition, knot, over, startRun}
-use Rattle.checks.specs.Calls.{pick, runOn, deliveryMade}
+use Rattle.checks.specs.Calls.{pick, runOn, runShuffled, deliveryMade}
 use Rattle.checks.specs.AnswerLaws.{deliveryOf-accepted}
 use Rattle.checks.specs.Reach.{inKnot, outsiders, lowestOutsider, allWait, dOf}
 use Rattle.checks.specs.Lists
 use Rattle.ending.specs.SpreadEndLaws.{dOf-most}
 use Rattle.ending.specs.EndingLaws.{ending-runs-out, ending-over}
+use Rattle.ending.specs.ShuffledLaws.{ending-shuffled}
 use Rattle.areas.specs.Area.{keeping, runIn, areaRight}
 use Rattle.lenses.specs.ReadyLaws.{right-storable}
 use Rattle.starting.specs.StartCall.{startNumber, startArea}
-use Rattle.area_calls.specs.AreaCalls.{pickAnswer, pickArea, runOnAnswer, runOnArea, reportAnswer, areaPassedBy, areaPassed, asRun}
+use Rattle.area_calls.specs.AreaCalls.{pickAnswer, pickArea, runOnAnswer, runOnArea, shuffledAnswer, shuffledArea, reportAnswer}
+use Rattle.area_calls.specs.AreaCalls.{areaPassedBy, areaPassed, asRun}
 use Rattle.area_ending.specs.AreaEnding.{begun, table, fits-last, list-left, area-run, area-ending}
 use Rattle.area_ending.specs.ListLaws.{run, call-stored, fit-call}
 use Rattle.area_calls.specs.CallLaws.{same, report-on}
@@ -62,7 +65,7 @@ module _ (w : List ℤ) (e : areaRight w ≡ true) where
 
 -- a call that makes no delivery leaves every word
 pub call-keeps : (c : Call) (w : List ℤ) → areaPassedBy c w .made ≡ 0 → areaPassedBy c w .left ≡ w
-unfolding pickArea pickAnswer runOnArea runOnAnswer
+unfolding pickArea pickAnswer runOnArea runOnAnswer shuffledArea shuffledAnswer
 call-keeps c w = at c (tested (areaRight w))
   where
     at : (c : Call) → Tested (areaRight w) → areaPassedBy c w .made ≡ 0 → areaPassedBy c w .left ≡ w
@@ -74,6 +77,9 @@ call-keeps c w = at c (tested (areaRight w))
     at (runningOn k) (failed e) z = rw e
     at (runningOn k) (passed e) z =
         rw e (kept w e (runOn k (runIn w) .run) (none-made (runOn-made knot fixedOrder fixedOrder-finds k 0 (runIn w)) (rw e at z)))
+    at (runningShuffled k seed) (failed e) z = rw e
+    at (runningShuffled k seed) (passed e) z =
+        rw e (kept w e (runShuffled k seed (runIn w) .run) (none-made (runShuffled-made knot k seed (runIn w)) (rw e at z)))
     at reporting _ z = refl
     at (reading p) _ z = refl
 
@@ -146,6 +152,14 @@ module _ (bs : List ℕ) (s ed : ℕ) (w : List ℤ) (e : startNumber bs s ed w 
         let call = ap (λ (p : Passed (List ℤ)). p .left) (call-stored t tb w long on r f) in
         rw (list-left bs s ed w e cs, call, run t tb w long (runOn k r .run) (fit-call t tb w long on r f))
         (ending-over waits sound s process ed named cs k (omega (arith, made)))
+
+  -- "Such a run ends as any other." (02, N13): whatever the seed that is not 0, it answers what running on answers in the fixed order
+  pub area-shuffled : (k seed : ℕ) → 1 ≤ seed → shuffledAnswer k seed (list .left) ≡ runOnAnswer k (list .left)
+  unfolding shuffledAnswer runOnAnswer
+  area-shuffled k seed u =
+      let r : Passed Run = Lists.passed cs (startRun waits s ed) in
+      let left : runIn (list .left) ≡ r .left = ap (λ (p : Passed Run). p .left) is in
+      rw (area-ending bs s ed w e cs .right, left) (ending-shuffled waits sound s process ed named cs k seed u)
 
   -- "accepted deliveries, 0 to 2048": so many suffice from wherever a list has come to
   most-enough : dOf waits s ≤ list .made + knot .most

@@ -12,8 +12,8 @@ use lib.ListN.{length}
 use lib.IntN.{ℤ}
 use Rattle.tables.specs.Table.{Fields}
 use Rattle.checks.specs.Run.{Run, knot}
-use Rattle.checks.specs.Calls.{pick, runOn}
-use Rattle.machine.specs.Lists.{Call, picking, runningOn, reporting, reading, inTurn, passedBy}
+use Rattle.checks.specs.Calls.{pick, runOn, runShuffled}
+use Rattle.machine.specs.Lists.{Call, picking, runningOn, runningShuffled, reporting, reading, inTurn, passedBy}
 use Rattle.machine.specs.Calls.{fixedOrder}
 use Rattle.machine.specs.Calls as MachineCalls
 use Rattle.checks.specs.AnswerLaws.{deliveryOf-number, deliveryOf-accepted}
@@ -25,8 +25,9 @@ use Rattle.areas.specs.ReadLaws.{fieldsIn-stored, runIn-stored}
 use Rattle.areas.specs.AreaFacts.{RightTable}
 use Rattle.areas.specs.AreaLaws.{areaRight-stored}
 use Rattle.lenses.specs.Storable.{Storable}
-use Rattle.delivery.specs.StorableLaws.{storable-pick, storable-runOn}
-use Rattle.area_calls.specs.AreaCalls.{pickAnswer, pickArea, runOnAnswer, runOnArea, reportAnswer, readAnswer, areaPassedBy, areaPassed}
+use Rattle.delivery.specs.StorableLaws.{storable-pick, storable-runOn, storable-shuffled}
+use Rattle.area_calls.specs.AreaCalls.{pickAnswer, pickArea, runOnAnswer, runOnArea, shuffledAnswer, shuffledArea, reportAnswer, readAnswer}
+use Rattle.area_calls.specs.AreaCalls.{areaPassedBy, areaPassed}
 
 -- ---- a call on an area is the call on its run
 
@@ -47,17 +48,19 @@ module _ (t : Fields) (tb : RightTable t) (w : List ℤ) (long : areaOf t ≤ le
         made = passedBy knot fixedOrder asked c r .made;
         numbers = passedBy knot fixedOrder asked c r .numbers;
       }
-  unfolding pickArea pickAnswer runOnArea runOnAnswer reportAnswer readAnswer
+  unfolding pickArea pickAnswer runOnArea runOnAnswer shuffledArea shuffledAnswer reportAnswer readAnswer
   call-stored (picking a b k) r f =
       let x = MachineCalls.pick knot r a b k .answer in
       rw (right r f, run r f, keeps r (pick r a b k .run), deliveryOf-number x, deliveryOf-accepted x)
   call-stored (runningOn k) r f = rw (right r f, run r f, keeps r (runOn k r .run))
+  call-stored (runningShuffled k seed) r f = rw (right r f, run r f, keeps r (runShuffled k seed r .run))
   call-stored reporting r f = rw (right r f, run r f)
   call-stored (reading p) r f = rw (right r f, run r f)
 
   pub fit-call : (c : Call) (r : Run) → Storable t r → Storable t (passedBy knot fixedOrder asked c r .left)
   fit-call (picking a b k) r f = storable-pick t r f a b k
   fit-call (runningOn k) r f = storable-runOn t k r f
+  fit-call (runningShuffled k seed) r f = storable-shuffled t k seed r f
   fit-call reporting r f = f
   fit-call (reading p) r f = f
 

@@ -4,7 +4,7 @@
 --   deliveryOf-number, deliveryOf-accepted     == the same number, and the same count of accepted picks
 --   isZero-yes, isZero-no                      == the test of a sum
 --   escapeOf-P                                 == the lowest process with subordinate 1, or 0 and none has it
---   pick-21, runOn-21, report-21, readRecord-21   == 21 comes first
+--   pick-21, runOn-21, runShuffled-21, report-21, readRecord-21   == 21 comes first
 -- Assumes nothing.
 use Prim.Native.Nat.{ℕ, zero, suc}
 use mathlib.Core.Bool.{true, false}
@@ -24,7 +24,7 @@ use Rattle.checks.specs.declared.Delivery.the-variants.{Delivered}
 use Rattle.checks.specs.declared.Report.{Report}
 use Rattle.checks.specs.declared.Reading.{Reading}
 use Rattle.checks.specs.Run.{Run, wellFormed}
-use Rattle.checks.specs.Calls.{refused, deliveryOf, pick, runOn, escapeOf, isZero, report, readRecord, deliveryNumber, deliveryMade}
+use Rattle.checks.specs.Calls.{refused, deliveryOf, pick, runOn, runShuffled, escapeOf, isZero, report, readRecord, deliveryNumber, deliveryMade}
 
 pub deliveryOf-refused : (x : Answer Message) {n : ℕ} → deliveryOf x ≡ Delivery.Refused n → x ≡ refusal n
 deliveryOf-refused (refusal k) {n} e = let f : k ≡ n = cc in ap refusal f
@@ -68,6 +68,10 @@ module _ (r : Run) (bad : wellFormed r ≡ false) where
   pub runOn-21 : (k : ℕ) → runOn k r ≡ record { answer = Ran.Refused 21 0; run = r }
   unfolding Machines.runOn
   runOn-21 k = rw bad
+
+  pub runShuffled-21 : (k seed : ℕ) → runShuffled k seed r ≡ record { answer = Ran.Refused 21 0; run = r }
+  unfolding Machines.runShuffled
+  runShuffled-21 k seed = rw bad
 
   pub report-21 : report r ≡ Report.Refused 21
   unfolding report

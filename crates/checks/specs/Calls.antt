@@ -64,13 +64,13 @@ pick r a b k = answering (Machines.pick knot r a b k)
 abbrev pub deliverOn : Run → Selection → Picked
 deliverOn r c = answering (Machines.deliverOn knot r c)
 
--- over, then spent, then 24, 22, with so many deliveries made before
-abbrev pub runFrom : ℕ → ℕ → Run → RanOn Process Message
-runFrom k made r = Machines.runFrom knot fixedOrder k made 0 r
-
 -- "Running on makes up to k deliveries", 02, N11: "lowest receiver first and then lowest sender", among links with a message
 abbrev pub runOn : ℕ → Run → RanOn Process Message
 runOn k r = Machines.runOn knot fixedOrder k 0 r
+
+-- 02, N13: "Running on may take a 32-bit seed"; it checks 21, 37, then over, spent, 24, 22
+abbrev pub runShuffled : ℕ → ℕ → Run → RanOn Process Message
+runShuffled k seed r = Machines.runShuffled knot k seed r
 
 -- ---- the report
 

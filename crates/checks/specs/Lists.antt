@@ -1,4 +1,4 @@
--- What is said of every list of the four calls on a knot check (01, "The end of a check"). Lists are the machine's (crate machine, Lists).
+-- What is said of every list of calls on a knot check (01, "The end of a check"). Lists are the machine's (crate machine, Lists).
 --   asked              == the numbers that the report and the reading of a record answer
 --   passed cs r        == the list: "each call gets the area as the last one left it"
 --   Ended w s ed r     == what is said of a run that is over, started at s under the edition ed
@@ -71,6 +71,6 @@ pub record Promise (w : Waits) (s ed : ℕ) (p : Passed Run) : Type 0 where
   -- 02, N4: "Open payments keep the edition they began under."
   pub edition : p .left .edition ≡ ed
   -- the numbers that occur: "22 never occurs in a run made by start and deliveries", whichever message is taken, nor does 21
-  pub answers : (n : ℕ) → List·Memᴰ n (p .numbers) → List·Memᴰ n (0 ∷ 23 ∷ 24 ∷ 25 ∷ 26 ∷ 31 ∷ [])
+  pub answers : (n : ℕ) → List·Memᴰ n (p .numbers) → List·Memᴰ n (0 ∷ 23 ∷ 24 ∷ 25 ∷ 26 ∷ 31 ∷ 37 ∷ [])
   -- "with at most 4 messages waiting"
   pub at-most-4 : (a b : ℕ) → IsProcess (w .n) a → IsProcess (w .n) b → length (p .left .link a b) ≤ mostWaiting

@@ -35,7 +35,7 @@ use Rattle.lenses.proofs.ChainWalks.{Walked, ends, toGo, left-on, left-end, wal
 use Rattle.choosing.specs.Memory.{Marks}
 use Rattle.choosing.specs.Sets.{turned}
 use Rattle.choosing.specs.Noting.{Marked, Turns, takenMarks, sentMarks}
-use Rattle.choosing.specs.MarkLaws.{marks-cong}
+use Rattle.choosing.specs.GroupLaws.{marks-cong}
 use Rattle.choosing.specs.NotedLaws.{sent-turned}
 use Rattle.choosing.specs.FillLaws.{both-ways}
 

@@ -1,6 +1,9 @@
--- One delivery in the fixed order, in a ready area.
+-- One delivery on a chosen link, in a ready area, whatever the choice.
+--   ready-few, ready-within   == N is small, and messages wait between processes alone
+--   drawn-chosen              == what is chosen by a state
+--   on choice r               == the delivery on what is chosen
 --   holding-next-of           == the area after it holds the run after it
---   Left w sq n m x v l       == what it leaves of the area w: the answer x, the area v, and what is remembered of that, l
+--   Left choice w sq n m x v l   == what it leaves of the area w: the answer x, the area v, and what is remembered of that, l
 --   left-small                == the ends of the link of a delivered message are processes, and so at most the largest N
 --   left-refusal, left-message   == what the answer says of the delivery: its refusal, or its message
 --   left-none                 == no link is chosen
@@ -26,9 +29,8 @@ use Rattle.steps.specs.declared.Reply.the-variants.{To}
 use Rattle.checks.specs.declared.Delivery.{Delivery}
 use Rattle.checks.specs.declared.Delivery.the-variants.{Delivered}
 use Rattle.checks.specs.Run.{Run}
-use Rattle.checks.specs.Calls.{Picked, refused}
-use Rattle.machine.specs.Calls.{Selection, nobody, pair, waiting, lowest}
-use Rattle.machine.specs.ChooserLaws.{lowest-pair}
+use Rattle.checks.specs.Calls.{Picked, refused, deliverOn}
+use Rattle.machine.specs.Calls.{Selection, nobody, pair, waiting, linkAt, linksOf, drawn}
 use Rattle.areas.specs.Area.{fieldsIn, runIn, keeping}
 use Rattle.delivery.specs.declared.delivering.Told.{Told}
 use Rattle.delivery.specs.Delivering.{carriedOut, deliverAt, toldAt}
@@ -42,104 +44,126 @@ use Rattle.choosing.specs.declared.Chosen.{Chosen}
 use Rattle.choosing.specs.declared.Chosen.the-variants.{Nobody, Link}
 use Rattle.choosing.specs.declared.ChosenDelivery.{ChosenDelivery}
 use Rattle.choosing.specs.Memory.{Remembers}
+use Rattle.choosing.specs.Sets.{Points}
 use Rattle.choosing.specs.Noting.{MarkedAt, Turns, notedMarks}
-use Rattle.choosing.specs.Answers.{chosenOf, chosenAnswer, nextOf}
+use Rattle.choosing.specs.Answers.{chosenOf, chosenAnswer}
+use Rattle.choosing.specs.OrderLaws.{Names, Within, points-drawn}
 use Rattle.choosing.specs.NotedLaws.{remembers-noted}
 use Rattle.choosing.specs.AnswerLaws.{chosenOf-nobody, chosenOf-link, deliverOn-nobody, deliverOn-pair, chosenAnswer-refused, chosenAnswer-delivered}
 
-pub holding-next-of
-    : {w : List ℤ} {sq : List ℕ} {n m : ℕ} (y : Ready w sq n m) {v u : List ℤ} {r : Run}
-    → Holding w v r
-    → u ≡ keeping v (nextOf (runIn v) .run)
-    → Holding w u (nextOf r .run)
-holding-next-of {w} y {r = r} h e = holding-next y h (λ q. nextOf q .run) e (storable-on (fieldsIn w) r (h .fit) (lowest r) refl)
-
-abbrev pub Left : List ℤ → List ℕ → ℕ → ℕ → ChosenDelivery → List ℤ → List ℕ → Type 0
-Left w sq n m x v l =
-    (x ≡ chosenAnswer (lowest (runIn w)) (nextOf (runIn w) .answer)) × ((v ≡ keeping w (nextOf (runIn w) .run)) × (Remembers (runIn v) l × Ready v sq n m))
-
 module _ {w : List ℤ} {sq : List ℕ} {n m : ℕ} (y : Ready w sq n m) where
+  pub ready-few : runIn w .waits .n ≤ mostProcesses
+  ready-few = omega (arith, ready-sizes y .0, ready-n y)
+
+  pub ready-within : Within (runIn w)
+  ready-within a b e =
+      let s = right-storable w (y .right) in
+      let i = neighbours-ends (runIn w .waits) (s .sound) a b (waiting-joined (fieldsIn w) (runIn w) (s .held) a b e) in
+      ((i .0, i .1), (i .2, i .3))
+
+  -- the link at the place that a state points to is the drawn one
+  pub drawn-chosen : {l : List ℕ} → Remembers (runIn w) l → (s k : ℕ) → Points l s k → {c : Chosen} → c ≡ chosenOf (linkAt k (linksOf (runIn w)))
+      → c ≡ chosenOf (drawn s (runIn w))
+  drawn-chosen h s k p e = e ∙ ap chosenOf (points-drawn (runIn w) ready-few ready-within h s k p)
+
+abbrev pub on : (Run → Selection) → Run → Picked
+on choice r = deliverOn r (choice r)
+
+pub holding-next-of
+    : {choice : Run → Selection} → Names choice
+    → {w : List ℤ} {sq : List ℕ} {n m : ℕ} (y : Ready w sq n m) {v u : List ℤ} {r : Run}
+    → Holding w v r
+    → u ≡ keeping v (on choice (runIn v) .run)
+    → Holding w u (on choice r .run)
+holding-next-of {choice} named {w} y {r = r} h e =
+    holding-next y h (λ q. on choice q .run) e (storable-on (fieldsIn w) r (h .fit) (choice r) (λ a b q. let i = named r a b q in (i .0, i .1)))
+
+abbrev pub Left : (Run → Selection) → List ℤ → List ℕ → ℕ → ℕ → ChosenDelivery → List ℤ → List ℕ → Type 0
+Left choice w sq n m x v l =
+    (x ≡ chosenAnswer (choice (runIn w)) (on choice (runIn w) .answer)) × ((v ≡ keeping w (on choice (runIn w) .run)) × (Remembers (runIn v) l × Ready v sq n m))
+
+module _ (choice : Run → Selection) (named : Names choice) {w : List ℤ} {sq : List ℕ} {n m : ℕ} (y : Ready w sq n m) where
   pub left-small
-      : {x : ChosenDelivery} {v : List ℤ} {l : List ℕ} → Left w sq n m x v l
+      : {x : ChosenDelivery} {v : List ℤ} {l : List ℕ} → Left choice w sq n m x v l
       → {a b : ℕ} {k : Message} → x ≡ ChosenDelivery.Delivered a b k
       → (a ≤ mostProcesses) × (b ≤ mostProcesses)
   left-small d {a} {b} {k} e =
-      let p = lowest-pair (runIn w) (chosenAnswer-delivered (runIn w) a b k (lowest (runIn w)) (sym (d .0) ∙ e) .0) in
+      let p = named (runIn w) a b (chosenAnswer-delivered (runIn w) a b k (choice (runIn w)) (sym (d .0) ∙ e) .0) in
       (omega (arith, p .0 .1, ready-n y, ready-sizes y .0), omega (arith, p .1 .1, ready-n y, ready-sizes y .0))
 
   pub left-refusal
-      : {x : ChosenDelivery} {v : List ℤ} {l : List ℕ} → Left w sq n m x v l
+      : {x : ChosenDelivery} {v : List ℤ} {l : List ℕ} → Left choice w sq n m x v l
       → {i : ℕ} → x ≡ ChosenDelivery.Refused i
-      → nextOf (runIn w) .answer ≡ Delivery.Refused i
-  left-refusal d {i} e = chosenAnswer-refused (runIn w) (lowest (runIn w)) i (sym (d .0) ∙ e)
+      → on choice (runIn w) .answer ≡ Delivery.Refused i
+  left-refusal d {i} e = chosenAnswer-refused (runIn w) (choice (runIn w)) i (sym (d .0) ∙ e)
 
   pub left-message
-      : {x : ChosenDelivery} {v : List ℤ} {l : List ℕ} → Left w sq n m x v l
+      : {x : ChosenDelivery} {v : List ℤ} {l : List ℕ} → Left choice w sq n m x v l
       → {a b : ℕ} {z : Message} → x ≡ ChosenDelivery.Delivered a b z
-      → nextOf (runIn w) .answer ≡ Delivered z
-  left-message d {a} {b} {z} e = chosenAnswer-delivered (runIn w) a b z (lowest (runIn w)) (sym (d .0) ∙ e) .1
+      → on choice (runIn w) .answer ≡ Delivered z
+  left-message d {a} {b} {z} e = chosenAnswer-delivered (runIn w) a b z (choice (runIn w)) (sym (d .0) ∙ e) .1
 
-module _ {w : List ℤ} {sq : List ℕ} {n m : ℕ} (y : Ready w sq n m) {l : List ℕ} (h : Remembers (runIn w) l) {c : Chosen}
-    (g : c ≡ chosenOf (lowest (runIn w))) where
+module _ (choice : Run → Selection) (named : Names choice) {w : List ℤ} {sq : List ℕ} {n m : ℕ} (y : Ready w sq n m)
+    {l : List ℕ} (h : Remembers (runIn w) l) {c : Chosen} (g : c ≡ chosenOf (choice (runIn w))) where
   -- the delivery leaves the area as it was
   left-same
       : {k : ℕ}
-      → nextOf (runIn w) ≡ refused k (runIn w)
-      → ChosenDelivery.Refused k ≡ chosenAnswer (lowest (runIn w)) (nextOf (runIn w) .answer)
-      → Left w sq n m (ChosenDelivery.Refused k) w l
+      → on choice (runIn w) ≡ refused k (runIn w)
+      → ChosenDelivery.Refused k ≡ chosenAnswer (choice (runIn w)) (on choice (runIn w) .answer)
+      → Left choice w sq n m (ChosenDelivery.Refused k) w l
   left-same p e = (e, (holding-first y .is ∙ sym (ap (λ (o : Picked). keeping w (o .run)) p), (h, y)))
 
   -- the answer of a refused delivery, whatever was chosen
   refused-answer
       : {k : ℕ} (d : Selection)
-      → lowest (runIn w) ≡ d
-      → nextOf (runIn w) ≡ refused k (runIn w)
-      → ChosenDelivery.Refused k ≡ chosenAnswer (lowest (runIn w)) (nextOf (runIn w) .answer)
+      → choice (runIn w) ≡ d
+      → on choice (runIn w) ≡ refused k (runIn w)
+      → ChosenDelivery.Refused k ≡ chosenAnswer (choice (runIn w)) (on choice (runIn w) .answer)
   refused-answer {k} d e p =
-      sym (ap (λ (o : Picked). chosenAnswer (lowest (runIn w)) (o .answer)) p ∙ ap (λ (d : Selection). chosenAnswer d (Delivery.Refused k)) e ∙ at d)
+      sym (ap (λ (o : Picked). chosenAnswer (choice (runIn w)) (o .answer)) p ∙ ap (λ (d : Selection). chosenAnswer d (Delivery.Refused k)) e ∙ at d)
     where
       at : (d : Selection) → chosenAnswer d (Delivery.Refused k) ≡ ChosenDelivery.Refused k
       at nobody = refl
       at (pair a b) = refl
 
-  pub left-none : c ≡ Nobody → Left w sq n m (ChosenDelivery.Refused 24) w l
+  pub left-none : c ≡ Nobody → Left choice w sq n m (ChosenDelivery.Refused 24) w l
   left-none i =
-      let e : lowest (runIn w) ≡ nobody = chosenOf-nobody (lowest (runIn w)) (sym g ∙ i) in
+      let e : choice (runIn w) ≡ nobody = chosenOf-nobody (choice (runIn w)) (sym g ∙ i) in
       let p = deliverOn-nobody (runIn w) e in
       left-same p (refused-answer nobody e p)
 
   module _ {a b : ℕ} (i : c ≡ Link a b) where
-    chosen : lowest (runIn w) ≡ pair a b
-    chosen = chosenOf-link (lowest (runIn w)) a b (sym g ∙ i)
+    chosen : choice (runIn w) ≡ pair a b
+    chosen = chosenOf-link (choice (runIn w)) a b (sym g ∙ i)
 
     joined : neighbours (runIn w .waits) a b ≡ true
-    joined = waiting-joined (fieldsIn w) (runIn w) (right-storable w (y .right) .held) a b (lowest-pair (runIn w) chosen .2)
+    joined = waiting-joined (fieldsIn w) (runIn w) (right-storable w (y .right) .held) a b (named (runIn w) a b chosen .2)
 
     sound : Sound (runIn w .waits)
     sound = right-storable w (y .right) .sound
 
     pub link-asks : Ready w sq n m × ((neighbours (runIn w .waits) a b ≡ true) × ((a ≤ n) × (b ≤ n)))
     link-asks =
-        let p = lowest-pair (runIn w) chosen in
+        let p = named (runIn w) a b chosen in
         (y, (joined, (omega (arith, p .0, ready-n y), omega (arith, p .1, ready-n y))))
 
-    this : nextOf (runIn w) ≡ deliverAt (runIn w) a b 1
+    this : on choice (runIn w) ≡ deliverAt (runIn w) a b 1
     this = deliverOn-pair (runIn w) a b chosen
 
     -- what the delivery has told, and the area that it has left
     module _ {o : Told} {v : List ℤ} (f : (o ≡ toldAt (runIn w) a b 1) × (v ≡ keeping w (deliverAt (runIn w) a b 1 .run))) where
-      pub left-refused : {k : ℕ} → o ≡ Told.Refused k → Left w sq n m (ChosenDelivery.Refused k) v l
+      pub left-refused : {k : ℕ} → o ≡ Told.Refused k → Left choice w sq n m (ChosenDelivery.Refused k) v l
       left-refused {k} e =
           let q = told-refused (runIn w) a b 1 k (sym (f .0) ∙ e) in
           let same : v ≡ w = f .1 ∙ ap (λ (o : Picked). keeping w (o .run)) q ∙ sym (holding-first y .is) in
-          let p : nextOf (runIn w) ≡ refused k (runIn w) = this ∙ q in
+          let p : on choice (runIn w) ≡ refused k (runIn w) = this ∙ q in
           rw same (left-same p (refused-answer (pair a b) chosen p))
 
-      kept : v ≡ keeping w (nextOf (runIn w) .run)
+      kept : v ≡ keeping w (on choice (runIn w) .run)
       kept = f .1 ∙ ap (λ (o : Picked). keeping w (o .run)) (sym this)
 
-      holds : Holding w v (nextOf (runIn w) .run)
-      holds = holding-next-of y (holding-first y) kept
+      holds : Holding w v (on choice (runIn w) .run)
+      holds = holding-next-of named y (holding-first y) kept
 
       module _ {s : Message} {p : Probes} {z : Reply} (e : o ≡ Told.Delivered s p z) where
         gone : (x : Process) × Going (runIn w) n a b 1 s x p z
@@ -149,7 +173,7 @@ module _ {w : List ℤ} {sq : List ℕ} {n m : ℕ} (y : Ready w sq n m) {l : Li
             : Ready v sq n m
             × ((IsProcess n a × IsProcess n b) × (((q : ℕ) (c : TwoCounts) → z ≡ To q c → IsProcess mostProcesses q) × MarkedAt l a b))
         note-asks =
-            let q = lowest-pair (runIn w) chosen in
+            let q = named (runIn w) a b chosen in
             let is = ready-n y in (
               holding-ready y holds,
               (((q .0 .0, omega (arith, q .0, is)), (q .1 .0, omega (arith, q .1, is))), (to, (λ x u. waiting (runIn w .link x u), h, q .2))),
@@ -165,11 +189,11 @@ module _ {w : List ℤ} {sq : List ℕ} {n m : ℕ} (y : Ready w sq n m) {l : Li
         now-run = holding-run y holds ∙ ap (λ (o : Picked). o .run) this ∙ gone .1 .run
 
         -- what is remembered of it
-        pub left-delivered : {j : List ℕ} → Turns l (notedMarks (runIn v) a b p z) j → Left w sq n m (ChosenDelivery.Delivered a b s) v j
+        pub left-delivered : {j : List ℕ} → Turns l (notedMarks (runIn v) a b p z) j → Left choice w sq n m (ChosenDelivery.Delivered a b s) v j
         left-delivered {j} t =
             let noted = subst (λ (r : Run). Turns l (notedMarks r a b p z) j) now-run t in
             let after = remembers-noted (runIn w) sound a b (gone .0) p z (gone .1 .carried) h noted in
-            let says : nextOf (runIn w) .answer ≡ Delivered s = ap (λ (o : Picked). o .answer) this ∙ gone .1 .answer in
-            let told : chosenAnswer (lowest (runIn w)) (nextOf (runIn w) .answer) ≡ ChosenDelivery.Delivered a b s =
-            ap (chosenAnswer (lowest (runIn w))) says ∙ ap (λ (d : Selection). chosenAnswer d (Delivered s)) chosen in
+            let says : on choice (runIn w) .answer ≡ Delivered s = ap (λ (o : Picked). o .answer) this ∙ gone .1 .answer in
+            let told : chosenAnswer (choice (runIn w)) (on choice (runIn w) .answer) ≡ ChosenDelivery.Delivered a b s =
+            ap (chosenAnswer (choice (runIn w))) says ∙ ap (λ (d : Selection). chosenAnswer d (Delivered s)) chosen in
             (sym told, (kept, (rw now-run after, holding-ready y holds)))

@@ -1,12 +1,14 @@
--- What the code answers for a choice and for the delivery on it, whatever the order; and the delivery in the fixed order.
+-- What the code answers for a choice and for the delivery on it, whatever the order; and the delivery by a state, and in the fixed order.
 --   chosenOf c          == the answer for a choice: its link, or nobody
 --   chosenAnswer c d    == the answer of the delivery d on the choice c: the message with its link, or the number of the refusal
+--   drawnOf s r         == the delivery by a state of a shuffled run (02, N13)
 --   nextOf r            == the delivery in the fixed order, "lowest receiver first and then lowest sender" (02, N11)
 -- Assumes nothing.
+use Prim.Native.Nat.{ℕ}
 use Rattle.checks.specs.declared.Delivery.{Delivery}
 use Rattle.checks.specs.Run.{Run}
 use Rattle.checks.specs.Calls.{Picked, deliverOn}
-use Rattle.machine.specs.Calls.{Selection, nobody, pair, lowest}
+use Rattle.machine.specs.Calls.{Selection, nobody, pair, lowest, drawn}
 use Rattle.choosing.specs.declared.Chosen.{Chosen}
 use Rattle.choosing.specs.declared.Chosen.the-variants.{Nobody, Link}
 use Rattle.choosing.specs.declared.ChosenDelivery.{ChosenDelivery}
@@ -22,6 +24,10 @@ chosenAnswer nobody (Delivery.Delivered m) = ChosenDelivery.Refused 24
 chosenAnswer nobody (Delivery.Refused n) = ChosenDelivery.Refused n
 chosenAnswer (pair a b) (Delivery.Delivered m) = ChosenDelivery.Delivered a b m
 chosenAnswer (pair a b) (Delivery.Refused n) = ChosenDelivery.Refused n
+
+-- the delivery of the oldest message on the link that a state points to
+abbrev pub drawnOf : ℕ → Run → Picked
+drawnOf s r = deliverOn r (drawn s r)
 
 abbrev pub nextOf : Run → Picked
 nextOf r = deliverOn r (lowest r)

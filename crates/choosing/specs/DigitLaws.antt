@@ -5,13 +5,15 @@
 --   digits-set        == one digit more is 1
 --   digits-test       == one digit, by shifting it down
 --   digits-trailing   == below its lowest 1 all digits are 0
+--   Least, digits-least   == the lowest 1 of a word that is not 0, and the word without it
 -- Assumes nothing.
-use Prim.Native.Nat.{ℕ, zero, suc, _+_, _*_, _/_, _%_, _^_, _≤_, _<_}
+use Prim.Native.Nat.{ℕ, zero, suc, _+_, _-_, _*_, _/_, _%_, _^_, _≤_, _<_, min}
 use mathlib.Core.Bool.{Bool, true, false}
 use mathlib.Core.Path.{_≡_, refl, sym, ap, ap₂, _∙_, subst}
 use native.Mathlib.Omega.{arith}
 use native.Mathlib.Nat.{pow-suc, div-one}
 use lib.Pow.{shr-shr}
+use lib.Bits.{bitAnd, and-step, and-self}
 use lib.Count.{under, trailingZeros}
 use Rattle.base.specs.Choice.{bit}
 use Rattle.choosing.specs.Digits.{digits}
@@ -86,3 +88,90 @@ digits-trailing (suc k) f =
     let x : ℕ = digits k (λ i. f (suc i)) in
     let whole : Trails (suc k) f (under (bit (f 0)) (trailingZeros k x)) = trails-next k f (f 0) refl (digits-trailing k (λ i. f (suc i))) in
     subst (λ (i : ℕ). Trails (suc k) f i) (sym (ap₂ (λ (d y : ℕ). under d (trailingZeros k y)) (low (f 0) x .0) (low (f 0) x .1))) whole
+
+-- ---- the lowest 1 struck out
+
+pub record Least (k : ℕ) (f : ℕ → Bool) (w : ℕ) : Type 0 where
+  pub at : ℕ
+  pub within : at < k
+  pub is : f at ≡ true
+  pub below : (i : ℕ) → i < at → f i ≡ false
+  pub trails : trailingZeros k w ≡ at
+  pub struck : (g : ℕ → Bool) → g at ≡ false → ((i : ℕ) → i < k → (i ≡ at → ⊥) → f i ≡ g i) → bitAnd w (w - 1) ≡ digits k g
+
+least-one : (k : ℕ) (f : ℕ → Bool) → f 0 ≡ true → Least (suc k) f (digits (suc k) f)
+unfolding digits trailingZeros
+least-one k f e =
+    let x : ℕ = digits k (λ i. f (suc i)) in
+    record {
+      at = 0;
+      within = omega arith;
+      is = e;
+      below = λ i u. absurd (omega arith);
+      trails = rw e (ap₂ (λ (d y : ℕ). under d (trailingZeros k y)) (low true x .0) (low true x .1));
+      struck = λ g z h.
+          rw e (and-step (1 + 2 * x) (1 + 2 * x - 1)
+          ∙ ap₂ (λ (y d : ℕ). y * 2 + d) (ap₂ bitAnd (half-one x) (half-even x) ∙ and-self x) (ap₂ min (odd-one x) (odd-even x))
+          ∙ rw (z, sym (digits-cong k (λ i. f (suc i)) (λ i. g (suc i)) (λ i u. h (suc i) (omega arith) (λ v. absurd (omega arith))))) (omega arith));
+    }
+  where
+    half-one : (x : ℕ) → (1 + 2 * x) / 2 ≡ x
+    half-one x = omega arith
+
+    half-even : (x : ℕ) → (1 + 2 * x - 1) / 2 ≡ x
+    half-even x = omega arith
+
+    odd-one : (x : ℕ) → (1 + 2 * x) % 2 ≡ 1
+    odd-one x = omega arith
+
+    odd-even : (x : ℕ) → (1 + 2 * x - 1) % 2 ≡ 0
+    odd-even x = omega arith
+
+least-more : (k : ℕ) (f : ℕ → Bool) → f 0 ≡ false → Least k (λ i. f (suc i)) (digits k (λ i. f (suc i))) → (digits k (λ i. f (suc i)) ≡ 0 → ⊥)
+    → Least (suc k) f (digits (suc k) f)
+unfolding digits trailingZeros
+least-more k f e h n =
+    let x : ℕ = digits k (λ i. f (suc i)) in
+    record {
+      at = suc (h .at);
+      within = omega (arith, h .within);
+      is = h .is;
+      below = under-it;
+      trails = rw e (ap₂ (λ (d y : ℕ). under d (trailingZeros k y)) (low false x .0) (low false x .1) ∙ ap suc (h .trails));
+      struck = λ g z same.
+          rw e (and-step (0 + 2 * x) (0 + 2 * x - 1)
+          ∙ ap₂ (λ (y d : ℕ). y * 2 + d) (ap₂ bitAnd (half x) (half-less x n)) (ap₂ min (even x) (odd x n))
+          ∙ rw (
+            h .struck (λ i. g (suc i)) z (λ i u v. same (suc i) (omega arith) (λ w. v (omega arith))),
+            sym (same 0 (omega arith) (λ v. absurd (omega arith))),
+            e,
+          ) (omega arith));
+    }
+  where
+    under-it : (i : ℕ) → i < suc (h .at) → f i ≡ false
+    under-it zero u = e
+    under-it (suc i) u = h .below i (omega arith)
+
+    half : (x : ℕ) → (0 + 2 * x) / 2 ≡ x
+    half x = omega arith
+
+    half-less : (x : ℕ) → (x ≡ 0 → ⊥) → (0 + 2 * x - 1) / 2 ≡ x - 1
+    half-less x n = omega (arith, n)
+
+    even : (x : ℕ) → (0 + 2 * x) % 2 ≡ 0
+    even x = omega arith
+
+    odd : (x : ℕ) → (x ≡ 0 → ⊥) → (0 + 2 * x - 1) % 2 ≡ 1
+    odd x n = omega (arith, n)
+
+pub digits-least : (k : ℕ) (f : ℕ → Bool) → (digits k f ≡ 0 → ⊥) → Least k f (digits k f)
+unfolding digits
+digits-least zero f n = absurd (n refl)
+digits-least (suc k) f n = by (f 0) refl (λ m. digits-least k (λ i. f (suc i)) m)
+  where
+    by : (b : Bool) → f 0 ≡ b → ((digits k (λ i. f (suc i)) ≡ 0 → ⊥) → Least k (λ i. f (suc i)) (digits k (λ i. f (suc i))))
+        → Least (suc k) f (digits (suc k) f)
+    by true e rest = least-one k f e
+    by false e rest =
+        let m : digits k (λ i. f (suc i)) ≡ 0 → ⊥ = λ z. n (rw (e, z) refl) in
+        least-more k f e (rest m) m

@@ -24,7 +24,7 @@ use Rattle.areas.specs.Contained.{Contained}
 use Rattle.delivery.specs.StorableLaws.{waiting-joined}
 use Rattle.choosing.specs.Memory.{Marks, Remembers}
 use Rattle.choosing.specs.Noting.{Turns, lookedMarks, alongMarks}
-use Rattle.choosing.specs.MarkLaws.{marks-cong}
+use Rattle.choosing.specs.GroupLaws.{marks-cong}
 
 pub both-ways : (p q : Bool) → (p ≡ true → q ≡ true) → (q ≡ true → p ≡ true) → p ≡ q
 both-ways true q f g = sym (f refl)

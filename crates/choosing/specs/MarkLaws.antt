@@ -1,12 +1,14 @@
--- Laws of marks: one link more, or one less, holds a message.
---   marks-cong                     == another test of pairs that agrees
---   marks-cleared                  == an array of zeros
+-- Laws of the counts and sets: one link more, or one less, holds a message.
+--   count-cong, count-more         == the same pass a test; one passes that did not
+--   rows-cong                      == another test of pairs that agrees
+--   rows-cleared                   == an array of zeros
 --   marks-few, marks-none          == a count is at most the number of processes, and 0 where no link is marked
 --   counted-up, counted-down       == what a count changed by one leaves (Recounted)
 --   up-fits, down-fits             == .. and what it adds to the set 0, and takes away, fits its word
---   marks-added, marks-struck      == the array once a link that was not marked is, and once one that was is not
+--   rows-added, rows-struck        == the array once a link that was not marked is, and once one that was is not
 --   marks-some                     == where a link to b is marked, b's count is not 0
 --   added-word, struck-word        == and what the code adds and takes away fits its word
+--   turned-at, turned-elsewhere    == a test of pairs that gives v at one place
 --   turned-same                    == a test of pairs that gave v there already
 -- Assumes nothing.
 use Prim.Native.Nat.{ℕ, _+_, _-_, _*_, _^_, _≤_, _<_}
@@ -25,19 +27,19 @@ use Rattle.base.specs.Sums.{sumTo, countTo, spot}
 use Rattle.base.specs.SumLaws.{spot-at, spot-off, sumTo-cong, sumTo-add, sumTo-spot, sumTo-parts, sumTo-zero, countTo-most}
 use Rattle.tables.specs.Table.{mostProcesses, IsProcess}
 use Rattle.choosing.specs.DigitLaws.{digits-none}
-use Rattle.choosing.specs.Memory.{memorySize, wordDigits, countAt, setAt, wordAt, digitOf, SetIs, Marks}
+use Rattle.choosing.specs.Memory.{memorySize, wordDigits, countAt, setAt, wordAt, digitOf, groupAt, SetIs, Rows}
 use Rattle.choosing.specs.Sets.{word, addedTo, struckFrom, countOf, putCount, countedUp, countedDown, busy, withAt, turned}
 use Rattle.choosing.specs.SetLaws.{set-cong, set-off, set-added, set-struck, added-fits, struck-fits}
 
 -- ---- counting a row of tests
 
 module _ (n : ℕ) (f g : ℕ → Bool) where
-  count-cong : ((k : ℕ) → 1 ≤ k → k ≤ n → f k ≡ g k) → countTo n f ≡ countTo n g
+  pub count-cong : ((k : ℕ) → 1 ≤ k → k ≤ n → f k ≡ g k) → countTo n f ≡ countTo n g
   unfolding countTo
   count-cong h = sumTo-cong n (λ k. bit (f k)) (λ k. bit (g k)) (λ k l u. ap bit (h k l u))
 
   -- one passes that did not
-  count-more : (j : ℕ) → IsProcess n j → f j ≡ false → g j ≡ true → ((k : ℕ) → (k ≡ j → ⊥) → f k ≡ g k) → countTo n g ≡ countTo n f + 1
+  pub count-more : (j : ℕ) → IsProcess n j → f j ≡ false → g j ≡ true → ((k : ℕ) → (k ≡ j → ⊥) → f k ≡ g k) → countTo n g ≡ countTo n f + 1
   unfolding countTo
   count-more j i e t h =
       sumTo-cong n (λ k. bit (g k)) (λ k. bit (f k) + spot j 1 k) (λ k l u. at k (same? k j)) ∙ sumTo-add n (λ k. bit (f k)) (spot j 1)
@@ -57,9 +59,9 @@ module _ (n : ℕ) (f g : ℕ → Bool) where
 
 -- ---- marks
 
-pub marks-cong : {held other : ℕ → ℕ → Bool} {l : List ℕ} → Marks held l
-    → ((a b : ℕ) → IsProcess mostProcesses a → IsProcess mostProcesses b → held a b ≡ other a b) → Marks other l
-marks-cong {held} {other} h e =
+pub rows-cong : {held other : ℕ → ℕ → Bool} {l : List ℕ} → Rows held l
+    → ((a b : ℕ) → IsProcess mostProcesses a → IsProcess mostProcesses b → held a b ≡ other a b) → Rows other l
+rows-cong {held} {other} h e =
     record {
       long = h .long;
       counts = λ b i. h .counts b i ∙ count-cong mostProcesses (λ a. held a b) (λ a. other a b) (λ a l u. e a b (l, u) i);
@@ -67,7 +69,7 @@ marks-cong {held} {other} h e =
       senders = λ b i. set-cong (h .senders b i) (λ a. other a b) (λ a j. e a b j i);
     }
 
-module _ {held : ℕ → ℕ → Bool} {l : List ℕ} (h : Marks held l) (b : ℕ) (i : IsProcess mostProcesses b) where
+module _ {held : ℕ → ℕ → Bool} {l : List ℕ} (h : Rows held l) (b : ℕ) (i : IsProcess mostProcesses b) where
   pub marks-few : getD l (countAt b) 0 ≤ mostProcesses
   marks-few = omega (arith, h .counts b i, countTo-most mostProcesses (λ a. held a b))
 
@@ -75,9 +77,9 @@ module _ {held : ℕ → ℕ → Bool} {l : List ℕ} (h : Marks held l) (b : �
   marks-none e a j = count-none mostProcesses (λ x. held x b) (λ x. held x b) (sym (h .counts b i) ∙ e) a j
 
 -- nothing but zeros
-pub marks-cleared : {l : List ℕ} → length l ≡ memorySize → ((i : ℕ) → i < memorySize → getD l i 0 ≡ 0) → Marks (λ a b. false) l
+pub rows-cleared : {l : List ℕ} → length l ≡ memorySize → ((i : ℕ) → i < memorySize → getD l i 0 ≡ 0) → Rows (λ a b. false) l
 unfolding countTo
-marks-cleared {l} e z =
+rows-cleared {l} e z =
     record {
       long = e;
       counts = λ b i. z b (omega arith) ∙ sym (sumTo-zero mostProcesses (λ a. bit false) (λ k _ _. refl));
@@ -97,8 +99,9 @@ pub record Recounted (l k : List ℕ) (b v : ℕ) : Type 0 where
   pub others : (y : ℕ) → IsProcess mostProcesses y → (y ≡ b → ⊥) → getD k (countAt y) 0 ≡ getD l (countAt y) 0
   pub receivers : SetIs k 0 (busy k)
   pub senders : (j : ℕ) → IsProcess mostProcesses j → (S : ℕ → Bool) → SetIs l j S → SetIs k j S
+  pub groups : (g : ℕ) → getD k (groupAt g) 0 ≡ getD l (groupAt g) 0
 
-module _ {held : ℕ → ℕ → Bool} {l : List ℕ} (h : Marks held l) (b : ℕ) (i : IsProcess mostProcesses b) (v : ℕ) where
+module _ {held : ℕ → ℕ → Bool} {l : List ℕ} (h : Rows held l) (b : ℕ) (i : IsProcess mostProcesses b) (v : ℕ) where
   -- b's count is put
   abbrev one : List ℕ
   one = set l (countAt b) v
@@ -115,6 +118,9 @@ module _ {held : ℕ → ℕ → Bool} {l : List ℕ} (h : Marks held l) (b : �
   one-set : (j : ℕ) (S : ℕ → Bool) → SetIs l j S → SetIs one j S
   one-set j S s = set-off s (countAt b) v (λ x u e. absurd (omega arith))
 
+  one-group : (g : ℕ) → getD one (groupAt g) 0 ≡ getD l (groupAt g) 0
+  one-group g = getD-set-other l (countAt b) (groupAt g) v 0 (λ e. absurd (omega arith))
+
   -- b is busy as before
   recounted-same : busy l b ≡ not (eqb v 0) → Recounted l one b v
   recounted-same e =
@@ -124,6 +130,7 @@ module _ {held : ℕ → ℕ → Bool} {l : List ℕ} (h : Marks held l) (b : �
         others = λ y _ f. one-other y f;
         receivers = set-cong (one-set 0 (busy l) (h .receivers)) (busy one) (λ q _. at q (same? q b));
         senders = λ j _ S s. one-set j S s;
+        groups = one-group;
       }
     where
       at : (q : ℕ) → Same q b → busy l q ≡ busy one q
@@ -146,13 +153,14 @@ module _ {held : ℕ → ℕ → Bool} {l : List ℕ} (h : Marks held l) (b : �
           others = λ y q f. two-count y q ∙ one-other y f;
           receivers = set-cong now-busy (busy two) (λ q j. at q j (same? q b));
           senders = λ j q S s. set-off (one-set j S s) (wordAt 0 b) w (λ x u e. absurd (omega arith));
+          groups = λ g. getD-set-other one (wordAt 0 b) (groupAt g) w 0 (λ e. absurd (omega arith)) ∙ one-group g;
         }
       where
         at : (q : ℕ) → IsProcess mostProcesses q → Same q b → choose (eqb q b) (not (eqb v 0)) (busy l q) ≡ busy two q
         at q j (same f t) = rw t (ap (λ (x : ℕ). not (eqb x 0)) (sym (ap (λ (y : ℕ). getD two (countAt y) 0) f ∙ two-count b i ∙ one-here)))
         at q j (apart f t) = rw t (ap (λ (x : ℕ). not (eqb x 0)) (sym (two-count q j ∙ one-other q f)))
 
-module _ {held : ℕ → ℕ → Bool} {l : List ℕ} (h : Marks held l) (b : ℕ) (i : IsProcess mostProcesses b) where
+module _ {held : ℕ → ℕ → Bool} {l : List ℕ} (h : Rows held l) (b : ℕ) (i : IsProcess mostProcesses b) where
   -- where nothing waited for b, b's digit is 0, and where something did it is 1
   calm : countOf l b ≡ 0 → busy l b ≡ false
   calm e = ap (λ (x : ℕ). not (eqb x 0)) e
@@ -201,7 +209,7 @@ module _ {held : ℕ → ℕ → Bool} {l : List ℕ} (h : Marks held l) (b : �
 
 -- ---- one link marked, or no longer marked
 
-module _ {held : ℕ → ℕ → Bool} {l : List ℕ} (h : Marks held l) (a b : ℕ) (i : IsProcess mostProcesses a) (j : IsProcess mostProcesses b) where
+module _ {held : ℕ → ℕ → Bool} {l : List ℕ} (h : Rows held l) (a b : ℕ) (i : IsProcess mostProcesses a) (j : IsProcess mostProcesses b) where
   turned-other : (t : Bool) (x y : ℕ) → (y ≡ b → ⊥) → held x y ≡ turned held a b t x y
   turned-other t x y e = at (same? x a)
     where
@@ -216,7 +224,7 @@ module _ {held : ℕ → ℕ → Bool} {l : List ℕ} (h : Marks held l) (a b : 
       at (same _ f) = rw (f, eq-eqb b b refl)
       at (apart _ f) = rw f
 
-  turned-at : (t : Bool) → turned held a b t a b ≡ t
+  pub turned-at : (t : Bool) → turned held a b t a b ≡ t
   turned-at t = rw (eq-eqb a a refl, eq-eqb b b refl)
 
   turned-off : (t : Bool) (x : ℕ) → (x ≡ a → ⊥) → held x b ≡ turned held a b t x b
@@ -230,8 +238,8 @@ module _ {held : ℕ → ℕ → Bool} {l : List ℕ} (h : Marks held l) (a b : 
     end-count : (y : ℕ) → IsProcess mostProcesses y → getD end (countAt y) 0 ≡ getD k (countAt y) 0
     end-count y q = getD-set-other k (wordAt b a) (countAt y) w 0 (λ e. absurd (omega arith))
 
-    marks-turned : Marks (turned held a b t) end
-    marks-turned =
+    rows-turned : Rows (turned held a b t) end
+    rows-turned =
         record {
           long = simp length-set (r .long);
           counts = λ y q. end-count y q ∙ counted y q (same? y b);
@@ -259,9 +267,9 @@ module _ {held : ℕ → ℕ → Bool} {l : List ℕ} (h : Marks held l) (a b : 
     pub added-word : word (countedUp l b) b a + 2 ^ digitOf a < 2 ^ wordDigits
     added-word = added-fits up a i out
 
-    pub marks-added : Marks (turned held a b true) (addedTo (countedUp l b) b a)
-    marks-added =
-        marks-turned (counted-up h b j) true (sym more) (word (countedUp l b) b a + 2 ^ digitOf a)
+    pub rows-added : Rows (turned held a b true) (addedTo (countedUp l b) b a)
+    rows-added =
+        rows-turned (counted-up h b j) true (sym more) (word (countedUp l b) b a + 2 ^ digitOf a)
         (set-added up a i out (counted-up h b j .long) (j .1))
       where
         more : countTo mostProcesses (λ x. turned held a b true x b) ≡ countOf l b + 1
@@ -279,15 +287,24 @@ module _ {held : ℕ → ℕ → Bool} {l : List ℕ} (h : Marks held l) (a b : 
     pub struck-word : 2 ^ digitOf a ≤ word (countedDown l b) b a
     struck-word = struck-fits down a i inside
 
-    pub marks-struck : Marks (turned held a b false) (struckFrom (countedDown l b) b a)
-    marks-struck =
-        marks-turned (counted-down h b j marks-some) false (omega (arith, less)) (word (countedDown l b) b a - 2 ^ digitOf a)
+    pub rows-struck : Rows (turned held a b false) (struckFrom (countedDown l b) b a)
+    rows-struck =
+        rows-turned (counted-down h b j marks-some) false (omega (arith, less)) (word (countedDown l b) b a - 2 ^ digitOf a)
         (set-struck down a i inside (counted-down h b j marks-some .long) (j .1))
       where
         less : countOf l b ≡ countTo mostProcesses (λ x. turned held a b false x b) + 1
         less =
             h .counts b j
             ∙ count-more mostProcesses (λ x. turned held a b false x b) (λ x. held x b) a i (turned-at false) inside (λ x e. sym (turned-off false x e))
+
+-- elsewhere it gives what it gave
+pub turned-elsewhere : (held : ℕ → ℕ → Bool) (a b : ℕ) (v : Bool) (x y : ℕ) → (x ≡ a → y ≡ b → ⊥) → held x y ≡ turned held a b v x y
+turned-elsewhere held a b v x y e = at (same? x a) (same? y b)
+  where
+    at : Same x a → Same y b → held x y ≡ choose (eqb x a && eqb y b) v (held x y)
+    at (same f p) (same g q) = absurd (e f g)
+    at (same f p) (apart g q) = rw (p, q)
+    at (apart f p) _ = rw p
 
 -- a test of pairs that gave v there already
 pub turned-same : (held : ℕ → ℕ → Bool) (a b : ℕ) (v : Bool) → held a b ≡ v → (x y : ℕ) → held x y ≡ turned held a b v x y

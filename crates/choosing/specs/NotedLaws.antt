@@ -33,7 +33,7 @@ use Rattle.delivery.specs.DeliveryLaws.{relinked-waits, answered-relinked, spre
 use Rattle.choosing.specs.Memory.{Remembers}
 use Rattle.choosing.specs.Sets.{turned}
 use Rattle.choosing.specs.Noting.{Turns, takenMarks, sentMarks, goesTo, notedMarks}
-use Rattle.choosing.specs.MarkLaws.{marks-cong}
+use Rattle.choosing.specs.GroupLaws.{marks-cong}
 
 -- ---- marks
 

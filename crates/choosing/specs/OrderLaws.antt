@@ -1,53 +1,184 @@
--- How the first link with a message is found by what is remembered.
---   sender-miss, lowest-miss     == nothing waits for b, and nothing at all
---   lowest-hit                   == what is chosen where nothing waits before the link from a to b, and something waits on it
---   receiver-none                == nothing waits for a receiver whose count is 0
---   before-least, before-first   == nothing waits for a receiver before the lowest that is remembered, nor from a sender before b's lowest
+-- How the link at a place in the fixed order is found by what is remembered.
+--   Names, lowest-names, drawn-names   == what is chosen is a link of two processes with a message
+--   Within r                     == messages wait between processes alone
+--   senders-count, links-before, links-all   == the lengths of the lists of links, by the counts
+--   link-found                   == the link at a place: its receiver by the links before, its sender by those to the same receiver
+--   link-none                    == nobody past the last
+--   points-drawn                 == the place that a state points to is that of the drawn link (02, N13)
+--   heldTo-next                  == the links with one receiver more
+--   least-begins, groups-first, groups-next   == where to begin to look: at the lowest receiver, or behind so many groups
 -- Assumes nothing.
-use Prim.Native.Nat.{ℕ, _≤_, _<_}
+use Prim.Native.Nat.{ℕ, zero, suc, _+_, _-_, _*_, _%_, _≤_, _<_}
 use mathlib.Core.Bool.{Bool, true, false, not}
 use mathlib.Core.List.{List}
-use mathlib.Core.Path.{_≡_, refl}
+use mathlib.Core.Path.{_≡_, refl, sym, ap, _∙_}
 use native.Mathlib.Omega.{arith}
 use borrow.Author.Tests.{eqb-true}
 use lib.Dec.{eqb}
-use lib.ListN.{length}
+use lib.ListN.{length, getD}
+use lib.Count.{trailingZeros, trailing-le}
+use Rattle.base.specs.Choice.{choose, bit}
+use Rattle.base.specs.ChoiceLaws.{same?, tested}
+use Rattle.base.specs.Checks.{Same, same, apart, Tested, passed, failed}
+use Rattle.base.specs.Sums.{sumTo, countTo}
+use Rattle.base.specs.SumLaws.{sumTo-cong, sumTo-zero}
 use Rattle.tables.specs.Table.{mostProcesses, IsProcess}
-use Rattle.machine.specs.Calls.{nobody, pair, linkIf, lowestSender, lowest}
-use Rattle.machine.specs.ChooserLaws.{firstTo-none, firstTo-at, linkIf-some, linkIf-calm}
+use Rattle.machine.specs.Calls.{Selection, nobody, pair, waiting, inRow, linkAt, linkIf, linksTo, linksOf, lowest, drawn}
+use Rattle.machine.specs.ChooserLaws.{linkIf-length, linkIf-first, linksOf-all}
+use Rattle.machine.specs.LinkListLaws.{linkAt-end, inRow-length, inRow-at}
 use Rattle.checks.specs.Run.{Run}
-use Rattle.choosing.specs.Memory.{Remembers}
-use Rattle.choosing.specs.Sets.{lowestIn, countOf}
+use Rattle.choosing.specs.Memory.{wordDigits, groupSize, groups, setAt, groupAt, heldTo, Marks, Remembers}
+use Rattle.choosing.specs.Sets.{lowestOf, lowestIn, Nth, Points}
 use Rattle.choosing.specs.SetLaws.{lowestIn-first}
-use Rattle.choosing.specs.MarkLaws.{marks-none}
+
+-- ---- what is chosen
+
+-- a choice names a link of two processes with a message
+abbrev pub Names : (Run → Selection) → Type 0
+Names choice =
+    (r : Run) (a b : ℕ) → choice r ≡ pair a b → IsProcess (r .waits .n) a × IsProcess (r .waits .n) b × (waiting (r .link a b) ≡ true)
+
+pub lowest-names : Names lowest
+unfolding lowest
+lowest-names r a b e = linksOf-all r .names 0 e
+
+pub drawn-names : (s : ℕ) → Names (drawn s)
+unfolding drawn
+drawn-names s r a b e = linksOf-all r .names (s % length (linksOf r)) e
+
+-- ---- the lengths
+
+-- nothing is added from n on
+sumTo-short : (m n : ℕ) (f : ℕ → ℕ) → n ≤ m → ((k : ℕ) → n < k → f k ≡ 0) → sumTo m f ≡ sumTo n f
+unfolding sumTo
+sumTo-short zero n f u z = let e : n ≡ 0 = omega arith in rw e
+sumTo-short (suc m) n f u z = at (same? n (suc m)) (λ v. sumTo-short m n f v z)
+  where
+    at : Same n (suc m) → (n ≤ m → sumTo m f ≡ sumTo n f) → sumTo (suc m) f ≡ sumTo n f
+    at (same e _) rest = rw e
+    at (apart e _) rest = omega (arith, rest (omega arith), z (suc m) (omega arith))
+
+-- messages wait between processes alone
+abbrev pub Within : Run → Type 0
+Within r = (a b : ℕ) → waiting (r .link a b) ≡ true → IsProcess (r .waits .n) a × IsProcess (r .waits .n) b
 
 module _ (r : Run) where
-  pub sender-miss : (b : ℕ) → ((a : ℕ) → 1 ≤ a → a ≤ r .waits .n → linkIf r a b ≡ nobody) → lowestSender r b (r .waits .n) ≡ nobody
-  unfolding lowestSender
-  sender-miss b h = firstTo-none (λ a. linkIf r a b) (r .waits .n) h
+  -- a pair that is marked is a link with a message
+  abbrev held : ℕ → ℕ → Bool
+  held a b = waiting (r .link a b)
 
-  pub lowest-miss : ((b : ℕ) → 1 ≤ b → b ≤ r .waits .n → lowestSender r b (r .waits .n) ≡ nobody) → lowest r ≡ nobody
-  unfolding lowest
-  lowest-miss h = firstTo-none (λ b. lowestSender r b (r .waits .n)) (r .waits .n) h
+  -- the links to b from senders 1 to m
+  senders-count : (b m : ℕ) → length (inRow m (λ a. linkIf r a b)) ≡ countTo m (λ a. held a b)
+  unfolding countTo
+  senders-count b m =
+      inRow-length m (λ a. linkIf r a b) ∙ sumTo-cong m (λ a. length (linkIf r a b)) (λ a. bit (held a b)) (λ a _ _. linkIf-length r a b)
 
-  pub lowest-hit
-      : {a b : ℕ} → IsProcess (r .waits .n) a → IsProcess (r .waits .n) b
-      → ((k : ℕ) → 1 ≤ k → k < b → lowestSender r k (r .waits .n) ≡ nobody)
-      → ((k : ℕ) → 1 ≤ k → k < a → linkIf r k b ≡ nobody)
-      → (length (r .link a b) ≡ 0 → ⊥)
-      → lowest r ≡ pair a b
-  unfolding lowest lowestSender
-  lowest-hit {a} {b} i j lower before some =
-      firstTo-at (λ y. lowestSender r y (r .waits .n)) b (r .waits .n) (j .0) (j .1) lower
-      (firstTo-at (λ x. linkIf r x b) a (r .waits .n) (i .0) (i .1) before (linkIf-some r a b some))
+  module _ (few : r .waits .n ≤ mostProcesses) (within : Within r) where
+    -- nothing waits from a sender, or for a receiver, that is no process
+    no-sender : (b a : ℕ) → r .waits .n < a → bit (held a b) ≡ 0
+    no-sender b a u = at (tested (held a b))
+      where
+        at : Tested (held a b) → bit (held a b) ≡ 0
+        at (passed e) = absurd (omega (arith, within a b e))
+        at (failed e) = ap bit e
 
-module _ (r : Run) {l : List ℕ} (h : Remembers r l) (few : r .waits .n ≤ mostProcesses) where
-  pub receiver-none : (b : ℕ) → IsProcess mostProcesses b → countOf l b ≡ 0 → lowestSender r b (r .waits .n) ≡ nobody
-  receiver-none b i e = sender-miss r b (λ a lo hi. linkIf-calm r a b (marks-none h b i e a (lo, omega arith)))
+    no-receiver : (b : ℕ) → r .waits .n < b → countTo mostProcesses (λ a. held a b) ≡ 0
+    unfolding countTo
+    no-receiver b u = sumTo-zero mostProcesses (λ a. bit (held a b)) (λ a _ _. at a (tested (held a b)))
+      where
+        at : (a : ℕ) → Tested (held a b) → bit (held a b) ≡ 0
+        at a (passed e) = absurd (omega (arith, within a b e))
+        at a (failed e) = ap bit e
 
-  pub before-least : (b : ℕ) → IsProcess mostProcesses b → b < lowestIn l 0 → lowestSender r b (r .waits .n) ≡ nobody
-  before-least b i u = receiver-none b i (zero (lowestIn-first (h .receivers) b (i .0) u))
+    links-to : (b : ℕ) → length (linksTo r b) ≡ countTo mostProcesses (λ a. held a b)
+    unfolding linksTo countTo
+    links-to b = senders-count b (r .waits .n) ∙ sym (sumTo-short mostProcesses (r .waits .n) (λ a. bit (held a b)) few (no-sender b))
+
+    links-before : (m : ℕ) → length (inRow m (λ b. linksTo r b)) ≡ heldTo held m
+    unfolding heldTo
+    links-before m =
+        inRow-length m (λ b. linksTo r b)
+        ∙ sumTo-cong m (λ b. length (linksTo r b)) (λ b. countTo mostProcesses (λ a. held a b)) (λ b _ _. links-to b)
+
+    links-all : length (linksOf r) ≡ heldTo held mostProcesses
+    unfolding linksOf heldTo
+    links-all =
+        links-before (r .waits .n)
+        ∙ sym (sumTo-short mostProcesses (r .waits .n) (λ b. countTo mostProcesses (λ a. held a b)) few no-receiver)
+
+    -- ---- the link at a place
+
+    pub link-none : (k : ℕ) → heldTo held (r .waits .n) ≤ k → linkAt k (linksOf r) ≡ nobody
+    unfolding linksOf
+    link-none k u = linkAt-end k (linksOf r) (omega (arith, links-before (r .waits .n)))
+
+    -- the links to the receivers before b, and left more, are k, and a has so many senders to b below it
+    module _ (k a b left : ℕ) (j : IsProcess (r .waits .n) b) (before : left + heldTo held (b - 1) ≡ k)
+        (more : left < countTo mostProcesses (λ x. held x b)) (nth : Nth (λ x. held x b) left a) where
+      is-a : held a b ≡ true
+      is-a = nth more .1
+
+      pub sender-in : IsProcess (r .waits .n) a
+      sender-in = within a b is-a .0
+
+      pub link-waits : waiting (r .link a b) ≡ true
+      link-waits = is-a
+
+      pub link-found : linkAt k (linksOf r) ≡ pair a b
+      unfolding linksOf linksTo
+      link-found =
+          ap (λ (i : ℕ). linkAt i (linksOf r)) outer
+          ∙ inRow-at (λ y. linksTo r y) b (r .waits .n) left j (omega (arith, more, links-to b))
+          ∙ ap (λ (i : ℕ). linkAt i (linksTo r b)) inner
+          ∙ inRow-at (λ x. linkIf r x b) a (r .waits .n) 0 sender-in (omega (arith, linkIf-length r a b, ap bit is-a))
+          ∙ linkIf-first r a b is-a
+        where
+          outer : k ≡ length (inRow (b - 1) (λ y. linksTo r y)) + left
+          outer = omega (arith, before, links-before (b - 1))
+
+          inner : left ≡ length (inRow (a - 1) (λ x. linkIf r x b)) + 0
+          inner = omega (arith, nth more .2, senders-count b (a - 1))
+
+    -- ---- by a state
+
+    pub points-drawn : {l : List ℕ} → Remembers r l → (s k : ℕ) → Points l s k → linkAt k (linksOf r) ≡ drawn s r
+    unfolding drawn
+    points-drawn h s k p = at (same? (length (linksOf r)) 0)
+      where
+        at : Same (length (linksOf r)) 0 → linkAt k (linksOf r) ≡ linkAt (s % length (linksOf r)) (linksOf r)
+        at (same z _) = linkAt-end k (linksOf r) (omega arith) ∙ sym (linkAt-end (s % length (linksOf r)) (linksOf r) (omega arith))
+        at (apart z _) =
+            ap (λ (i : ℕ). linkAt i (linksOf r))
+            (p held h (omega (arith, links-all, z)) ∙ ap (λ (n : ℕ). s % n) (sym links-all))
+
+-- ---- where to begin, and to go on
+
+-- one receiver more
+pub heldTo-next : (mark : ℕ → ℕ → Bool) (b : ℕ) → 1 ≤ b → heldTo mark (b + 1 - 1) ≡ heldTo mark (b - 1) + countTo mostProcesses (λ a. mark a b)
+unfolding heldTo sumTo
+heldTo-next mark b l =
+    let e : b + 1 - 1 ≡ suc (b - 1) = omega arith in
+    let up : suc (b - 1) ≡ b = omega arith in
+    ap (λ (n : ℕ). heldTo mark n) e
+    ∙ ap (λ (n : ℕ). heldTo mark (b - 1) + countTo mostProcesses (λ a. mark a n)) up
+
+lowestOf-most : (low high : ℕ) → lowestOf low high ≤ mostProcesses + 1
+unfolding lowestOf
+lowestOf-most low high = at (same? low 0)
+  where
+    at : Same low 0 → choose (eqb low 0) (trailingZeros wordDigits high + (wordDigits + 1)) (trailingZeros wordDigits low + 1) ≤ mostProcesses + 1
+    at (same _ e) = rw e (omega (arith, trailing-le wordDigits high))
+    at (apart _ e) = rw e (omega (arith, trailing-le wordDigits low))
+
+module _ {mark : ℕ → ℕ → Bool} {l : List ℕ} (h : Marks mark l) where
+  -- nothing waits for a receiver below the lowest
+  pub least-begins : heldTo mark (lowestIn l 0 - 1) ≡ 0
+  unfolding heldTo
+  least-begins = sumTo-zero (lowestIn l 0 - 1) (λ b. countTo mostProcesses (λ a. mark a b)) (λ b lo u. none b (lo, omega (arith, few)) (omega arith))
     where
+      few : lowestIn l 0 ≤ mostProcesses + 1
+      few = lowestOf-most (getD l (setAt 0) 0) (getD l (setAt 0 + 1) 0)
+
       zero : {n : ℕ} → not (eqb n 0) ≡ false → n ≡ 0
       zero {n} e = eqb-true n 0 (at (eqb n 0) e)
         where
@@ -55,5 +186,13 @@ module _ (r : Run) {l : List ℕ} (h : Remembers r l) (few : r .waits .n ≤ mos
           at true _ = refl
           at false e = cc
 
-  pub before-first : (b : ℕ) → IsProcess mostProcesses b → (a : ℕ) → 1 ≤ a → a < lowestIn l b → linkIf r a b ≡ nobody
-  before-first b i a lo u = linkIf-calm r a b (lowestIn-first (h .senders b i) a lo u)
+      none : (b : ℕ) → IsProcess mostProcesses b → b < lowestIn l 0 → countTo mostProcesses (λ a. mark a b) ≡ 0
+      none b i u = sym (h .rows .counts b i) ∙ zero (lowestIn-first (h .rows .receivers) b (i .0) u)
+
+  -- the first group, and the next
+  pub groups-first : heldTo mark (groupSize * 0) ≡ 0
+  unfolding heldTo sumTo
+  groups-first = refl
+
+  pub groups-next : (g : ℕ) → g < groups → {i : ℕ} → i ≡ groupAt g → heldTo mark (groupSize * g) + getD l i 0 ≡ heldTo mark (groupSize * (g + 1))
+  groups-next g u e = ap (λ (x : ℕ). heldTo mark (groupSize * g) + getD l x 0) e ∙ h .grouped g u

@@ -22,7 +22,7 @@ use Rattle.tables.specs.Table.{mostProcesses, IsProcess}
 use Rattle.choosing.specs.Digits.{digits}
 use Rattle.choosing.specs.DigitLaws.{digits-cong, digits-small, digits-set, digits-test, digits-trailing}
 use Rattle.choosing.specs.Memory.{memorySize, wordDigits, setAt, wordAt, digitOf, SetIs}
-use Rattle.choosing.specs.Sets.{word, isIn, addedTo, struckFrom, lowestIn, withAt}
+use Rattle.choosing.specs.Sets.{word, isIn, addedTo, struckFrom, lowestOf, lowestIn, withAt}
 
 -- ---- which digit of which word
 
@@ -138,7 +138,7 @@ module _ {l : List ℕ} {j : ℕ} {S : ℕ → Bool} (is : SetIs l j S) where
       ap S (sym s) ∙ t .1 (q - wordDigits - 1) (omega (arith, ap (trailingZeros wordDigits) e))
 
   pub lowestIn-first : (q : ℕ) → 1 ≤ q → q < lowestIn l j → S q ≡ false
-  unfolding lowestIn
+  unfolding lowestOf
   lowestIn-first q a u = at (same? (getD l (setAt j) 0) 0) (below? wordDigits q)
     where
       at : Same (getD l (setAt j) 0) 0 → Below wordDigits q → S q ≡ false

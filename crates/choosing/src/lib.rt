@@ -1,9 +1,10 @@
-// The fixed order of running on: "lowest receiver first and then lowest sender" (02, N11), and one delivery in it.
+// The orders of running on, and one delivery in each: the fixed order, "lowest receiver first and then lowest sender" (02, N11), and the
+// order by a state, which points to a place in that list (02, N13). The fixed order is that of state 0, which points to the first place.
 //
-// So that a delivery costs nothing that grows with the table unless it broadcasts, the order remembers something of the links from one
-// delivery to the next: an array of numbers, which `remember` fills and `deliver_next` keeps, behind the predicate `Remembers`. It says which
-// links hold a message, and how many to each receiver, whatever the order: another order is another way to choose by it. It stands on
-// `delivery` and below; it refuses what a delivery refuses, 24 and 22.
+// So that a delivery costs little that grows with the table unless it broadcasts, something of the links is remembered from one delivery
+// to the next: an array of numbers, which `remember` fills and each delivery keeps, behind the predicate `Remembers`. It says which links hold
+// a message, and how many to each receiver and to each group of receivers, whatever the order. It stands on `delivery` and below; it refuses
+// what a delivery refuses, 24 and 22.
 mod filling;
 mod noting;
 pub mod parts;
@@ -16,10 +17,13 @@ use steps::Message;
 ghost use mathlib.Core.Path.{_≡_};
 ghost use lib.ListN.{length};
 ghost use Rattle.areas.specs.Area.{runIn, keeping};
-ghost use Rattle.machine.specs.Calls.{lowest};
+ghost use Prim.Native.Nat.{_%_};
+ghost use Rattle.machine.specs.Calls.{linkAt, linksOf, lowest, drawn};
 ghost use Rattle.lenses.specs.Ready.{Ready};
-ghost use Rattle.choosing.specs.Answers.{chosenOf, chosenAnswer, nextOf};
+ghost use Rattle.choosing.specs.Answers.{chosenOf, chosenAnswer, drawnOf, nextOf};
 ghost use Rattle.choosing.specs.Memory.{memorySize, Remembers};
+ghost use Rattle.choosing.specs.Sets.{Begins, Held, Points};
+ghost use Rattle.choosing.specs.Noting.{Marked};
 
 // A link with a message, or none.
 enum Chosen {
@@ -52,26 +56,92 @@ pub fn remember(
     filling::fill(area, square, n, m, memory);
 }
 
-// The first link with a message, in the fixed order: the loops begin at the lowest receiver and the lowest sender that are remembered, and a
-// receiver whose links are all empty is passed over by its number.
+// How many links hold a message.
+fn held_in_all(memory: &[usize; parts::MEMORY_SIZE]) -> usize
+    requires { ⌜ Marked (now memory) ⌝ }
+    ensures { λ r. ⌜ Held (now (memory .entry)) r ⌝ }
+{
+    let mut held = 0;
+    for g in 0..parts::GROUPS {
+        held += memory[parts::group_at(g)];
+    }
+    held
+}
+
+// The place that a state points to among the links with a message: state 0 to the first, without counting them.
+fn place_of(memory: &[usize; parts::MEMORY_SIZE], state: u32) -> usize
+    requires { ⌜ Marked (now memory) ⌝ }
+    ensures { λ r. ⌜ Points (now (memory .entry)) state r ⌝ }
+{
+    if state == 0 {
+        return 0;
+    }
+    let held = held_in_all(memory);
+    if held == 0 {
+        return 0;
+    }
+    state as usize % held
+}
+
+// Where to look for the link at a place: a receiver, and how many links to it and to those after it stand before the place.
+struct Beginning {
+    receiver: usize,
+    left: usize,
+}
+
+// The lowest receiver for the first place; for the others that behind the groups whose links all stand before it.
+fn begin_at(memory: &[usize; parts::MEMORY_SIZE], place: usize) -> Beginning
+    requires { ⌜ length (now memory) ≡ memorySize ⌝ }
+    ensures { λ r. ⌜ Begins (now (memory .entry)) place (r .receiver) (r .left) ⌝ }
+{
+    if place == 0 {
+        return Beginning {
+            receiver: sets::lowest_in(memory, 0),
+            left: 0,
+        };
+    }
+    let mut left = place;
+    let mut g = 0;
+    while g < parts::GROUPS {
+        let held = memory[parts::group_at(g)];
+        if left < held {
+            break;
+        }
+        left -= held;
+        g += 1;
+    }
+    Beginning {
+        receiver: parts::GROUP * g + 1,
+        left,
+    }
+}
+
+// The link with a message at a place in the fixed order, counted from 0 (02, N11 and N13): a receiver whose links all stand before the place is
+// passed over by their number, and the loops begin at the receiver and at the sender that the array names.
 fn choose(
     area: &[i32],
     square: &[u16; tables::SQUARE_SIZE],
     n: usize,
     m: usize,
+    place: usize,
     memory: &[usize; parts::MEMORY_SIZE],
 ) -> Chosen
     requires { ⌜ Ready (now area) (now square) n m ⌝ }
     requires { ⌜ Remembers (runIn (now area)) (now memory) ⌝ }
-    ensures { λ r. ⌜ r ≡ chosenOf (lowest (runIn (now (area .entry)))) ⌝ }
+    ensures { λ r. ⌜ r ≡ chosenOf (linkAt place (linksOf (runIn (now (area .entry))))) ⌝ }
 {
     let end = n + 1;
     let mut from = 0;
     let mut to = 0;
-    let least = sets::lowest_in(memory, 0);
-    'scan: for b in least..end {
-        if memory[parts::count_at(b)] != 0 {
-            let first = sets::lowest_in(memory, b);
+    let Beginning {
+        receiver,
+        left: before,
+    } = begin_at(memory, place);
+    let mut left = before;
+    'scan: for b in receiver..end {
+        let held = memory[parts::count_at(b)];
+        if left < held {
+            let first = sets::ranked_in(memory, b, left);
             for a in first..end {
                 if links::waiting_on(area, square, n, m, a, b) != 0 {
                     from = a;
@@ -79,6 +149,8 @@ fn choose(
                     break 'scan;
                 }
             }
+        } else {
+            left -= held;
         }
     }
     if from == 0 {
@@ -87,8 +159,41 @@ fn choose(
     Chosen::Link { from, to }
 }
 
-// Delivers the oldest message on the first link with one: 24 if nothing waits on any link, then 22. The area stays ready and the array
-// what is remembered of it, so the next delivery may follow.
+// Delivers the oldest message on the link that the state points to, among the links with a message (02, N13): 24 if nothing waits on any link,
+// then 22. State 0 points to the first. The area stays ready and the array what is remembered of it, so the next delivery may follow.
+pub fn deliver_drawn(
+    area: &mut [i32],
+    square: &[u16; tables::SQUARE_SIZE],
+    n: usize,
+    m: usize,
+    state: u32,
+    memory: &mut [usize; parts::MEMORY_SIZE],
+) -> ChosenDelivery
+    requires { ⌜ Ready (now area) (now square) n m ⌝ }
+    requires { ⌜ Remembers (runIn (now area)) (now memory) ⌝ }
+    ensures { λ r. ⌜ r ≡ chosenAnswer (drawn state (runIn (now (area .entry)))) (drawnOf state (runIn (now (area .entry))) .answer) ⌝ }
+    ensures { λ _. ⌜ now (area .exit) ≡ keeping (now (area .entry)) (drawnOf state (runIn (now (area .entry))) .run) ⌝ }
+    ensures { λ _. ⌜ Remembers (runIn (now (area .exit))) (now (memory .exit)) ⌝ }
+    ensures { λ _. ⌜ Ready (now (area .exit)) (now (square .entry)) n m ⌝ }
+{
+    let place = place_of(memory, state);
+    let Chosen::Link { from, to } = choose(area, square, n, m, place, memory) else {
+        return ChosenDelivery::Refused(24);
+    };
+    match delivering::deliver_and_tell(area, square, n, m, from, to, links::OLDEST) {
+        Told::Refused(number) => ChosenDelivery::Refused(number),
+        Told::Delivered {
+            message,
+            probes,
+            reply,
+        } => {
+            noting::note(area, square, n, m, from, to, probes, reply, memory);
+            ChosenDelivery::Delivered { from, to, message }
+        }
+    }
+}
+
+// The same in the fixed order: on the first link with a message.
 pub fn deliver_next(
     area: &mut [i32],
     square: &[u16; tables::SQUARE_SIZE],
@@ -103,18 +208,5 @@ pub fn deliver_next(
     ensures { λ _. ⌜ Remembers (runIn (now (area .exit))) (now (memory .exit)) ⌝ }
     ensures { λ _. ⌜ Ready (now (area .exit)) (now (square .entry)) n m ⌝ }
 {
-    let Chosen::Link { from, to } = choose(area, square, n, m, memory) else {
-        return ChosenDelivery::Refused(24);
-    };
-    match delivering::deliver_and_tell(area, square, n, m, from, to, links::OLDEST) {
-        Told::Refused(number) => ChosenDelivery::Refused(number),
-        Told::Delivered {
-            message,
-            probes,
-            reply,
-        } => {
-            noting::note(area, square, n, m, from, to, probes, reply, memory);
-            ChosenDelivery::Delivered { from, to, message }
-        }
-    }
+    deliver_drawn(area, square, n, m, 0, memory)
 }

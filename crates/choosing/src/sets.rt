@@ -2,11 +2,11 @@
 use crate::parts;
 ghost use mathlib.Core.Path.{_≡_};
 ghost use mathlib.Core.Bool.{true, false};
-ghost use Prim.Native.Nat.{_+_, _^_, _≤_, _<_};
+ghost use Prim.Native.Nat.{_+_, _-_, _*_, _^_, _≤_, _<_};
 ghost use lib.ListN.{length};
 ghost use Rattle.tables.specs.Table.{mostProcesses, IsProcess};
 ghost use Rattle.choosing.specs.Memory.{memorySize, wordDigits, digitOf};
-ghost use Rattle.choosing.specs.Sets.{word, isIn, addedTo, struckFrom, lowestIn, countOf, countedUp, countedDown, turned};
+ghost use Rattle.choosing.specs.Sets.{word, isIn, addedTo, struckFrom, lowestOf, lowestIn, Ranked, countOf, countedUp, countedDown, groupCount, putGroup, turned};
 ghost use Rattle.choosing.specs.Noting.{Marked, MarkedAt, Turns};
 
 // Whether p is in the set j.
@@ -43,6 +43,17 @@ fn strike(memory: &mut [usize; parts::MEMORY_SIZE], j: usize, p: usize)
     memory[at] -= parts::power_of(p);
 }
 
+// The lowest process of a set in two words, or a number past all processes.
+fn lowest_of(low: usize, high: usize) -> usize
+    ensures is { λ r. ⌜ r ≡ lowestOf low high ⌝ }
+    ensures low { λ r. ⌜ 1 ≤ r ⌝ }
+{
+    if low != 0 {
+        return usize::trailing_zeros(low) as usize + 1;
+    }
+    usize::trailing_zeros(high) as usize + parts::SECOND_WORD
+}
+
 // The lowest process of the set j, or a number past all processes.
 pub fn lowest_in(memory: &[usize; parts::MEMORY_SIZE], j: usize) -> usize
     requires { ⌜ length (now memory) ≡ memorySize ⌝ }
@@ -51,12 +62,26 @@ pub fn lowest_in(memory: &[usize; parts::MEMORY_SIZE], j: usize) -> usize
     ensures low { λ r. ⌜ 1 ≤ r ⌝ }
 {
     let at = parts::set_at(j);
-    let low = memory[at];
-    if low != 0 {
-        return usize::trailing_zeros(low) as usize + 1;
+    lowest_of(memory[at], memory[at + 1])
+}
+
+// The process of the set j that has so many of it below it, if there is one: so many times the lowest 1 of its two words is struck out.
+pub fn ranked_in(memory: &[usize; parts::MEMORY_SIZE], j: usize, rank: usize) -> usize
+    requires { ⌜ length (now memory) ≡ memorySize ⌝ }
+    requires { ⌜ j ≤ mostProcesses ⌝ }
+    ensures { λ r. ⌜ Ranked (now (memory .entry)) j rank r ⌝ }
+{
+    let at = parts::set_at(j);
+    let mut low = memory[at];
+    let mut high = memory[at + 1];
+    for _ in 0..rank {
+        if low != 0 {
+            low &= low - 1;
+        } else if high != 0 {
+            high &= high - 1;
+        }
     }
-    let high = memory[at + 1];
-    usize::trailing_zeros(high) as usize + parts::SECOND_WORD
+    lowest_of(low, high)
 }
 
 // One link more to b holds a message.
@@ -90,6 +115,28 @@ fn count_down(memory: &mut [usize; parts::MEMORY_SIZE], b: usize)
     strike(memory, 0, b);
 }
 
+// One link more to b's group holds a message.
+fn group_up(memory: &mut [usize; parts::MEMORY_SIZE], b: usize)
+    requires { ⌜ length (now memory) ≡ memorySize ⌝ }
+    requires { ⌜ IsProcess mostProcesses b ⌝ }
+    requires { ⌜ groupCount (now memory) b ≤ mostProcesses * mostProcesses ⌝ }
+    ensures { λ _. ⌜ now (memory .exit) ≡ putGroup (now (memory .entry)) b (groupCount (now (memory .entry)) b + 1) ⌝ }
+{
+    let at = parts::group_at(parts::group_of(b));
+    memory[at] += 1;
+}
+
+// One link less to b's group holds a message.
+fn group_down(memory: &mut [usize; parts::MEMORY_SIZE], b: usize)
+    requires { ⌜ length (now memory) ≡ memorySize ⌝ }
+    requires { ⌜ IsProcess mostProcesses b ⌝ }
+    requires { ⌜ 1 ≤ groupCount (now memory) b ⌝ }
+    ensures { λ _. ⌜ now (memory .exit) ≡ putGroup (now (memory .entry)) b (groupCount (now (memory .entry)) b - 1) ⌝ }
+{
+    let at = parts::group_at(parts::group_of(b));
+    memory[at] -= 1;
+}
+
 // The link from a to b holds a message, whether it did before or not.
 pub fn mark(memory: &mut [usize; parts::MEMORY_SIZE], a: usize, b: usize)
     requires { ⌜ Marked (now memory) ⌝ }
@@ -102,6 +149,7 @@ pub fn mark(memory: &mut [usize; parts::MEMORY_SIZE], a: usize, b: usize)
     }
     count_up(memory, b);
     add(memory, b, a);
+    group_up(memory, b);
 }
 
 // The link from a to b, which held a message, has fallen empty.
@@ -113,4 +161,5 @@ pub fn unmark(memory: &mut [usize; parts::MEMORY_SIZE], a: usize, b: usize)
 {
     count_down(memory, b);
     strike(memory, b, a);
+    group_down(memory, b);
 }

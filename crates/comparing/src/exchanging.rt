@@ -1,5 +1,6 @@
 // Other words in the area of a run that is over, if it is small: for the edition (02, N4), and for the start's second sum and on the first link
 // (02, N3). A report is refused with 21 where the word makes the area not well formed, and is the one that the word asks for where it does not.
+// Running on with seed 0 is refused with 21 there too, and with 37 only where the area is well formed (02, N13).
 use checks::Report;
 use expecting::Expected;
 use expecting::answers;
@@ -8,6 +9,7 @@ use expecting::faults;
 use expecting::seconds;
 use expecting::starts;
 use expecting::words;
+use machine::Ran;
 use ordering::Course;
 
 // A report with another word at a place; then the old one is put back.
@@ -17,6 +19,20 @@ fn report(area: &mut [i32], place: usize, word: i32) -> Report {
     let told = reports::report(area);
     words::put(area, place, old);
     told
+}
+
+// Running on with seed 0 with another word at a place.
+fn run_with(area: &mut [i32], place: usize, word: i32) -> Ran {
+    words::put(area, place, word);
+    runs::shuffled::run_shuffled(area, 1, 0)
+}
+
+// Running on with seed 0 under no edition; then the old word is put back.
+fn refuse_seed(area: &mut [i32], c: Course) -> Course {
+    let old = words::at(area, editions::PLACE);
+    let answer = run_with(area, editions::PLACE, editions::no_word(c.seed));
+    words::put(area, editions::PLACE, old);
+    answers::expect(c, answers::is_refused_run(answer, 21), faults::SEED)
 }
 
 // Another edition: the report is judged by it.
@@ -49,12 +65,18 @@ fn exchange_count(area: &mut [i32], e: Expected, c: Course) -> Course {
     answers::exchanged(none, other, e, faults::OTHER_COUNT, c)
 }
 
+// Another second sum, and a message.
+fn exchange_numbers(area: &mut [i32], e: Expected, c: Course) -> Course {
+    let sum = exchange_sum(area, e, c);
+    exchange_count(area, e, sum)
+}
+
 // All of these, in a small area.
 pub fn exchange(area: &mut [i32], e: Expected, c: Course) -> Course {
     if area.len() >= ordering::SMALL {
         return c;
     }
-    let edition = exchange_edition(area, e, c);
-    let sum = exchange_sum(area, e, edition);
-    exchange_count(area, e, sum)
+    let refused = refuse_seed(area, c);
+    let edition = exchange_edition(area, e, refused);
+    exchange_numbers(area, e, edition)
 }

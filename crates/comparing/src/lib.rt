@@ -1,9 +1,11 @@
 // One run of a case, from its start to its end, with every call compared with what the plain search expects (the crate `expecting`), for
 // the program `trials`. It calls the library as a host does: `starting`, `runs` and `reports`. It promises only that it is safe and ends; a
-// difference is an answer. The module `exchanging` puts other editions, second sums and messages into the area of a run that is over, `lowest`
-// makes the deliveries of running on by picks, `waiting` looks at the messages on a link, and `written` compares how a table is read back.
+// difference is an answer. The module `exchanging` puts other editions, second sums and messages into the area of a run that is over, `following`
+// makes the deliveries of running on by picks, `repeating` runs on once more in a copy, `waiting` looks at the messages on a link, and `written`
+// compares how a table is read back.
 pub mod exchanging;
-pub mod lowest;
+pub mod following;
+pub mod repeating;
 pub mod waiting;
 pub mod written;
 
@@ -37,16 +39,32 @@ fn pick(area: &mut [i32], found: &[bool; 16899], call: Call, c: Course) -> Cours
     )
 }
 
-// Runs on. In small areas it leaves what as many picks in the fixed order leave.
-fn run_on(area: &mut [i32], n: usize, call: Call, c: Course) -> Course {
-    let followed = ordering::is_followed(area.len(), call, c);
-    let expected = lowest::digest(area, n, call.k, followed);
-    let answer = runs::running::run_on(area, call.k);
-    let d = answers::ran(call.k, answer, c);
-    if !followed {
-        return d;
+// The difference if running on leaves something else than picks in its order.
+fn order_fault(call: Call) -> u32 {
+    if call.kind == ordering::RUN_SHUFFLED {
+        return faults::SHUFFLED;
     }
-    answers::expect(d, words::digest(area) == expected, faults::ORDER)
+    faults::ORDER
+}
+
+// Runs on in a small area, with N: it leaves what as many picks in its order leave, and the same once more.
+fn follow(area: &mut [i32], n: usize, call: Call, c: Course) -> Course {
+    let expected = following::digest(area, n, call);
+    let again = repeating::digest_of_copy(area, call);
+    let answer = repeating::run(area, call);
+    let ordered = words::digest(area) == expected;
+    let repeated = repeating::digest(area, answer) == again;
+    let d = answers::expect(answers::ran(call, answer, c), ordered, order_fault(call));
+    answers::expect(d, repeated, faults::REPEATED)
+}
+
+// Runs on, without a seed or with one.
+fn run_on(area: &mut [i32], n: usize, call: Call, c: Course) -> Course {
+    if ordering::is_followed(area.len(), call, c) {
+        return follow(area, n, call, c);
+    }
+    let answer = repeating::run(area, call);
+    answers::ran(call, answer, c)
 }
 
 // Makes a call, with N.
@@ -55,7 +73,7 @@ fn make(area: &mut [i32], found: &[bool; 16899], n: usize, call: Call, c: Course
     let p = call.from;
     match kind {
         ordering::PICK => pick(area, found, call, c),
-        ordering::RUN_ON => run_on(area, n, call, c),
+        ordering::RUN_ON | ordering::RUN_SHUFFLED => run_on(area, n, call, c),
         _ => answers::read(n, p, reports::read_record(area, p), c),
     }
 }

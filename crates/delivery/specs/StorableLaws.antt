@@ -1,27 +1,28 @@
 -- Calls keep a run within its area, and well formed: for any well-formed run, whether start made it or not.
 --   storable-after, storable-made   == kept by one accepted delivery, and by any number of them
---   storable-pick, storable-on, storable-runOn   == kept by a pick, a delivery in an order, and running on
+--   storable-pick, storable-on   == kept by a pick, and by a delivery on a chosen link
+--   storable-runOn, storable-shuffled   == kept by running on, without a seed and with one
 --   waiting-joined   == a message waits only between neighbours
 -- Assumes nothing.
 use Prim.Native.Nat.{ℕ}
-use mathlib.Core.Bool.{true, false, false≢true}
+use mathlib.Core.Bool.{true, false≢true}
 use mathlib.Core.List.{List}
 use mathlib.Core.Path.{_≡_}
 use Rattle.base.specs.ChoiceLaws.{tested}
 use Rattle.base.specs.Checks.{Tested, passed, failed}
-use Rattle.tables.specs.Table.{Fields}
+use Rattle.tables.specs.Table.{Fields, IsProcess}
 use Rattle.tables.specs.Waits.{neighbours}
 use Rattle.machine.specs.Machine as Machines
-use Rattle.machine.specs.Calls.{Selection, waiting, lowest}
+use Rattle.machine.specs.Calls.{Selection, pair, waiting}
 use Rattle.machine.specs.ChooserLaws.{fixedOrder-finds}
 use Rattle.machine.specs.Among.{Among}
 use Rattle.machine.specs.AmongLaws.{among-waiting}
 use Rattle.machine.specs.FormedLaws.{wellFormed-P}
 use Rattle.machine.specs.Made.{Made}
-use Rattle.machine.specs.MadeLaws.{made-keeps, deliverOn-made, pick-made, runOn-made}
+use Rattle.machine.specs.MadeLaws.{made-keeps, deliverOn-made, pick-made, runOn-made, runShuffled-made}
 use Rattle.steps.specs.declared.Message.{Message}
 use Rattle.checks.specs.Run.{Run, knot, after, accepts}
-use Rattle.checks.specs.Calls.{pick, deliverOn, runOn}
+use Rattle.checks.specs.Calls.{pick, deliverOn, runOn, runShuffled}
 use Rattle.checks.specs.RunLaws.{knot-after}
 use Rattle.areas.specs.Contained.{Contained}
 use Rattle.areas.specs.ContainedLaws.{contained-joined}
@@ -56,9 +57,13 @@ module _ (t : Fields) where
   pub storable-pick : (r : Run) → Storable t r → (a b k : ℕ) → Storable t (pick r a b k .run)
   storable-pick r f a b k = storable-made r f (pick-made knot r (f .sound) a b k)
 
-  -- one delivery in the fixed order
-  pub storable-on : (r : Run) → Storable t r → (c : Selection) → lowest r ≡ c → Storable t (deliverOn r c .run)
-  storable-on r f c e = storable-made r f (deliverOn-made knot r c (λ a b q. fixedOrder-finds 0 r a b (rw e q)) .made)
+  -- one delivery on a chosen link between processes, in any order
+  pub storable-on : (r : Run) → Storable t r → (c : Selection) → ((a b : ℕ) → c ≡ pair a b → IsProcess (r .waits .n) a × IsProcess (r .waits .n) b)
+      → Storable t (deliverOn r c .run)
+  storable-on r f c finds = storable-made r f (deliverOn-made knot r c finds .made)
 
   pub storable-runOn : (k : ℕ) (r : Run) → Storable t r → Storable t (runOn k r .run)
   storable-runOn k r f = storable-made r f (runOn-made knot _ fixedOrder-finds k 0 r)
+
+  pub storable-shuffled : (k seed : ℕ) (r : Run) → Storable t r → Storable t (runShuffled k seed r .run)
+  storable-shuffled k seed r f = storable-made r f (runShuffled-made knot k seed r)

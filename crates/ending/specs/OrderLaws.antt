@@ -1,8 +1,7 @@
 -- What another fixed order changes, proved (02, N11).
 --   sendersFirst-chooses   == the order before names a link with a message if there is one
---   ran-alike         == running on from one run answers the same in every order
 --   answers-alike     == one run answers every next call alike in both orders
---   pick-over, runOn-over, readRecord-formed   == what a run that is over answers; a record is read whether it is over or not
+--   pick-over, runOn-over, runShuffled-over, readRecord-formed   == what a run that is over answers; a record is read whether it is over or not
 --   but-for-fathers, over-answers   == two runs of one check that are over are the same but for fathers, and answer every next call alike
 --   left-made, over-stays   == what a list leaves came by deliveries and holds the invariants; it is over if it was over before
 --   Came cs r         == what the list cs comes to in both orders: one run, two that are over, or Parted
@@ -15,6 +14,7 @@ use mathlib.Core.Bool.{Bool, true, false, not, _&&_}
 use mathlib.Core.List.{List, [], _∷_}
 use mathlib.Core.Path.{_≡_, refl, sym, ap, ap₂, _∙_, subst}
 use native.Mathlib.Omega.{arith}
+use lib.Dec.{eqb}
 use Rattle.base.specs.Choice.{choose}
 use Rattle.base.specs.ChoiceLaws.{tested, below?, and-left, and-right}
 use Rattle.base.specs.Checks.{Tested, passed, failed, Below, below, beyond}
@@ -23,11 +23,11 @@ use Rattle.tables.specs.Sound.{Sound}
 use Rattle.tables.specs.Table.{IsProcess, isProcess}
 use Rattle.tables.specs.TableLaws.{isProcess-P}
 use Rattle.machine.specs.declared.Ran.{Ran}
-use Rattle.machine.specs.Calls.{linkIf, fixedOrder, refused, runFrom, runOn}
+use Rattle.machine.specs.Calls.{inRow, linkIf, fixedOrder, shuffledOrder, refused, notRun, runFrom, runOn, runShuffled}
 use Rattle.machine.specs.Calls as MachineCalls
-use Rattle.machine.specs.Lists.{Call, picking, runningOn, reporting, reading, inTurn, passedBy}
+use Rattle.machine.specs.Lists.{Call, picking, runningOn, runningShuffled, reporting, reading, inTurn, passedBy}
 use Rattle.machine.specs.Made.{Made, Chooses, PassMade}
-use Rattle.machine.specs.MadeLaws.{made-waits, made-start, made-edition, made-count, pick-made, runOn-made}
+use Rattle.machine.specs.MadeLaws.{made-waits, made-start, made-edition, made-count, pick-made, runOn-made, runShuffled-made}
 use Rattle.machine.specs.ChooserLaws.{by-senders, allLinks-choose, fixedOrder-chooses}
 use Rattle.machine.specs.RunningLaws.{from-over, from-spent}
 use Rattle.machine.specs.UpheldLaws.{upheld-list}
@@ -42,27 +42,22 @@ use Rattle.checks.specs.Reach.{dOf}
 use Rattle.ending.specs.Invariants.{Holds}
 use Rattle.ending.specs.HoldsLaws.{holds-start, holds-formed, holds-upheld, holds-made}
 use Rattle.ending.specs.Ending.{at-d, before-d, ended}
-use Rattle.ending.specs.EndingLaws.{runs-out, runs-over, runs-spent}
+use Rattle.ending.specs.EndingLaws.{runs-over, runs-spent, ran-alike}
 use Rattle.ending.specs.Orders.{Order, lowestBefore, sendersFirst, leftIn, picked, ran, reported, read, tells, fatherless, aside}
 use Rattle.ending.specs.Orders.{AnswersAlike, ButForFathers, Parted, Compared, alike, over-alike, parted}
 
 pub sendersFirst-chooses : Chooses sendersFirst
 unfolding lowestBefore
-sendersFirst-chooses = allLinks-choose (λ r a b. linkIf r a b) by-senders
+sendersFirst-chooses =
+    allLinks-choose (λ r. inRow (r .waits .n) (λ a. inRow (r .waits .n) (λ b. linkIf r a b))) (λ s r. 0) (λ s. s) by-senders (λ s r u. u)
 
 -- ---- one run
 
 module _ (r : Run) (h : Holds r) where
-  ran-alike : {next other : Order} → Chooses next → Chooses other → (k : ℕ) → runOn knot next k 0 r .answer ≡ runOn knot other k 0 r .answer
-  ran-alike {next} {other} c d k = at (below? (r .count + k) (dOf (r .waits) (r .start)))
-    where
-      at : Below (r .count + k) (dOf (r .waits) (r .start)) → runOn knot next k 0 r .answer ≡ runOn knot other k 0 r .answer
-      at (below u _) = runs-spent c r h k u .says ∙ sym (runs-spent d r h k u .says)
-      at (beyond u _) = runs-out c r h k u ∙ sym (runs-out d r h k u)
-
   answers-alike : AnswersAlike r r
   answers-alike (picking a b k) = refl
-  answers-alike (runningOn k) = ap ran (ran-alike fixedOrder-chooses sendersFirst-chooses k)
+  answers-alike (runningOn k) = ap ran (ran-alike fixedOrder-chooses sendersFirst-chooses r h k 0 0)
+  answers-alike (runningShuffled k seed) = refl
   answers-alike reporting = refl
   answers-alike (reading p) = refl
 
@@ -82,6 +77,14 @@ module _ (r : Run) (h : Holds r) where
     runOn-over : (next : Order) (k : ℕ) → runOn knot next k 0 r .answer ≡ Ran.Over 0
     unfolding runOn
     runOn-over next k = rw (holds-formed r h, from-over knot next 0 r k 0 o)
+
+    runShuffled-over : (k seed : ℕ) → runShuffled knot k seed r .answer ≡ choose (eqb seed 0) (Ran.Refused 37 0) (Ran.Over 0)
+    unfolding runShuffled
+    runShuffled-over k seed = rw (holds-formed r h, from-over knot shuffledOrder seed r k 0 o) (at (eqb seed 0))
+      where
+        at : (t : Bool) → choose t (notRun 37 r) (record { answer = Ran.Over 0; run = r }) .answer ≡ choose t (Ran.Refused 37 0) (Ran.Over 0)
+        at true = refl
+        at false = refl
 
 -- ---- two runs that are over
 
@@ -136,6 +139,7 @@ module _ {from r q : Run} {k l : ℕ} (h : Holds from) (m : Made knot from k r) 
   over-answers : AnswersAlike r q
   over-answers (picking a b j) = ap picked (rw (pick-over r holds-one o a b j, pick-over q holds-other p a b j, same-waits))
   over-answers (runningOn j) = ap ran (runOn-over r holds-one o fixedOrder j ∙ sym (runOn-over q holds-other p sendersFirst j))
+  over-answers (runningShuffled j seed) = ap ran (runShuffled-over r holds-one o j seed ∙ sym (runShuffled-over q holds-other p j seed))
   over-answers reporting = ap reported (ended-one .reports ∙ sym (ended-other .reports))
   over-answers (reading x) =
       rw (readRecord-formed r holds-one x, readRecord-formed q holds-other x, sym same-waits) (at (tested (isProcess (r .waits .n) x)))
@@ -209,7 +213,7 @@ module _ (r : Run) (h : Holds r) where
   unfolding inTurn
   running-over {next} c k u cs =
       over-stays c cs (runOn knot next k 0 r .run)
-      (holds-made h (runOn-made knot next (c .finds) k 0 r)) (runs-over c r h k u)
+      (holds-made h (runOn-made knot next (c .finds) k 0 r)) (runs-over c r h k 0 u)
 
   running : (k : ℕ) (cs : List Call) → Came cs r → Came (runningOn k ∷ cs) r
   unfolding inTurn
@@ -226,8 +230,8 @@ module _ (r : Run) (h : Holds r) where
             stands = refl;
             same = refl;
             some = omega arith;
-            spent = ap ran (runs-spent fixedOrder-chooses r h (suc j) u .says);
-            spent-before = ap ran (runs-spent sendersFirst-chooses r h (suc j) u .says);
+            spent = ap ran (runs-spent fixedOrder-chooses r h (suc j) 0 u .says);
+            spent-before = ap ran (runs-spent sendersFirst-chooses r h (suc j) 0 u .says);
           })
 
 came : (cs : List Call) (r : Run) → Holds r → Came cs r
@@ -237,6 +241,9 @@ came (picking a b k ∷ cs) r h =
     let q : Run = pick r a b k .run in
     in-front (picking a b k) r q refl refl (came cs q (holds-made h (pick-made knot r (h .sound) a b k)))
 came (runningOn k ∷ cs) r h = running r h k cs (came cs r h)
+came (runningShuffled k seed ∷ cs) r h =
+    let q : Run = runShuffled knot k seed r .run in
+    in-front (runningShuffled k seed) r q refl refl (came cs q (holds-made h (runShuffled-made knot k seed r)))
 came (reporting ∷ cs) r h = in-front reporting r r refl refl (came cs r h)
 came (reading p ∷ cs) r h = in-front (reading p) r r refl refl (came cs r h)
 

@@ -17,9 +17,9 @@ use mathlib.Core.Path.{_≡_}
 use Rattle.tables.specs.Table.{IsProcess}
 use Rattle.machine.specs.declared.Ran.{Ran}
 use Rattle.machine.specs.declared.Ran.the-variants.{Spent}
-use Rattle.machine.specs.Calls.{Selection, Chooser, firstTo, linkIf, fixedOrder}
+use Rattle.machine.specs.Calls.{Selection, Chooser, inRow, linkAt, linkIf, fixedOrder}
 use Rattle.machine.specs.Calls as MachineCalls
-use Rattle.machine.specs.Lists.{Call, picking, runningOn, reporting, reading, inTurn, passedBy}
+use Rattle.machine.specs.Lists.{Call, picking, runningOn, runningShuffled, reporting, reading, inTurn, passedBy}
 use Rattle.steps.specs.declared.Message.{Message}
 use Rattle.steps.specs.declared.Process.{Process}
 use Rattle.checks.specs.declared.Delivery.{Delivery}
@@ -35,7 +35,7 @@ Order = Chooser Process Message
 
 -- 01, before 02's N11: "lowest sender first and then lowest receiver among links with a message"
 unfoldable pub lowestBefore : Run → Selection
-lowestBefore r = firstTo (r .waits .n) (λ a. firstTo (r .waits .n) (λ b. linkIf r a b))
+lowestBefore r = linkAt 0 (inRow (r .waits .n) (λ a. inRow (r .waits .n) (λ b. linkIf r a b)))
 
 abbrev pub sendersFirst : Order
 sendersFirst s r = (lowestBefore r, s)
@@ -55,6 +55,8 @@ pub data Told : Type 0 where
 abbrev pub tells : Order → Call → Run → Told
 tells next (picking a b k) r = picked (pick r a b k .answer)
 tells next (runningOn k) r = ran (MachineCalls.runOn knot next k 0 r .answer)
+-- a seed's order is counted "in N11's order" (02, N13), whatever the fixed order was
+tells next (runningShuffled k seed) r = ran (MachineCalls.runShuffled knot k seed r .answer)
 tells next reporting r = reported (report r)
 tells next (reading p) r = read (readRecord r p)
 

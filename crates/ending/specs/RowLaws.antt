@@ -23,7 +23,7 @@ use Rattle.machine.specs.declared.Ran.{Ran}
 use Rattle.machine.specs.declared.Ran.the-variants.{Spent}
 use Rattle.machine.specs.Machine.{allRight}
 use Rattle.machine.specs.Machine as Machines
-use Rattle.machine.specs.Calls.{behind, atPlace, delivered, deliver, firstTo, linkIf, lowestSender, lowest, deliverOn, runFrom}
+use Rattle.machine.specs.Calls.{behind, atPlace, delivered, deliver, inRow, linkAt, linkIf, linksTo, linksOf, lowest, deliverOn, runFrom}
 use Rattle.machine.specs.Calls as MachineCalls
 use Rattle.steps.specs.Step.{small, inRange, countSmall, rule1, setSucceeding, setPreceding, newSubordinate, gained, rule3, rule4, acknowledged, turn}
 use Rattle.steps.specs.Step.{bothSmall, ownCount, startTurn, numSuffices, replyFits, fitting}
@@ -45,7 +45,8 @@ rows-hold : all holds rows ≡ true
 unfolding all rows holds holdsUnder waitsFrom givenWaits given end writable writeNumber endsFit isProcess unlike agree isKnot isReturned isAt defined overAfter
     reports runs dOf inKnot allReachBack editionAllows someByArcs reachesByArcs outsiders lowestOutsider outsider allWait waitsForSome reaches within
     sumTo countTo allTo anyTo lowestTo outDegree inDegree neighbours
-    MachineCalls.runOn runFrom deliverOn lowest lowestSender linkIf firstTo behind atPlace deliver delivered report reported verdictOf escapeOf isEdition
+    MachineCalls.runOn runFrom deliverOn lowest linksOf linksTo linkIf linkAt inRow behind atPlace deliver delivered
+    report reported verdictOf escapeOf isEdition
     Machines.over Machines.wellFormed fatherRight Machines.linkRight allRight Machines.startRun started Machines.after Machines.accepts Machines.taken
     sentTo probesTo replyTo turnOf turn startTurn rule1 setSucceeding setPreceding newSubordinate gained rule3 rule4
     acknowledged ownCount fitting numSuffices replyFits inRange bothSmall small countSmall

@@ -3,6 +3,7 @@
 -- Assumes nothing.
 use Prim.{Unit, tt}
 use Rattle.base.specs.Sums.{sumTo, countTo, allTo, anyTo, lowestTo}
+use Rattle.shuffling.specs.Shuffle.{movedOn}
 use Rattle.tables.specs.Table.{fieldOf, isProcess, first, arcAt, near, next}
 use Rattle.tables.specs.Waits.{waitsOf, outDegree, inDegree, neighbours}
 use Rattle.tables.specs.Reading.{walked, walkedTo, chainsRight, sizesRight, endsRight, firstsRight, nextsRight, unlikeBefore, fieldsNumber, readNumber}
@@ -22,7 +23,7 @@ use Rattle.areas.specs.Area.{recordPlace, linkPlace, arcIn, arcOf, linkOf, flag
 use Rattle.areas.specs.Area.{fieldsIn, messagesAt, runIn, sameWord, holdsWords, areaRight}
 use Rattle.areas.specs.Area as Areas
 use Rattle.starting.specs.StartCall.{startNumber, startAnswer, startArea}
-use Rattle.area_calls.specs.AreaCalls.{pickAnswer, pickArea, runOnAnswer, runOnArea, reportAnswer, readAnswer}
+use Rattle.area_calls.specs.AreaCalls.{pickAnswer, pickArea, runOnAnswer, runOnArea, shuffledAnswer, shuffledArea, reportAnswer, readAnswer}
 use Rattle.lending.specs.Lent.{lentAnswer, lentRecord}
 use Rattle.inputs.specs.Input.{startIn, editionIn, tableFields, tableEnd, tableIn, inputNumber, begunNumber, begunArea}
 use Rattle.lines.specs.Text.{messageText, verdictLine, markLine}
@@ -39,7 +40,8 @@ unfolding lowFirst processFields arcFields table one both fork alone loop beside
     end front processField arcField writtenField bytesOf tableOver endsFit given unlike writeNumber outputFor written writingFor writingOf
     Machines.allRight Machines.taken Machines.over Machines.linkRight Machines.wellFormed Machines.startRun Machines.after Machines.accepts
     MachineCalls.behind MachineCalls.atPlace MachineCalls.delivered MachineCalls.deliver MachineCalls.pick MachineCalls.deliverOn
-    MachineCalls.runFrom MachineCalls.runOn MachineCalls.firstTo MachineCalls.linkIf MachineCalls.lowestSender MachineCalls.lowest
+    MachineCalls.runFrom MachineCalls.runOn MachineCalls.inRow MachineCalls.linkAt MachineCalls.linkIf MachineCalls.linksTo MachineCalls.linksOf
+    MachineCalls.lowest movedOn MachineCalls.drawn MachineCalls.runShuffled
     bothSmall ownCount
     small inRange countSmall rule1 setSucceeding setPreceding newSubordinate gained rule3 rule4 acknowledged turn startTurn numSuffices replyFits
     fitting lentInRange stepNumber Steps.answer stepped startStepped
@@ -47,6 +49,7 @@ unfolding lowFirst processFields arcFields table one both fork alone loop beside
     within reaches reachesByArcs someByArcs editionAllows outsider lowestOutsider waitsForSome allWait sink sinks
     recordPlace linkPlace arcIn arcOf linkOf flagsOf codeOf slotWord linkWord hasBack arcWord wordOf wordsTo stored fieldsIn Areas.messageOf
     messagesAt runIn sameWord holdsWords areaRight
-    startNumber startAnswer startArea pickAnswer pickArea runOnAnswer runOnArea reportAnswer readAnswer lentAnswer lentRecord
+    startNumber startAnswer startArea pickAnswer pickArea runOnAnswer runOnArea shuffledAnswer shuffledArea reportAnswer readAnswer
+    lentAnswer lentRecord
     startIn editionIn tableFields tableEnd tableIn inputNumber begunNumber begunArea messageText verdictLine markLine chainOf messageOf
 computing = tt

@@ -25,7 +25,7 @@ use Rattle.tables.specs.Walking.{openedOf, openedNumber, openedArc, nextOf, nex
 use Rattle.table_writer.specs.declared.Writing.{Writing}
 use Rattle.table_writer.specs.Writing.{writeNumber, writingOf, written}
 use Rattle.machine.specs.declared.Ran.{Ran}
-use Rattle.machine.specs.Calls.{ranNumber, ranMade}
+use Rattle.machine.specs.Calls.{nobody, pair, linksOf, drawn, ranNumber, ranMade}
 use Rattle.machine.specs.Lists.{Passed}
 use Rattle.steps.specs.declared.Message.the-variants.{Suc, Pre, Ack}
 use Rattle.steps.specs.declared.Probes.{Probes}
@@ -45,12 +45,12 @@ use Rattle.checks.specs.declared.Reading.{Reading}
 use Rattle.checks.specs.declared.Reading.the-variants.{Found}
 use Rattle.checks.specs.Run.{Run, startRun}
 use Rattle.checks.specs.Reach.{lowestOutsider, allWait, sinks}
-use Rattle.checks.specs.Calls.{pick, runOn, escapeOf, report, readRecord, deliveryNumber, deliveryMade, reportNumber, readingNumber}
+use Rattle.checks.specs.Calls.{pick, runOn, runShuffled, escapeOf, report, readRecord, deliveryNumber, deliveryMade, reportNumber, readingNumber}
 use Rattle.checks.specs.Lists.{Promise}
 use Rattle.areas.specs.Area.{runIn}
 use Rattle.starting.specs.declared.Started.{Started}
 use Rattle.starting.specs.StartCall.{startNumber, startAnswer, startArea}
-use Rattle.area_calls.specs.AreaCalls.{pickAnswer, pickArea, runOnAnswer, runOnArea, reportAnswer, readAnswer}
+use Rattle.area_calls.specs.AreaCalls.{pickAnswer, pickArea, runOnAnswer, runOnArea, shuffledAnswer, shuffledArea, reportAnswer, readAnswer}
 use Rattle.lending.specs.declared.Lent.{Lent}
 use Rattle.lending.specs.Lent.{lentAnswer, lentRecord}
 use Rattle.inputs.specs.Input.{inputNumber, begunNumber, begunArea}
@@ -452,6 +452,104 @@ running-order :
 unfolding computing
 running-order = (refl, refl, refl, refl, refl, refl, refl, refl, refl)
 
+-- ---- 02, N13: "It refuses seed 0 with 37, after 21", and before over and spent; with any other seed as running on: the deliveries, and the seed
+
+shuffled-in-order :
+    (runShuffled 0 0 (two 1 0 (root (pos 129) 0) idle [] []) .answer ≡ Ran.Refused 21 0) ×
+    (runShuffled 5 0 (two 1 0 (root (pos 129) 1) idle (Suc ∷ []) []) .answer ≡ Ran.Refused 21 0) ×
+    (runShuffled 0 0 (two 1 0 (root (pos 128) 0) idle [] []) .answer ≡ Ran.Refused 37 0) ×  -- the run is over
+    (runShuffled 5 0 (two 1 0 (root (pos 128) 0) idle [] []) .answer ≡ Ran.Refused 37 0) ×
+    (runShuffled 0 0 (two 1 0 (root (pos 128) 1) idle [] []) .answer ≡ Ran.Refused 37 0) ×  -- none is to be made
+    (runShuffled 5 0 (two 1 0 (root (pos 128) 1) idle [] []) .answer ≡ Ran.Refused 37 0) ×  -- nothing waits
+    (runShuffled 5 0 (two 1 0 (root (pos 128) 1) idle (Ack (only (pos 0)) ∷ []) []) .answer ≡ Ran.Refused 37 0) ×
+    (runShuffled 5 0 (receiving idle Suc) .answer ≡ Ran.Refused 37 0) ×
+    (runShuffled 5 0 (receiving idle Suc) .run ≡ receiving idle Suc) ×
+    (runShuffled 0 1 (two 1 0 (root (pos 129) 0) idle [] []) .answer ≡ Ran.Refused 21 0) ×
+    (runShuffled 0 1 (two 1 0 (root (pos 128) 0) idle [] []) .answer ≡ Ran.Over 0) ×
+    (runShuffled 5 1 (two 1 0 (root (pos 128) 0) idle (Ack (only (pos 0)) ∷ []) []) .answer ≡ Ran.Over 0) ×
+    (runShuffled 0 1 (two 1 0 (root (pos 128) 1) idle [] []) .answer ≡ Ran.Spent 0) ×
+    (runShuffled 1 1 (two 1 0 (root (pos 128) 1) idle [] []) .answer ≡ Ran.Refused 24 0) ×
+    (runShuffled 5 1 (two 1 0 (root (pos 128) 1) idle (Ack (only (pos 0)) ∷ []) []) .answer ≡ Ran.Refused 22 0) ×
+    (runShuffled 1 1 (receiving idle Suc) .answer ≡ Ran.Spent 1) ×
+    (runShuffled 2 1 (receiving idle Suc) .answer ≡ Ran.Over 2) ×
+    (runShuffled 2048 4294967295 (receiving idle Suc) .answer ≡ Ran.Over 2)
+unfolding computing
+shuffled-in-order = (refl, refl, refl, refl, refl, refl, refl, refl, refl, refl, refl, refl, refl, refl, refl, refl, refl, refl)
+
+-- 24 and 22 midway. With 22 two links have a message before the second delivery, the lower one from 2 to 1: from seed 1 the second state is odd
+-- and the other goes, from seed 2463534242 it is even
+shuffled-refused-midway :
+    (runShuffled 9 1 (two 1 0 (root (pos 0) 2) idle (Suc ∷ []) []) .answer ≡ Ran.Refused 24 2) ×
+    (runShuffled 9 1 (two 1 0 (root (pos 0) 2) idle (Suc ∷ Ack (only (pos 0)) ∷ []) []) .answer ≡ Ran.Refused 22 1) ×
+    (runShuffled 9 2463534242 (two 1 0 (root (pos 0) 2) idle (Suc ∷ Ack (only (pos 0)) ∷ []) []) .answer ≡ Ran.Refused 22 2) ×
+    (runShuffled 9 1 (two 1 2047 (root (pos 0) 1) idle (Suc ∷ []) []) .answer ≡ Ran.Refused 22 1) ×
+    (shuffledArea 9 1 (area (two 1 0 (root (pos 0) 2) idle (Suc ∷ Ack (only (pos 0)) ∷ []) []))
+    ≡ area (two 1 1 (root (pos 0) 2) (plain 1 0 1 (pos 0) 0 1) (Ack (only (pos 0)) ∷ []) (Ack (counted (pos 1) (pos 1)) ∷ [])))
+unfolding computing
+shuffled-refused-midway = (refl, refl, refl, refl, refl)
+
+-- the same in words: with 21 and with 37 every word is kept
+shuffled-in-words :
+    (shuffledAnswer 5 0 [] ≡ Ran.Refused 21 0) ×
+    (shuffledAnswer 0 0 (area (two 1 0 (root (pos 129) 0) idle [] [])) ≡ Ran.Refused 21 0) ×
+    (shuffledAnswer 0 0 (area (two 1 0 (root (pos 128) 0) idle [] [])) ≡ Ran.Refused 37 0) ×
+    (shuffledAnswer 0 0 (area (two 1 0 (root (pos 128) 1) idle [] [])) ≡ Ran.Refused 37 0) ×
+    (shuffledAnswer 0 1 (area (two 1 0 (root (pos 128) 0) idle [] [])) ≡ Ran.Over 0) ×
+    (shuffledAnswer 0 1 (area (two 1 0 (root (pos 128) 1) idle [] [])) ≡ Ran.Spent 0) ×
+    (shuffledAnswer 1 1 (area (two 1 0 (root (pos 128) 1) idle [] [])) ≡ Ran.Refused 24 0) ×
+    (shuffledAnswer 9 1 (area (two 1 0 (root (pos 0) 2) idle (Suc ∷ Ack (only (pos 0)) ∷ []) [])) ≡ Ran.Refused 22 1) ×
+    (shuffledArea 5 1 (area (two 1 0 (root (pos 129) 1) idle (Suc ∷ []) [])) ≡ area (two 1 0 (root (pos 129) 1) idle (Suc ∷ []) [])) ×
+    (shuffledArea 5 0 (area (receiving idle Suc)) ≡ area (receiving idle Suc)) ×
+    (shuffledArea 1 1 (area (receiving idle Suc)) ≡ pickArea (area (receiving idle Suc)) 1 2 1)
+unfolding computing
+shuffled-in-words = (refl, refl, refl, refl, refl, refl, refl, refl, refl, refl, refl)
+
+-- "The state modulo the number of links with a message, counted from 0 in N11's order, picks the link": in everywhere there are four; none if
+-- there is no link
+drawn-links :
+    (linksOf everywhere ≡ (2, 1) ∷ (3, 1) ∷ (1, 2) ∷ (1, 3) ∷ []) ×
+    (drawn 0 everywhere ≡ pair 2 1) ×
+    (drawn 1 everywhere ≡ pair 3 1) ×
+    (drawn 2 everywhere ≡ pair 1 2) ×
+    (drawn 3 everywhere ≡ pair 1 3) ×
+    (drawn 4 everywhere ≡ pair 2 1) ×
+    (drawn 4294967295 everywhere ≡ pair 1 3) ×
+    (drawn 5 (receiving idle Suc) ≡ pair 1 2) ×
+    (drawn 5 (two 1 0 (root (pos 0) 1) idle [] []) ≡ nobody)
+unfolding computing
+drawn-links = (refl, refl, refl, refl, refl, refl, refl, refl, refl)
+
+-- "before each delivery the state is xored ..": the first states from seed 1 are 270369, 67634689 and 2647435461, from seed 2463534242 they are
+-- 723471715, 2497366906 and 2064144800; of the four links of everywhere, then of three, then of two they pick
+shuffled-order :
+    (drawn 270369 everywhere ≡ pair 3 1) ×  -- 1 of 4
+    (loads (runShuffled 1 1 everywhere .run) ≡ 1 ∷ 0 ∷ 1 ∷ 1 ∷ []) ×
+    (drawn 67634689 (runShuffled 1 1 everywhere .run) ≡ pair 1 2) ×  -- 1 of 3
+    (loads (runShuffled 2 1 everywhere .run) ≡ 1 ∷ 0 ∷ 0 ∷ 1 ∷ []) ×
+    (drawn 2647435461 (runShuffled 2 1 everywhere .run) ≡ pair 1 3) ×  -- 1 of 2
+    (loads (runShuffled 3 1 everywhere .run) ≡ 1 ∷ 0 ∷ 0 ∷ 0 ∷ []) ×
+    (loads (runShuffled 4 1 everywhere .run) ≡ 0 ∷ 0 ∷ 0 ∷ 0 ∷ []) ×
+    (drawn 723471715 everywhere ≡ pair 1 3) ×  -- 3 of 4
+    (loads (runShuffled 1 2463534242 everywhere .run) ≡ 1 ∷ 1 ∷ 1 ∷ 0 ∷ []) ×
+    (drawn 2497366906 (runShuffled 1 2463534242 everywhere .run) ≡ pair 3 1) ×  -- 1 of 3
+    (loads (runShuffled 2 2463534242 everywhere .run) ≡ 1 ∷ 0 ∷ 1 ∷ 0 ∷ []) ×
+    (drawn 2064144800 (runShuffled 2 2463534242 everywhere .run) ≡ pair 2 1) ×  -- 0 of 2
+    (loads (runShuffled 3 2463534242 everywhere .run) ≡ 0 ∷ 0 ∷ 1 ∷ 0 ∷ []) ×
+    (runShuffled 9 1 everywhere .answer ≡ Ran.Refused 24 4)
+unfolding computing
+shuffled-order = (refl, refl, refl, refl, refl, refl, refl, refl, refl, refl, refl, refl, refl, refl)
+
+-- ".. whose oldest message goes. Such a run ends as any other": the rows of marks and escape-lowest, with a seed
+shuffled-ends :
+    (runShuffled 1 7 three .run .link 1 2 ≡ Pre ∷ Ack (only (pos 5)) ∷ []) ×
+    (runShuffled 4 1 (startRun (waitsOf (fieldOf fork)) 1 1) .answer ≡ Ran.Over 4) ×
+    (runShuffled 3 1 (startRun (waitsOf (fieldOf fork)) 1 1) .answer ≡ Ran.Spent 3) ×
+    (report (runShuffled 8 1 (startRun (waitsOf (fieldOf fork)) 1 1) .run) ≡ Report.Over 4 Free (pos 2) 2 Held) ×
+    (report (runShuffled 8 2463534242 (startRun (waitsOf (fieldOf beside)) 1 1) .run) ≡ Report.Over 6 Free (pos 2) 2 Returned) ×
+    (report (runShuffled 10 1 (startRun (waitsOf (fieldOf beside)) 2 1) .run) ≡ Report.Over 10 Knot (pos 0) 0 Returned)
+unfolding computing
+shuffled-ends = (refl, refl, refl, refl, refl, refl)
+
 -- ---- "The report checks 21, 26": "over count; verdict knot if cs of s is 0, else none; outside = cs of s; escape .."; "The report marks
 -- returned if the start's second sum is 0, else held" (02, N3)
 
@@ -815,6 +913,15 @@ chains-and-probes :
 unfolding computing
 chains-and-probes = (refl, refl, refl, refl, refl, refl, refl, refl, refl, refl)
 
+-- seed 0 (02, N13): its number, and zeros
+seed-0-numbers :
+    (ranNumber (shuffledAnswer 5 0 (area (receiving idle Suc))) ≡ 37) × (ranOver (shuffledAnswer 5 0 (area (receiving idle Suc))) ≡ 0) ×
+    (ranMade (shuffledAnswer 5 0 (area (receiving idle Suc))) ≡ 0) ×
+    (ranNumber (shuffledAnswer 5 1 (area (receiving idle Suc))) ≡ 0) × (ranOver (shuffledAnswer 5 1 (area (receiving idle Suc))) ≡ 1) ×
+    (ranMade (shuffledAnswer 5 1 (area (receiving idle Suc))) ≡ 2)
+unfolding computing
+seed-0-numbers = (refl, refl, refl, refl, refl, refl)
+
 -- over 1, spent 0, with the number made; knot 1, none 0; returned 1, held 0
 ends :
     (ranNumber (Ran.Over 5) ≡ 0) × (ranOver (Ran.Over 5) ≡ 1) × (ranMade (Ran.Over 5) ≡ 5) ×
@@ -842,14 +949,17 @@ never-22-is-met-by-no-list : (w : Waits) (s ed : ℕ) (p : Passed Run) → Promi
 unfolding computing
 never-22-is-met-by-no-list w s ed p h m = none (h .answers 22 m)
   where
-    none : List·Memᴰ {A = ℕ} 22 (0 ∷ 23 ∷ 24 ∷ 25 ∷ 26 ∷ 31 ∷ []) → ⊥
+    none : List·Memᴰ {A = ℕ} 22 (0 ∷ 23 ∷ 24 ∷ 25 ∷ 26 ∷ 31 ∷ 37 ∷ []) → ⊥
     none (List·Memᴰ·head e) = eqb-false 22 0 refl e
     none (List·Memᴰ·tail (List·Memᴰ·head e)) = eqb-false 22 23 refl e
     none (List·Memᴰ·tail (List·Memᴰ·tail (List·Memᴰ·head e))) = eqb-false 22 24 refl e
     none (List·Memᴰ·tail (List·Memᴰ·tail (List·Memᴰ·tail (List·Memᴰ·head e)))) = eqb-false 22 25 refl e
     none (List·Memᴰ·tail (List·Memᴰ·tail (List·Memᴰ·tail (List·Memᴰ·tail (List·Memᴰ·head e))))) = eqb-false 22 26 refl e
     none (List·Memᴰ·tail (List·Memᴰ·tail (List·Memᴰ·tail (List·Memᴰ·tail (List·Memᴰ·tail (List·Memᴰ·head e)))))) = eqb-false 22 31 refl e
-    none (List·Memᴰ·tail (List·Memᴰ·tail (List·Memᴰ·tail (List·Memᴰ·tail (List·Memᴰ·tail (List·Memᴰ·tail x)))))) = List·Memᴰ·not-nil x
+    none (List·Memᴰ·tail (List·Memᴰ·tail (List·Memᴰ·tail (List·Memᴰ·tail (List·Memᴰ·tail (List·Memᴰ·tail (List·Memᴰ·head e))))))) =
+        eqb-false 22 37 refl e
+    none (List·Memᴰ·tail (List·Memᴰ·tail (List·Memᴰ·tail (List·Memᴰ·tail (List·Memᴰ·tail (List·Memᴰ·tail (List·Memᴰ·tail x))))))) =
+        List·Memᴰ·not-nil x
 
 -- "Each ordered pair of neighbours has one link": a message between others makes a run that is not well formed
 no-message-without-a-link : (pick unlinked 2 1 1 .answer ≡ Delivery.Refused 21) × (runOn 1 unlinked .answer ≡ Ran.Refused 21 0)

@@ -220,12 +220,47 @@ fn made(c: Course, k: u32) -> u32 {
     numbers::sum(c.made, k)
 }
 
-// After running on by at most k.
-pub fn ran(k: u32, answer: Ran, c: Course) -> Course {
+// The deliveries made by running on with a seed, after it ran on by at most k.
+fn shuffled(c: Course, k: u32) -> u32 {
+    if left(c) <= k {
+        return numbers::sum(c.shuffled, left(c));
+    }
+    numbers::sum(c.shuffled, k)
+}
+
+// Refused with a number, and nothing made.
+pub fn is_refused_run(answer: Ran, number: u32) -> bool {
+    match answer {
+        Ran::Over(_) => false,
+        Ran::Spent(_) => false,
+        Ran::Refused { number: n, made } => n == number && made == 0,
+    }
+}
+
+// After running on by at most k, in either order.
+fn ran_by(k: u32, answer: Ran, c: Course) -> Course {
     let mut d = c;
     d.made = made(c, k);
     d.lower = 0;
     expect(d, is_run(answer, k, left(c)), faults::RUNNING_ON)
+}
+
+// After running on with a seed: "It refuses seed 0 with 37", also where the run is over (02, N13).
+fn ran_shuffled(call: Call, answer: Ran, c: Course) -> Course {
+    if call.seed == 0 {
+        return expect(c, is_refused_run(answer, 37), faults::SEED);
+    }
+    let mut d = ran_by(call.k, answer, c);
+    d.shuffled = shuffled(c, call.k);
+    d
+}
+
+// After running on, without a seed or with one.
+pub fn ran(call: Call, answer: Ran, c: Course) -> Course {
+    if call.kind == ordering::RUN_SHUFFLED {
+        return ran_shuffled(call, answer, c);
+    }
+    ran_by(call.k, answer, c)
 }
 
 // Flags, and "subordinate is 1 if succeeding and not preceding".

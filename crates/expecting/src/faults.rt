@@ -13,7 +13,7 @@ pub const REFUSED_START: u32 = 5;
 // A pick of a link: before the end neither a message that can be there nor a number that can be met, not 23 after it; a pick that names no
 // link: not 25.
 pub const PICK: u32 = 6;
-// Running on: refused, over or spent with another number made, or over at another number than D.
+// Running on, without a seed or with one that is not 0: refused, over or spent with another number made, or over at another number than D.
 pub const RUNNING_ON: u32 = 7;
 // A report says over before D, or not over at D.
 pub const OVER: u32 = 8;
@@ -54,3 +54,9 @@ pub const OTHER_COUNT: u32 = 23;
 // Running on left another area than as many picks, each from the link with a message that has the lowest receiver and then the lowest sender
 // (02, N11).
 pub const ORDER: u32 = 24;
+// Running on with a seed left another area than as many picks, each from the link with a message that the state names (02, N13).
+pub const SHUFFLED: u32 = 25;
+// Running on with seed 0 is not refused with 37, or not in 37's place: after 21 and before all else.
+pub const SEED: u32 = 26;
+// Running on in a copy, by as many and with the same seed, left other words or gave another answer.
+pub const REPEATED: u32 = 27;

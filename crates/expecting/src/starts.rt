@@ -61,6 +61,7 @@ pub fn course(e: Expected, x: usize, fault: u32) -> Course {
         sucs: 0,
         pres: 0,
         overtaking: 0,
+        shuffled: 0,
         seed: x,
         link: x / 8,
         lower: 0,

@@ -45,8 +45,8 @@ pub fn unsigned(word: i32) -> u32 {
     }
 }
 
-// A word mixed into a digest, modulo 2 to the 48. The factor is odd, so that a change of one word always shows.
-fn mix(digest: usize, word: u32) -> usize {
+// A word or another number mixed into a digest, modulo 2 to the 48. The factor is odd, so that a change of one word always shows.
+pub fn mix(digest: usize, word: u32) -> usize {
     (digest % 281474976710656 * 31 + word as usize) % 281474976710656
 }
 

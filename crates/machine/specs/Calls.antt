@@ -1,4 +1,4 @@
--- What picks and running on do and answer (01, "Steps" and "Refused because of the state"; 02, N5), for any check.
+-- What picks and running on do and answer (01, "Steps" and "Refused because of the state"; 02, N5, N11 and N13), for any check.
 --   Answer M           == the message of a delivery, or the number of its refusal
 --   Picked, RanOn      == an answer and the run that the call leaves
 --   Cut M              == a message of a link, and those that stay; or none
@@ -7,17 +7,21 @@
 --   Selection          == a link with a message, or nobody
 --   Chooser P M        == an order of running on: from its own state and the run, the link whose oldest message goes, and its next state
 --   deliverOn, goOn, runFrom, runOn   == "Running on checks 21 first, then over, then spent, then 24, 22.", over any chooser
---   firstTo n c        == the first of the choices c 1 to c n that names a link
+--   inRow n c          == the lists c 1 to c n, one behind the other
+--   linkAt k l         == the link at place k of a list of links, "counted from 0"
 --   linkIf r a b       == the link from a to b, if a message waits on it
---   lowestSender r b n == the lowest sender of 1 to n from whom a message waits for b
---   lowest r           == "lowest receiver first and then lowest sender" (02, N11), among links with a message
---   fixedOrder         == that choice as a chooser, which needs no state
+--   linksTo r b, linksOf r   == the links with a message to b, and all: "lowest receiver first and then lowest sender" (02, N11)
+--   lowest r, fixedOrder     == the first of them; that choice as a chooser, which needs no state
+--   drawn s r, shuffledOrder == "The state modulo the number of links with a message, .. picks the link" (02, N13); its chooser
+--   runShuffled k seed r     == running on with a seed checks 21, 37, then as running on
 --   ranNumber, ranMade == for each case of running on's answer 01's number, and the number made
 -- Assumes nothing.
-use Prim.Native.Nat.{ℕ, zero, suc}
+use Prim.Native.Nat.{ℕ, zero, suc, _%_}
 use mathlib.Core.Bool.{Bool, true, false, not}
-use mathlib.Core.List.{List, [], _∷_}
+use mathlib.Core.List.{List, [], _∷_, _++_}
+use lib.{Dec.eqb, ListN.length}
 use Rattle.base.specs.Choice.{choose}
+use Rattle.shuffling.specs.Shuffle.{movedOn}
 use Rattle.tables.specs.Waits.{neighbours}
 use Rattle.machine.specs.declared.Ran.{Ran}
 use Rattle.machine.specs.declared.Ran.the-variants.{Spent}
@@ -96,6 +100,10 @@ pub record RanOn (P M : Type 0) : Type 0 where
   pub run : Machine P M
 
 module _ {P M : Type 0} where
+  -- refused before its first delivery
+  abbrev pub notRun : ℕ → Machine P M → RanOn P M
+  notRun n r = record { answer = Ran.Refused n 0; run = r }
+
   -- a refusal ends it and "keeps its deliveries and gives their number"; after a delivery it goes on
   abbrev pub goOn : ℕ → Picked P M → (Machine P M → RanOn P M) → RanOn P M
   goOn made p rest = elim (p .answer) [ refusal n ↦ record { answer = Ran.Refused n made; run = p .run } | given m ↦ rest (p .run) ]
@@ -118,39 +126,64 @@ module _ {P M : Type 0} (ρ : Rules P M) where
 
   -- "Running on makes up to k deliveries", from the chooser's first state on
   unfoldable pub runOn : Chooser P M → ℕ → ℕ → Machine P M → RanOn P M
-  runOn next k s r = choose (not (wellFormed ρ r)) (record { answer = Ran.Refused 21 0; run = r }) (runFrom next k 0 s r)
+  runOn next k s r = choose (not (wellFormed ρ r)) (notRun 21 r) (runFrom next k 0 s r)
 
--- ---- the fixed order
-
-abbrev pub orElse : Selection → Selection → Selection
-orElse nobody d = d
-orElse (pair a b) d = pair a b
+-- ---- the orders: by the list of all links with a message
 
 module _ {M : Type 0} where
   abbrev pub waiting : List M → Bool
   waiting [] = false
   waiting (m ∷ ms) = true
 
--- the first of c 1 to c n that names a link
-unfoldable pub firstTo : ℕ → (ℕ → Selection) → Selection
-firstTo zero c = nobody
-firstTo (suc n) c = orElse (firstTo n c) (c (suc n))
+module _ {A : Type 0} where
+  -- the lists c 1 to c n, one behind the other
+  unfoldable pub inRow : ℕ → (ℕ → List A) → List A
+  inRow zero c = []
+  inRow (suc n) c = inRow n c ++ c (suc n)
+
+-- the link at place k of a list of links, "counted from 0" (02, N13); nobody past its end
+unfoldable pub linkAt : ℕ → List (ℕ × ℕ) → Selection
+linkAt k [] = nobody
+linkAt zero (x ∷ l) = pair (x .0) (x .1)
+linkAt (suc k) (x ∷ l) = linkAt k l
 
 module _ {P M : Type 0} where
   -- the link from a to b, if a message waits on it
-  unfoldable pub linkIf : Machine P M → ℕ → ℕ → Selection
-  linkIf r a b = choose (waiting (r .link a b)) (pair a b) nobody
+  unfoldable pub linkIf : Machine P M → ℕ → ℕ → List (ℕ × ℕ)
+  linkIf r a b = choose (waiting (r .link a b)) ((a, b) ∷ []) []
 
-  -- the lowest sender of 1 to n from whom a message waits for b
-  unfoldable pub lowestSender : Machine P M → ℕ → ℕ → Selection
-  lowestSender r b n = firstTo n (λ a. linkIf r a b)
+  -- the links to b with a message, by their senders
+  unfoldable pub linksTo : Machine P M → ℕ → List (ℕ × ℕ)
+  linksTo r b = inRow (r .waits .n) (λ a. linkIf r a b)
+
+  -- all links with a message, "lowest receiver first and then lowest sender" (02, N11)
+  unfoldable pub linksOf : Machine P M → List (ℕ × ℕ)
+  linksOf r = inRow (r .waits .n) (λ b. linksTo r b)
 
   -- 02, N11, in the place of 01's order: "The fixed order becomes lowest receiver first and then lowest sender."
   unfoldable pub lowest : Machine P M → Selection
-  lowest r = firstTo (r .waits .n) (λ b. lowestSender r b (r .waits .n))
+  lowest r = linkAt 0 (linksOf r)
 
   abbrev pub fixedOrder : Chooser P M
   fixedOrder s r = (lowest r, s)
+
+  -- 02, N13: "The state modulo the number of links with a message, counted from 0 in N11's order, picks the link"
+  unfoldable pub drawn : ℕ → Machine P M → Selection
+  drawn s r = linkAt (s % length (linksOf r)) (linksOf r)
+
+  -- 02, N13: "before each delivery the state is xored with itself shifted ..", and picks
+  abbrev pub shuffledOrder : Chooser P M
+  shuffledOrder s r = (drawn (movedOn s) r, movedOn s)
+
+-- ---- running on with a seed
+
+module _ {P M : Type 0} (ρ : Rules P M) where
+  -- 02, N13: "Running on may take a 32-bit seed"; "It refuses seed 0 with 37, after 21."
+  unfoldable pub runShuffled : ℕ → ℕ → Machine P M → RanOn P M
+  runShuffled k seed r =
+      choose (not (wellFormed ρ r)) (notRun 21 r)
+      (choose (eqb seed 0) (notRun 37 r)
+      (runFrom ρ shuffledOrder k 0 seed r))
 
 -- ---- 01's number for each case of the answer, 0 where nothing is refused
 

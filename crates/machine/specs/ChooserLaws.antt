@@ -1,112 +1,37 @@
--- The fixed order of running on: what `lowest` chooses; and what is common to every order that looks at the links one after another.
---   firstTo-none, firstTo-at   == nobody where no choice names a link; and the first that names one
---   Nested n c a b  == the pair a b is the first of all c x y, lowest x first and then lowest y
---   nested-none, nested-pair   == what is chosen by two rows, one within the other
---   linkIf-calm, linkIf-none, linkIf-some, linkIf-empty, linkIf-pair   == a link by its messages, and what a choice of it says
---   AllLinks r c    == two such rows c that name links with a message alone, and leave none out
+-- The orders of running on: that the list of all links with a message is that, in its order; what the first of it is; and that each order
+-- which takes a link of such a list names a link with a message if there is one.
+--   waiting-some, waiting-none, none-waits   == whether a message waits, by the number of messages
+--   linkIf-length, linkIf-first, linkIf-named   == a link by its messages, and what its place in a list says
+--   Standing r l a b       == where the link from a to b stands in the list l
+--   AllLinks r l           == the list l holds links of r with a message alone, and leaves none out
 --   by-senders, by-receivers   == all links, by sender and then receiver, and by receiver and then sender
---   allLinks-none, allLinks-pair   == what the first of all links with a message says
---   allLinks-choose == an order that takes it names a link with a message if there is one
---   lowest-none     == if nobody is chosen, nothing waits at all
---   lowest-pair     == if a pair is chosen, both are processes and a message waits from the one to the other
---   lowest-first    == "lowest receiver first and then lowest sender" (02, N11): every link with a message has a higher receiver, or the same
---                      receiver and no lower sender
---   fixedOrder-finds, fixedOrder-chooses   == the fixed order names processes alone, and a link with a message if there is one
+--   linksOf-all            == the list of 02, N13, holds exactly the links with a message
+--   linksOf-order          == .. "lowest receiver first and then lowest sender" (02, N11)
+--   allLinks-choose        == an order that takes a link of such a list names a link with a message if there is one
+--   lowest-first           == every link with a message has a higher receiver than the first, or the same receiver and no lower sender
+--   fixedOrder-finds, fixedOrder-chooses, shuffledOrder-chooses   == so do the fixed order and the shuffled one
+--   drawn-zero, shuffled-zero   == from state 0 the shuffled order is the fixed one
 -- Assumes nothing.
-use Prim.Native.Nat.{ℕ, zero, suc, _-_, _≤_, _<_}
+use Prim.Native.Nat.{ℕ, zero, suc, _+_, _-_, _%_, _≤_, _<_}
 use mathlib.Core.Bool.{true, false, false≢true}
 use mathlib.Core.List.{List, [], _∷_}
 use mathlib.Core.Path.{_≡_, refl, sym, ap, _∙_, subst}
 use mathlib.Core.Logic.{_⊎_, inl, inr}
 use native.Mathlib.Omega.{arith}
+use native.Mathlib.Nat.{mod-lt, zero-mod}
 use lib.ListN.{length}
+use Rattle.base.specs.Choice.{bit}
 use Rattle.base.specs.ChoiceLaws.{tested, same?, below?}
 use Rattle.base.specs.Checks.{Tested, passed, failed, Same, same, apart, Below, below, beyond}
-use Rattle.machine.specs.Machine.{Machine}
-use Rattle.machine.specs.Made.{Finds, Chooses}
-use Rattle.machine.specs.Calls.{Selection, nobody, pair, orElse, waiting, firstTo, linkIf, lowestSender, lowest, fixedOrder}
+use Rattle.shuffling.specs.Shuffle.{movedOn}
+use Rattle.shuffling.specs.ShuffleLaws.{movedOn-zero}
 use Rattle.tables.specs.Table.{IsProcess}
-
--- ---- the first of a row of choices
-
-module _ (c : ℕ → Selection) where
-  pub firstTo-none : (n : ℕ) → ((k : ℕ) → 1 ≤ k → k ≤ n → c k ≡ nobody) → firstTo n c ≡ nobody
-  unfolding firstTo
-  firstTo-none zero h = refl
-  firstTo-none (suc n) h = rw (firstTo-none n (λ k l u. h k l (omega arith)), h (suc n) (omega arith) (omega arith))
-
-  firstTo-keeps : {x y : ℕ} (m n : ℕ) → m ≤ n → firstTo m c ≡ pair x y → firstTo n c ≡ pair x y
-  unfolding firstTo
-  firstTo-keeps m zero u e = let q : m ≡ 0 = omega arith in rw q at e
-  firstTo-keeps {x} {y} m (suc n) u e = at (same? m (suc n)) (λ v. firstTo-keeps m n v e)
-    where
-      at : Same m (suc n) → (m ≤ n → firstTo n c ≡ pair x y) → firstTo (suc n) c ≡ pair x y
-      at (same q _) before = rw q at e
-      at (apart q _) before = rw (before (omega arith))
-
-  pub firstTo-at : {x y : ℕ} (k n : ℕ) → 1 ≤ k → k ≤ n → ((j : ℕ) → 1 ≤ j → j < k → c j ≡ nobody) → c k ≡ pair x y → firstTo n c ≡ pair x y
-  unfolding firstTo
-  firstTo-at {x} {y} k n l u h e =
-      let s : suc (k - 1) ≡ k = omega arith in
-      let none : firstTo (k - 1) c ≡ nobody = firstTo-none (k - 1) (λ j a b. h j a (omega arith)) in
-      let here : firstTo (suc (k - 1)) c ≡ pair x y = rw (none, s) e in
-      firstTo-keeps k n u (ap (λ (i : ℕ). firstTo i c) (sym s) ∙ here)
-
--- what is chosen, and that no choice before it names a link
-data First (n : ℕ) (c : ℕ → Selection) : Selection → Type 0 where
-  no-first : ((k : ℕ) → 1 ≤ k → k ≤ n → c k ≡ nobody) → First n c nobody
-  first : {a b : ℕ} (k : ℕ) → 1 ≤ k → k ≤ n → c k ≡ pair a b → ((j : ℕ) → 1 ≤ j → j < k → c j ≡ nobody) → First n c (pair a b)
-
-first-next : (n : ℕ) (c : ℕ → Selection) {s t : Selection} → First n c s → c (suc n) ≡ t → First (suc n) c (orElse s t)
-first-next n c (first k l u e h) f = first k l (omega arith) e h
-first-next n c {t = nobody} (no-first h) f = no-first (λ k l u. at k l u (same? k (suc n)))
-  where
-    at : (k : ℕ) → 1 ≤ k → k ≤ suc n → Same k (suc n) → c k ≡ nobody
-    at k l u (same e _) = rw e f
-    at k l u (apart e _) = h k l (omega arith)
-first-next n c {t = pair a b} (no-first h) f = first (suc n) (omega arith) (omega arith) f (λ j l u. h j l (omega arith))
-
-first-found : (n : ℕ) (c : ℕ → Selection) → First n c (firstTo n c)
-unfolding firstTo
-first-found zero c = no-first (λ k l u. absurd (omega arith))
-first-found (suc n) c = first-next n c (first-found n c) refl
-
-first-of : (n : ℕ) (c : ℕ → Selection) {s : Selection} → firstTo n c ≡ s → First n c s
-first-of n c e = subst (λ (d : Selection). First n c d) e (first-found n c)
-
--- ---- a row within a row
-
-pub record Nested (n : ℕ) (c : ℕ → ℕ → Selection) (a b : ℕ) : Type 0 where
-  pub x : ℕ
-  pub y : ℕ
-  pub x-in : IsProcess n x
-  pub y-in : IsProcess n y
-  pub is : c x y ≡ pair a b
-  pub before : (i j : ℕ) → IsProcess n i → IsProcess n j → (i < x) ⊎ ((i ≡ x) × (j < y)) → c i j ≡ nobody
-
-module _ (n : ℕ) (c : ℕ → ℕ → Selection) where
-  row-none : {x : ℕ} → First n (c x) nobody → (y : ℕ) → IsProcess n y → c x y ≡ nobody
-  row-none (no-first h) y p = h y (p .0) (p .1)
-
-  pub nested-none : firstTo n (λ x. firstTo n (c x)) ≡ nobody → (x y : ℕ) → IsProcess n x → IsProcess n y → c x y ≡ nobody
-  nested-none e x y p q = at (first-of n (λ i. firstTo n (c i)) e)
-    where
-      at : First n (λ i. firstTo n (c i)) nobody → c x y ≡ nobody
-      at (no-first h) = row-none (first-of n (c x) (h x (p .0) (p .1))) y q
-
-  pub nested-pair : {a b : ℕ} → firstTo n (λ x. firstTo n (c x)) ≡ pair a b → Nested n c a b
-  nested-pair {a} {b} e = at (first-of n (λ i. firstTo n (c i)) e)
-    where
-      at : First n (λ i. firstTo n (c i)) (pair a b) → Nested n c a b
-      at (first x lx ux f h) = within (first-of n (c x) f)
-        where
-          within : First n (c x) (pair a b) → Nested n c a b
-          within (first y ly uy g k) =
-              record { x = x; y = y; x-in = (lx, ux); y-in = (ly, uy); is = g; before = λ i j p q. before i j p q }
-            where
-              before : (i j : ℕ) → IsProcess n i → IsProcess n j → (i < x) ⊎ ((i ≡ x) × (j < y)) → c i j ≡ nobody
-              before i j p q (inl u) = row-none (first-of n (c i) (h i (p .0) u)) j q
-              before i j p q (inr u) = rw (u .0) (k j (q .0) (u .1))
+use Rattle.machine.specs.Machine.{Machine, Rules, over}
+use Rattle.machine.specs.Made.{Finds, Chooses}
+use Rattle.machine.specs.Calls.{Selection, nobody, pair, waiting, inRow, linkAt, linkIf, linksTo, linksOf, lowest, fixedOrder, drawn, shuffledOrder}
+use Rattle.machine.specs.Calls.{RanOn, goOn, deliverOn, runFrom}
+use Rattle.machine.specs.LinkListLaws.{no-pair, linkAt-end, linkAt-within, inRow-within, inRow-at, Named, inRow-named, named-order}
+use Rattle.machine.specs.RunningLaws.{from-over, from-more}
 
 -- ---- one link
 
@@ -124,118 +49,217 @@ module _ {M : Type 0} where
   none-waits (m ∷ ms) e = absurd (false≢true (sym e))
 
 module _ {P M : Type 0} (r : Machine P M) (a b : ℕ) where
-  pub linkIf-calm : waiting (r .link a b) ≡ false → linkIf r a b ≡ nobody
+  pub linkIf-length : length (linkIf r a b) ≡ bit (waiting (r .link a b))
   unfolding linkIf
-  linkIf-calm e = rw e
-
-  pub linkIf-none : length (r .link a b) ≡ 0 → linkIf r a b ≡ nobody
-  linkIf-none e = linkIf-calm (waiting-none (r .link a b) e)
-
-  pub linkIf-some : (length (r .link a b) ≡ 0 → ⊥) → linkIf r a b ≡ pair a b
-  unfolding linkIf
-  linkIf-some h = rw (waiting-some (r .link a b) h)
-
-  linkIf-by : {s : Selection} → linkIf r a b ≡ s → Tested (waiting (r .link a b))
-      → ((s ≡ nobody) × (r .link a b ≡ [])) ⊎ ((s ≡ pair a b) × (waiting (r .link a b) ≡ true))
-  unfolding linkIf
-  linkIf-by e (passed f) = inr (sym e ∙ rw f, f)
-  linkIf-by e (failed f) = inl (sym e ∙ rw f, none-waits (r .link a b) f)
-
-  pub linkIf-empty : linkIf r a b ≡ nobody → r .link a b ≡ []
-  linkIf-empty e = at (linkIf-by e (tested (waiting (r .link a b))))
+  linkIf-length = at (tested (waiting (r .link a b)))
     where
-      at : ((nobody ≡ nobody) × (r .link a b ≡ [])) ⊎ ((nobody ≡ pair a b) × (waiting (r .link a b) ≡ true)) → r .link a b ≡ []
-      at (inl f) = f .1
-      at (inr f) = let g = f .0 in cc
+      at : Tested (waiting (r .link a b)) → length (linkIf r a b) ≡ bit (waiting (r .link a b))
+      at (passed e) = rw e
+      at (failed e) = rw e
 
-  pub linkIf-pair : {x y : ℕ} → linkIf r a b ≡ pair x y → (x ≡ a) × (y ≡ b) × (waiting (r .link a b) ≡ true)
-  linkIf-pair {x} {y} e = at (linkIf-by e (tested (waiting (r .link a b))))
+  pub linkIf-first : waiting (r .link a b) ≡ true → linkAt 0 (linkIf r a b) ≡ pair a b
+  unfolding linkIf linkAt
+  linkIf-first e = rw e
+
+  pub linkIf-named : (k : ℕ) → k < length (linkIf r a b) → (k ≡ 0) × (waiting (r .link a b) ≡ true) × (linkAt k (linkIf r a b) ≡ pair a b)
+  linkIf-named k u = at (tested (waiting (r .link a b)))
     where
-      at : ((pair x y ≡ nobody) × (r .link a b ≡ [])) ⊎ ((pair x y ≡ pair a b) × (waiting (r .link a b) ≡ true))
-          → (x ≡ a) × (y ≡ b) × (waiting (r .link a b) ≡ true)
-      at (inl f) = let g = f .0 in (cc, cc, cc)
-      at (inr f) = let g = f .0 in (cc, cc, f .1)
+      at : Tested (waiting (r .link a b)) → (k ≡ 0) × (waiting (r .link a b) ≡ true) × (linkAt k (linkIf r a b) ≡ pair a b)
+      at (passed e) =
+          let z : k ≡ 0 = omega (arith, linkIf-length, ap bit e) in
+          (z, e, ap (λ (i : ℕ). linkAt i (linkIf r a b)) z ∙ linkIf-first e)
+      at (failed e) = absurd (omega (arith, linkIf-length, ap bit e))
 
--- ---- all links in two rows
+-- ---- all links in two rows, one within the other
 
--- two rows of choices, one within the other: each names a link of two processes with a message, and no such link is left out
-pub record AllLinks {P M : Type 0} (r : Machine P M) (c : ℕ → ℕ → Selection) : Type 0 where
-  pub names : (x y : ℕ) → IsProcess (r .waits .n) x → IsProcess (r .waits .n) y → {a b : ℕ} → c x y ≡ pair a b
-      → IsProcess (r .waits .n) a × IsProcess (r .waits .n) b × (waiting (r .link a b) ≡ true)
-  pub all : ((x y : ℕ) → IsProcess (r .waits .n) x → IsProcess (r .waits .n) y → c x y ≡ nobody)
-      → (a b : ℕ) → IsProcess (r .waits .n) a → IsProcess (r .waits .n) b → r .link a b ≡ []
+pub record Standing (l : List (ℕ × ℕ)) (a b : ℕ) : Type 0 where
+  pub k : ℕ
+  pub within : k < length l
+  pub is : linkAt k l ≡ pair a b
+
+-- each place names a link of two processes with a message, and no such link is left out
+pub record AllLinks {P M : Type 0} (r : Machine P M) (l : List (ℕ × ℕ)) : Type 0 where
+  pub names : (k : ℕ) {a b : ℕ} → linkAt k l ≡ pair a b → IsProcess (r .waits .n) a × IsProcess (r .waits .n) b × (waiting (r .link a b) ≡ true)
+  pub all : (a b : ℕ) → IsProcess (r .waits .n) a → IsProcess (r .waits .n) b → waiting (r .link a b) ≡ true → Standing l a b
+
+pair-ends : {a b x y : ℕ} → pair a b ≡ pair x y → (a ≡ x) × (b ≡ y)
+pair-ends e = (cc, cc)
 
 module _ {P M : Type 0} (r : Machine P M) where
-  named : (x y : ℕ) → IsProcess (r .waits .n) x → IsProcess (r .waits .n) y → {a b : ℕ} → linkIf r x y ≡ pair a b
+  -- the place of a pair in two rows
+  module _ (n : ℕ) (c : ℕ → ℕ → List (ℕ × ℕ)) where
+    abbrev rows : List (ℕ × ℕ)
+    rows = inRow n (λ x. inRow n (c x))
+
+    -- the place k is the place j of the list c x y
+    record Nested (k : ℕ) : Type 0 where
+      outer : Named (λ x. inRow n (c x)) n k
+      inner : Named (c (outer .x)) n (outer .j)
+
+    nested : (k : ℕ) → k < length rows → Nested k
+    nested k u =
+        let o = inRow-named (λ x. inRow n (c x)) n k u in
+        record { outer = o; inner = inRow-named (c (o .x)) n (o .j) (o .within) }
+
+    nested-at : (x y : ℕ) → IsProcess n x → IsProcess n y → {a b : ℕ} → 0 < length (c x y) → linkAt 0 (c x y) ≡ pair a b → Standing rows a b
+    nested-at x y p q u e =
+        let row : ℕ = length (inRow (y - 1) (c x)) + 0 in
+        let inside : row < length (inRow n (c x)) = inRow-within (c x) y n 0 q u in
+        record {
+          k = length (inRow (x - 1) (λ i. inRow n (c i))) + row;
+          within = inRow-within (λ i. inRow n (c i)) x n row p inside;
+          is = inRow-at (λ i. inRow n (c i)) x n row p inside ∙ inRow-at (c x) y n 0 q u ∙ e;
+        }
+
+    -- what stands at a place
+    nested-is : (k : ℕ) (h : Nested k) → linkAt k rows ≡ linkAt (h .inner .j) (c (h .outer .x) (h .inner .x))
+    nested-is k h = h .outer .is ∙ h .inner .is
+
+    -- in the same list of the outer row
+    inner-order : {x y i j : ℕ} → x ≡ y → (h : Named (c x) n i) (g : Named (c y) n j) → i < j → (h .x < g .x) ⊎ ((h .x ≡ g .x) × (h .j < g .j))
+    inner-order {x} {y} {i} {j} e h =
+        subst (λ (z : ℕ). (g : Named (c z) n j) → i < j → (h .x < g .x) ⊎ ((h .x ≡ g .x) × (h .j < g .j))) e (λ g u. named-order (c x) h g u)
+
+    -- where each list holds one link at most, the lower place is in an outer list before, or in the same before an inner one
+    nested-order : ((x y k : ℕ) → k < length (c x y) → k ≡ 0) → {k m : ℕ} (h : Nested k) (g : Nested m) → k < m
+        → (h .outer .x < g .outer .x) ⊎ ((h .outer .x ≡ g .outer .x) × (h .inner .x < g .inner .x))
+    nested-order single h g u = at (named-order (λ x. inRow n (c x)) (h .outer) (g .outer) u)
+      where
+        within : h .outer .x ≡ g .outer .x → (h .inner .x < g .inner .x) ⊎ ((h .inner .x ≡ g .inner .x) × (h .inner .j < g .inner .j))
+            → (h .outer .x < g .outer .x) ⊎ ((h .outer .x ≡ g .outer .x) × (h .inner .x < g .inner .x))
+        within e (inl v) = inr (e, v)
+        within e (inr v) = absurd (omega (arith, v .1, single (g .outer .x) (g .inner .x) (g .inner .j) (g .inner .within)))
+
+        at : (h .outer .x < g .outer .x) ⊎ ((h .outer .x ≡ g .outer .x) × (h .outer .j < g .outer .j))
+            → (h .outer .x < g .outer .x) ⊎ ((h .outer .x ≡ g .outer .x) × (h .inner .x < g .inner .x))
+        at (inl v) = inl v
+        at (inr v) = within (v .0) (inner-order (v .0) (h .inner) (g .inner) (v .1))
+
+  -- a place that names a link is before the end
+  named-within : (k : ℕ) (l : List (ℕ × ℕ)) {a b : ℕ} → linkAt k l ≡ pair a b → k < length l
+  named-within k l {a} {b} e = at (below? k (length l))
+    where
+      at : Below k (length l) → k < length l
+      at (below u _) = u
+      at (beyond u _) = absurd (no-pair (sym e ∙ linkAt-end k l u))
+
+  named-as : {a b x y : ℕ} → a ≡ x → b ≡ y → IsProcess (r .waits .n) x × IsProcess (r .waits .n) y × (waiting (r .link x y) ≡ true)
       → IsProcess (r .waits .n) a × IsProcess (r .waits .n) b × (waiting (r .link a b) ≡ true)
-  named x y p q e = let f = linkIf-pair r x y e in rw (f .0, f .1) (p, q, f .2)
+  named-as e f h = rw (e, f) h
 
   -- lowest sender first and then lowest receiver
-  pub by-senders : AllLinks r (λ x y. linkIf r x y)
-  by-senders = record { names = named; all = λ h a b p q. linkIf-empty r a b (h a b p q) }
+  pub by-senders : AllLinks r (inRow (r .waits .n) (λ a. inRow (r .waits .n) (λ b. linkIf r a b)))
+  by-senders =
+      record {
+        names = λ k e.
+            let h = nested (r .waits .n) (linkIf r) k (named-within k _ e) in
+            let g = linkIf-named r (h .outer .x) (h .inner .x) (h .inner .j) (h .inner .within) in
+            let f = pair-ends (sym e ∙ nested-is (r .waits .n) (linkIf r) k h ∙ g .2) in
+            named-as (f .0) (f .1) (h .outer .x-in, h .inner .x-in, g .1);
+        all = λ a b p q w. nested-at (r .waits .n) (linkIf r) a b p q (omega (arith, linkIf-length r a b, ap bit w)) (linkIf-first r a b w);
+      }
+
+  -- the link at a place of the list, by its receiver and sender
+  module _ (k : ℕ) {a b : ℕ} (e : linkAt k (linksOf r) ≡ pair a b) where
+    place : Nested (r .waits .n) (λ y x. linkIf r x y) k
+    unfolding linksOf linksTo
+    place = nested (r .waits .n) (λ y x. linkIf r x y) k (named-within k (linksOf r) e)
+
+    ends : (a ≡ place .inner .x) × (b ≡ place .outer .x) × (waiting (r .link (place .inner .x) (place .outer .x)) ≡ true)
+    unfolding linksOf linksTo
+    ends =
+        let g = linkIf-named r (place .inner .x) (place .outer .x) (place .inner .j) (place .inner .within) in
+        let f = pair-ends (sym e ∙ nested-is (r .waits .n) (λ y x. linkIf r x y) k place ∙ g .2) in
+        (f .0, f .1, g .1)
 
   -- lowest receiver first and then lowest sender
-  pub by-receivers : AllLinks r (λ y x. linkIf r x y)
-  by-receivers = record { names = λ y x q p. named x y p q; all = λ h a b p q. linkIf-empty r a b (h b a q p) }
+  pub linksOf-all : AllLinks r (linksOf r)
+  unfolding linksOf linksTo
+  linksOf-all =
+      record {
+        names = λ k e. let f = ends k e in named-as (f .0) (f .1) (place k e .inner .x-in, place k e .outer .x-in, f .2);
+        all = λ a b p q w.
+            nested-at (r .waits .n) (λ y x. linkIf r x y) b a q p (omega (arith, linkIf-length r a b, ap bit w)) (linkIf-first r a b w);
+      }
 
-  module _ {c : ℕ → ℕ → Selection} (h : AllLinks r c) where
-    pub allLinks-none : firstTo (r .waits .n) (λ x. firstTo (r .waits .n) (c x)) ≡ nobody
-        → (a b : ℕ) → IsProcess (r .waits .n) a → IsProcess (r .waits .n) b → r .link a b ≡ []
-    allLinks-none e = h .all (nested-none (r .waits .n) c e)
+  -- "lowest receiver first and then lowest sender" (02, N11)
+  pub linksOf-order : (k m : ℕ) {a b x y : ℕ} → k < m → linkAt k (linksOf r) ≡ pair a b → linkAt m (linksOf r) ≡ pair x y
+      → (b < y) ⊎ ((b ≡ y) × (a < x))
+  linksOf-order k m {a} {b} {x} {y} u e f =
+      at (nested-order (r .waits .n) (λ y x. linkIf r x y) (λ y x j v. linkIf-named r x y j v .0) (place k e) (place m f) u)
+    where
+      at : (place k e .outer .x < place m f .outer .x) ⊎ ((place k e .outer .x ≡ place m f .outer .x) × (place k e .inner .x < place m f .inner .x))
+          → (b < y) ⊎ ((b ≡ y) × (a < x))
+      at (inl v) = inl (omega (arith, ends k e .1, ends m f .1))
+      at (inr v) = inr (omega (arith, v, ends k e .1, ends m f .1), omega (arith, v, ends k e .0, ends m f .0))
 
-    pub allLinks-pair : {a b : ℕ} → firstTo (r .waits .n) (λ x. firstTo (r .waits .n) (c x)) ≡ pair a b
-        → IsProcess (r .waits .n) a × IsProcess (r .waits .n) b × (waiting (r .link a b) ≡ true)
-    allLinks-pair e = let f = nested-pair (r .waits .n) c e in h .names (f .x) (f .y) (f .x-in) (f .y-in) (f .is)
-
--- an order that takes the first link of two such rows
-pub allLinks-choose : {P M : Type 0} (c : Machine P M → ℕ → ℕ → Selection) → ((r : Machine P M) → AllLinks r (c r))
-    → Chooses {P = P} {M = M} (λ s r. (firstTo (r .waits .n) (λ x. firstTo (r .waits .n) (c r x)), s))
-allLinks-choose c h =
+-- an order that takes a link of such a list, whichever
+pub allLinks-choose : {P M : Type 0} (l : Machine P M → List (ℕ × ℕ)) (place : ℕ → Machine P M → ℕ) (step : ℕ → ℕ)
+    → ((r : Machine P M) → AllLinks r (l r)) → ((s : ℕ) (r : Machine P M) → 0 < length (l r) → place s r < length (l r))
+    → Chooses {P = P} {M = M} (λ s r. (linkAt (place s r) (l r), step s))
+allLinks-choose {P} {M} l place step h inside =
     record {
-      finds = λ s r a b e. let i = allLinks-pair r (h r) e in (i .0, i .1);
-      waits = λ s r a b e. allLinks-pair r (h r) e .2;
-      nothing = λ s r e. allLinks-none r (h r) e;
+      finds = λ s r a b e. let i = h r .names (place s r) e in (i .0, i .1);
+      waits = λ s r a b e. h r .names (place s r) e .2;
+      nothing = λ s r e a b p q. none s r e a b p q (tested (waiting (r .link a b)));
     }
+  where
+    none : (s : ℕ) (r : Machine P M) → linkAt (place s r) (l r) ≡ nobody → (a b : ℕ) → IsProcess (r .waits .n) a → IsProcess (r .waits .n) b
+        → Tested (waiting (r .link a b)) → r .link a b ≡ []
+    none s r e a b p q (failed w) = none-waits (r .link a b) w
+    none s r e a b p q (passed w) =
+        let i = h r .all a b p q w in
+        absurd (linkAt-within (place s r) (l r) (inside s r (omega (arith, i .within))) e)
 
 -- ---- the fixed order
 
-module _ {P M : Type 0} (r : Machine P M) where
-  pub lowest-none : lowest r ≡ nobody → (a b : ℕ) → IsProcess (r .waits .n) a → IsProcess (r .waits .n) b → r .link a b ≡ []
-  unfolding lowest lowestSender
-  lowest-none e = allLinks-none r (by-receivers r) e
+module _ {P M : Type 0} (r : Machine P M) {a b : ℕ} (e : lowest r ≡ pair a b) where
+  pub lowest-first : (x y : ℕ) → IsProcess (r .waits .n) x → IsProcess (r .waits .n) y → waiting (r .link x y) ≡ true → (b < y) ⊎ ((y ≡ b) × (a ≤ x))
+  unfolding lowest
+  lowest-first x y p q w = at (same? (i .k) 0)
+    where
+      i : Standing (linksOf r) x y
+      i = linksOf-all r .all x y p q w
 
-  module _ {a b : ℕ} (e : lowest r ≡ pair a b) where
-    pub lowest-pair : IsProcess (r .waits .n) a × IsProcess (r .waits .n) b × (waiting (r .link a b) ≡ true)
-    unfolding lowest lowestSender
-    lowest-pair = allLinks-pair r (by-receivers r) e
+      after : (b < y) ⊎ ((b ≡ y) × (a < x)) → (b < y) ⊎ ((y ≡ b) × (a ≤ x))
+      after (inl u) = inl u
+      after (inr u) = inr (sym (u .0), omega (arith, u))
 
-    found : Nested (r .waits .n) (λ y x. linkIf r x y) a b
-    unfolding lowest lowestSender
-    found = nested-pair (r .waits .n) (λ y x. linkIf r x y) e
-
-    -- nothing waits before it
-    before : (x y : ℕ) → IsProcess (r .waits .n) x → IsProcess (r .waits .n) y → (y < b) ⊎ ((y ≡ b) × (x < a)) → r .link x y ≡ []
-    before x y p q h = linkIf-empty r x y (found .before y x q p (at h))
-      where
-        at : (y < b) ⊎ ((y ≡ b) × (x < a)) → (y < found .x) ⊎ ((y ≡ found .x) × (x < found .y))
-        at (inl u) = let g = linkIf-pair r (found .y) (found .x) (found .is) in inl (omega (arith, g .1))
-        at (inr u) = let g = linkIf-pair r (found .y) (found .x) (found .is) in inr (omega (arith, g .1), omega (arith, g .0))
-
-    pub lowest-first : (x y : ℕ) → IsProcess (r .waits .n) x → IsProcess (r .waits .n) y → waiting (r .link x y) ≡ true → (b < y) ⊎ ((y ≡ b) × (a ≤ x))
-    lowest-first x y p q w = at (below? b y) (same? y b) (below? x a)
-      where
-        gone : (y < b) ⊎ ((y ≡ b) × (x < a)) → ⊥
-        gone h = false≢true (ap (λ (ms : List M). waiting ms) (sym (before x y p q h)) ∙ w)
-
-        at : Below b y → Same y b → Below x a → (b < y) ⊎ ((y ≡ b) × (a ≤ x))
-        at (below u _) _ _ = inl u
-        at (beyond u _) (apart v _) _ = absurd (gone (inl (omega arith)))
-        at (beyond u _) (same v _) (below t _) = absurd (gone (inr (v, t)))
-        at (beyond u _) (same v _) (beyond t _) = inr (v, omega arith)
+      at : Same (i .k) 0 → (b < y) ⊎ ((y ≡ b) × (a ≤ x))
+      at (same z _) = let f = pair-ends (sym e ∙ ap (λ (k : ℕ). linkAt k (linksOf r)) (sym z) ∙ i .is) in inr (sym (f .1), omega (arith, f .0))
+      at (apart z _) = after (linksOf-order r 0 (i .k) (omega arith) e (i .is))
 
 pub fixedOrder-chooses : {P M : Type 0} → Chooses {P = P} {M = M} fixedOrder
-unfolding lowest lowestSender
-fixedOrder-chooses = allLinks-choose (λ r y x. linkIf r x y) by-receivers
+unfolding lowest
+fixedOrder-chooses = allLinks-choose linksOf (λ s r. 0) (λ s. s) linksOf-all (λ s r u. u)
 
 pub fixedOrder-finds : {P M : Type 0} → Finds {P = P} {M = M} fixedOrder
 fixedOrder-finds = fixedOrder-chooses .finds
+
+-- ---- the shuffled order
+
+pub shuffledOrder-chooses : {P M : Type 0} → Chooses {P = P} {M = M} shuffledOrder
+unfolding drawn
+shuffledOrder-chooses =
+    allLinks-choose linksOf (λ s r. movedOn s % length (linksOf r)) movedOn linksOf-all (λ s r u. mod-lt (movedOn s) u)
+
+pub drawn-zero : {P M : Type 0} (r : Machine P M) → drawn 0 r ≡ lowest r
+unfolding drawn lowest
+drawn-zero r = ap (λ (k : ℕ). linkAt k (linksOf r)) (zero-mod (length (linksOf r)))
+
+-- "without one it is what it was": the fixed order is the shuffled one from state 0, which stays 0
+pub shuffled-zero : {P M : Type 0} (ρ : Rules P M) (k made : ℕ) (r : Machine P M)
+    → runFrom ρ shuffledOrder k made 0 r ≡ runFrom ρ fixedOrder k made 0 r
+unfolding runFrom
+shuffled-zero ρ zero made r = refl
+shuffled-zero {P} {M} ρ (suc k) made r = at (tested (over ρ r)) (λ q. shuffled-zero ρ k (suc made) q)
+  where
+    at : Tested (over ρ r) → ((q : Machine P M) → runFrom ρ shuffledOrder k (suc made) 0 q ≡ runFrom ρ fixedOrder k (suc made) 0 q)
+        → runFrom ρ shuffledOrder (suc k) made 0 r ≡ runFrom ρ fixedOrder (suc k) made 0 r
+    at (passed o) go = from-over ρ shuffledOrder 0 r (suc k) made o ∙ sym (from-over ρ fixedOrder 0 r (suc k) made o)
+    at (failed o) go =
+        let first : ℕ → RanOn P M = λ s. goOn made (deliverOn ρ r (drawn s r)) (λ q. runFrom ρ shuffledOrder k (suc made) s q) in
+        from-more ρ shuffledOrder 0 r k made o ∙ ap first movedOn-zero
+        ∙ ap (λ (c : Selection). goOn made (deliverOn ρ r c) (λ q. runFrom ρ shuffledOrder k (suc made) 0 q)) (drawn-zero r)
+        ∙ ap (λ (rest : Machine P M → RanOn P M). goOn made (deliverOn ρ r (lowest r)) rest) (λ i q. go q i)
+        ∙ sym (from-more ρ fixedOrder 0 r k made o)

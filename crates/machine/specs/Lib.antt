@@ -15,6 +15,7 @@ pub mod Among
 pub mod Moved
 pub mod Diffusing
 pub mod Upheld
+pub mod LinkListLaws
 pub mod ChooserLaws
 pub mod FormedLaws
 pub mod MadeLaws

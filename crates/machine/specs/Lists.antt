@@ -1,5 +1,5 @@
--- Lists of the four calls (01, "The end of a check"), for any check, on a run or on whatever holds one.
---   Call               == "a pick, running on, the report, reading a process's record"
+-- Lists of calls (01, "The end of a check"; 02, N13), for any check, on a run or on whatever holds one.
+--   Call               == "a pick, running on, the report, reading a process's record"; and running on with a seed (02, N13)
 --   Passed S           == what a list leaves, the number A, and the numbers that its calls answered
 --   inTurn one cs s    == the calls cs from s on, one after the other: "each call gets the area as the last one left it"
 --   Reads P M          == the number that a report, and the reading of a record, answers: both leave the run as it is
@@ -14,13 +14,14 @@ use mathlib.Core.Path.{_≡_}
 use lib.ListN.{length}
 use Rattle.tables.specs.{Table.IsProcess, Waits.Waits}
 use Rattle.machine.specs.Machine.{Machine, Rules}
-use Rattle.machine.specs.Calls.{Answer, given, refusal, cut, atPlace, Chooser, pick, runOn, ranNumber, ranMade}
+use Rattle.machine.specs.Calls.{Answer, given, refusal, cut, atPlace, Chooser, pick, runOn, runShuffled, ranNumber, ranMade}
 
 -- "The lists of demand 3 hold four calls: a pick, running on, the report, reading a process's record."
--- a pick names a sender, a receiver and a place (02, N5)
+-- a pick names a sender, a receiver and a place (02, N5); a shuffled running on the number of deliveries and the seed (02, N13)
 pub data Call : Type 0 where
   picking : ℕ → ℕ → ℕ → Call
   runningOn : ℕ → Call
+  runningShuffled : ℕ → ℕ → Call
   reporting : Call
   reading : ℕ → Call
 
@@ -62,6 +63,12 @@ module _ {P M : Type 0} (ρ : Rules P M) (next : Chooser P M) (asked : Reads P M
       record { left = pick ρ r a b k .run; made = acceptedPick (pick ρ r a b k .answer); numbers = answerNumber (pick ρ r a b k .answer) ∷ [] }
   passedBy (runningOn k) r =
       record { left = runOn ρ next k 0 r .run; made = ranMade (runOn ρ next k 0 r .answer); numbers = ranNumber (runOn ρ next k 0 r .answer) ∷ [] }
+  passedBy (runningShuffled k seed) r =
+      record {
+        left = runShuffled ρ k seed r .run;
+        made = ranMade (runShuffled ρ k seed r .answer);
+        numbers = ranNumber (runShuffled ρ k seed r .answer) ∷ [];
+      }
   passedBy reporting r = record { left = r; made = 0; numbers = asked .report r ∷ [] }
   passedBy (reading p) r = record { left = r; made = 0; numbers = asked .reading r p ∷ [] }
 

@@ -30,7 +30,7 @@ pub data Stopped {P M : Type 0} (ρ : Rules P M) (r : Machine P M) : ℕ → Typ
   full : (a b : ℕ) → IsProcess (r .waits .n) a → IsProcess (r .waits .n) b →
       (m : M) (rest : List M) → Among m rest (r .link a b) → accepts ρ r a b m rest ≡ false → Stopped ρ r 22
 
--- "Refused because of the state", but for 21 and 22, which no run made by start and deliveries meets; and 31 (02, N5)
+-- "Refused because of the state", but for 21 and 22, which no run made by start and deliveries meets; 31 (02, N5) and 37 (02, N13)
 pub data Answered : ℕ → Type 0 where
   none-refused : Answered 0
   was-over : Answered 23
@@ -38,6 +38,7 @@ pub data Answered : ℕ → Type 0 where
   no-link : Answered 25
   not-over : Answered 26
   beyond : Answered 31
+  no-seed : Answered 37
 
 -- a chooser names processes alone
 abbrev pub Finds : {P M : Type 0} → Chooser P M → Type 0

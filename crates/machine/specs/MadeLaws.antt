@@ -4,7 +4,7 @@
 --   made-then           == deliveries after deliveries
 --   made-keeps          == what every accepted delivery keeps holds after any number of them
 --   deliver-cut, deliver-oldest   == a delivery by what is found at its place; place 1 is the oldest message
---   deliver-made, pick-made, runFrom-made, runOn-made   == what a call does, as deliveries, and the number that it answers
+--   deliver-made, pick-made, runFrom-made, runOn-made, runShuffled-made   == what a call does, as deliveries, and the number that it answers
 --   passed-made         == every list of calls is so many accepted deliveries, and keeps such an invariant; its numbers are Answered
 -- Assumes nothing.
 use Prim.Native.Nat.{ℕ, zero, suc, _+_}
@@ -13,6 +13,7 @@ use mathlib.Core.List.{List, [], _∷_, List·Memᴰ, List·Memᴰ·head, List·
 use mathlib.Core.Path.{_≡_, refl, sym, _∙_, subst}
 use mathlib.Core.Logic.{⊎-elim}
 use native.Mathlib.Omega.{arith}
+use lib.Dec.{eqb}
 use Rattle.base.specs.Choice.{choose}
 use Rattle.base.specs.ChoiceLaws.{tested}
 use Rattle.base.specs.Checks.{Tested, passed, failed}
@@ -24,24 +25,28 @@ use Rattle.machine.specs.declared.Ran.{Ran}
 use Rattle.machine.specs.declared.Ran.the-variants.{Spent}
 use Rattle.machine.specs.Machine.{Machine, Rules, over, wellFormed, after, accepts}
 use Rattle.machine.specs.Calls.{Answer, given, refusal, Picked, refused, Cut, cut, behind, atPlace, delivered, deliver, pick}
-use Rattle.machine.specs.Calls.{Selection, nobody, pair, Chooser, RanOn, goOn, deliverOn, runFrom, runOn, ranNumber, ranMade}
-use Rattle.machine.specs.Lists.{Call, picking, runningOn, reporting, reading, Reads, acceptedPick, answerNumber, inTurn, passedBy}
+use Rattle.machine.specs.Calls.{Selection, nobody, pair, Chooser, RanOn, notRun, goOn, deliverOn, runFrom, runOn, ranNumber, ranMade}
+use Rattle.machine.specs.Calls.{shuffledOrder, runShuffled}
+use Rattle.machine.specs.Lists.{Call, picking, runningOn, runningShuffled, reporting, reading, Passed, Reads, acceptedPick, answerNumber, inTurn, passedBy}
 use Rattle.machine.specs.Made.{Made, none, more, Stopped, went, nothing, no-place, full}
-use Rattle.machine.specs.Made.{Answered, none-refused, was-over, none-waits, no-link, not-over, beyond}
+use Rattle.machine.specs.Made.{Answered, none-refused, was-over, none-waits, no-link, not-over, beyond, no-seed}
 use Rattle.machine.specs.Made.{Finds, PickMade, RunMade, Sure, PassMade}
+use Rattle.machine.specs.ChooserLaws.{shuffledOrder-chooses}
 use Rattle.machine.specs.Among.{Among, Placed, there, not-there}
 use Rattle.machine.specs.AmongLaws.{between-among, atPlace-P, cut-placed}
 
 -- ---- numbers
 
 -- the numbers that a call may answer, in a list
-pub answered-listed : {n : ℕ} → Answered n → List·Memᴰ n (0 ∷ 23 ∷ 24 ∷ 25 ∷ 26 ∷ 31 ∷ [])
+pub answered-listed : {n : ℕ} → Answered n → List·Memᴰ n (0 ∷ 23 ∷ 24 ∷ 25 ∷ 26 ∷ 31 ∷ 37 ∷ [])
 answered-listed none-refused = List·Memᴰ·head refl
 answered-listed was-over = List·Memᴰ·tail (List·Memᴰ·head refl)
 answered-listed none-waits = List·Memᴰ·tail (List·Memᴰ·tail (List·Memᴰ·head refl))
 answered-listed no-link = List·Memᴰ·tail (List·Memᴰ·tail (List·Memᴰ·tail (List·Memᴰ·head refl)))
 answered-listed not-over = List·Memᴰ·tail (List·Memᴰ·tail (List·Memᴰ·tail (List·Memᴰ·tail (List·Memᴰ·head refl))))
 answered-listed beyond = List·Memᴰ·tail (List·Memᴰ·tail (List·Memᴰ·tail (List·Memᴰ·tail (List·Memᴰ·tail (List·Memᴰ·head refl)))))
+answered-listed no-seed =
+    List·Memᴰ·tail (List·Memᴰ·tail (List·Memᴰ·tail (List·Memᴰ·tail (List·Memᴰ·tail (List·Memᴰ·tail (List·Memᴰ·head refl))))))
 
 -- ---- deliveries
 
@@ -182,17 +187,32 @@ module _ {P M : Type 0} (ρ : Rules P M) (next : Chooser P M) (finds : Finds nex
           rw e (goOn-made ρ r before (deliverOn ρ r (next s r .0)) (λ q. runFrom ρ next k (suc before) (next s r .1) q)
           (deliverOn-made ρ r (next s r .0) (finds s r)) go)
 
-  -- running on from any run: so many deliveries as it says
+  -- so many deliveries as it says
+  from-made : (k s : ℕ) (r : Machine P M) → Made ρ r (ranMade (runFrom ρ next k 0 s r .answer)) (runFrom ρ next k 0 s r .run)
+  from-made k s r =
+      let p : RunMade ρ r 0 (runFrom ρ next k 0 s r) = runFrom-made k 0 s r in
+      let same : ranMade (runFrom ρ next k 0 s r .answer) ≡ p .k = omega (arith, p .all) in
+      rw same (p .made)
+
+  -- running on from any run
   pub runOn-made : (k s : ℕ) (r : Machine P M) → Made ρ r (ranMade (runOn ρ next k s r .answer)) (runOn ρ next k s r .run)
   unfolding runOn
   runOn-made k s r = at (tested (wellFormed ρ r))
     where
       at : Tested (wellFormed ρ r) → Made ρ r (ranMade (runOn ρ next k s r .answer)) (runOn ρ next k s r .run)
       at (failed f) = rw f none
-      at (passed f) =
-          let p : RunMade ρ r 0 (runFrom ρ next k 0 s r) = runFrom-made k 0 s r in
-          let same : ranMade (runFrom ρ next k 0 s r .answer) ≡ p .k = omega (arith, p .all) in
-          rw f (rw same (p .made))
+      at (passed f) = rw f (from-made k s r)
+
+-- the same with a seed
+module _ {P M : Type 0} (ρ : Rules P M) where
+  pub runShuffled-made : (k seed : ℕ) (r : Machine P M) → Made ρ r (ranMade (runShuffled ρ k seed r .answer)) (runShuffled ρ k seed r .run)
+  unfolding runShuffled
+  runShuffled-made k seed r = at (tested (wellFormed ρ r)) (tested (eqb seed 0))
+    where
+      at : Tested (wellFormed ρ r) → Tested (eqb seed 0) → Made ρ r (ranMade (runShuffled ρ k seed r .answer)) (runShuffled ρ k seed r .run)
+      at (failed f) _ = rw f none
+      at (passed f) (passed z) = rw (f, z) none
+      at (passed f) (failed z) = rw (f, z) (from-made ρ shuffledOrder (shuffledOrder-chooses .finds) k seed r)
 
 -- ---- lists
 
@@ -224,19 +244,30 @@ module _ {P M : Type 0} (ρ : Rules P M) (next : Chooser P M) (asked : Reads P M
           let d = deliver-made ρ r a b k (j .0, j .1) (j .2, j .3) (r .link a b) refl in
           rw (e, o) (record { made = d .made; answered = stopped-answered r i (d .stopped) })
 
+  -- the deliveries of a running on in any order, from any state
+  abbrev ranBy : RanOn P M → Passed (Machine P M)
+  ranBy x = record { left = x .run; made = ranMade (x .answer); numbers = ranNumber (x .answer) ∷ [] }
+
+  ran-made : (order : Chooser P M) → Finds order → (k s : ℕ) (r : Machine P M) → I r → PassMade ρ r (ranBy (runFrom ρ order k 0 s r))
+  ran-made order named k s r i =
+      let p : RunMade ρ r 0 (runFrom ρ order k 0 s r) = runFrom-made ρ order named k 0 s r in
+      record {
+        made = from-made ρ order named k s r;
+        answered =
+            single (ranNumber (runFrom ρ order k 0 s r .answer))
+            (stopped-answered (runFrom ρ order k 0 s r .run) (made-keeps I (sure .kept) i (p .made)) (p .stopped));
+      }
+
   call-made : (c : Call) (r : Machine P M) → I r → PassMade ρ r (passedBy ρ next asked c r)
-  unfolding runOn
+  unfolding runOn runShuffled
   call-made (picking a b k) r i =
       let p = pick-answered r i a b k in record { made = p .made; answered = single (answerNumber (pick ρ r a b k .answer)) (p .answered) }
-  call-made (runningOn k) r i =
-      let p : RunMade ρ r 0 (runFrom ρ next k 0 0 r) = runFrom-made ρ next finds k 0 0 r in
-      let same : ranMade (runFrom ρ next k 0 0 r .answer) ≡ p .k = omega (arith, p .all) in
-      rw (sure .formed r i) (record {
-        made = rw same (p .made);
-        answered =
-            single (ranNumber (runFrom ρ next k 0 0 r .answer))
-            (stopped-answered (runFrom ρ next k 0 0 r .run) (made-keeps I (sure .kept) i (p .made)) (p .stopped));
-      })
+  call-made (runningOn k) r i = rw (sure .formed r i) (ran-made next finds k 0 r i)
+  call-made (runningShuffled k seed) r i = rw (sure .formed r i) (at (tested (eqb seed 0)))
+    where
+      at : Tested (eqb seed 0) → PassMade ρ r (ranBy (choose (eqb seed 0) (notRun 37 r) (runFrom ρ shuffledOrder k 0 seed r)))
+      at (passed z) = rw z (record { made = none; answered = single 37 no-seed })
+      at (failed z) = rw z (ran-made shuffledOrder (shuffledOrder-chooses .finds) k seed r i)
   call-made reporting r i = record { made = none; answered = single (asked .report r) (sure .reports r i) }
   call-made (reading p) r i = record { made = none; answered = single (asked .reading r p) (sure .readings r i p) }
 

@@ -23,11 +23,17 @@ const LATE: usize = 6;
 const MIXED: usize = 7;
 // Picks of all links in turn, in rounds.
 const ROUNDS: usize = 8;
+// Running on with a drawn seed (02, N13), at once.
+const SHUFFLED: usize = 9;
+// Running on with a seed by a few deliveries at a time, each time with one drawn anew; now and then with the same one again.
+const SHUFFLED_PIECES: usize = 10;
+// Picks in turn, and such pieces between them.
+const SHUFFLED_MIXED: usize = 11;
 
 // So many orders of the links, in which picks take the oldest message. With so many added once, twice or three times, a number names the
 // same order of the links, but its picks overtake wherever two messages wait (02, N5): on each link they try one place after the other
 // downwards until they take a message, and go on below it now and then.
-const ORDERS: usize = 9;
+const ORDERS: usize = 12;
 // Added once: from place 4 down, so the youngest first.
 const YOUNGEST: usize = 1;
 // Added twice: from place 2 down, so from the middle where more than two wait.
@@ -39,12 +45,15 @@ const ANY: usize = 3;
 const STEPS: [usize; 8] = [1031, 1033, 1039, 1049, 1051, 1061, 1063, 1069];
 
 // The calls past the end: fixed ones, then drawn ones.
-const FIXED: usize = 14;
+const FIXED: usize = 17;
 
 const DRAWN: usize = 6;
 
 // Areas of fewer words are small: 600, and sixteen surplus ones.
 pub const SMALL: usize = 616;
+
+// Areas of fewer words are those of few: every one of up to 3 processes is.
+const FEW: usize = 240;
 
 // What stays the same through a run: N, the order of the links and from which places its picks go down; the first link of the row and the step; after
 // about how many deliveries the order goes back to the first; for how many tries in vain it keeps to its own choice.
@@ -58,8 +67,8 @@ pub struct Way {
     pub patience: usize,
 }
 
-// How a run stands: its start; A of 01; D, as the search found it; the sucs and pres that picks delivered, and how many deliveries overtook;
-// the last random number; the link tried last, as its place in the list, and the place below the one tried there, 0 if no message is known to
+// How a run stands: its start; A of 01; D, as the search found it; the sucs and pres that picks delivered, how many deliveries overtook, and how
+// many running on with a seed made; the last random number; the link tried last, as its place in the list, and the place below the one tried there, 0 if no message is known to
 // wait on that link; the receiver of the last delivery by a pick, before it the start, and the tries since; which call past the end is next, 0
 // before the end; the first difference.
 pub struct Course {
@@ -69,6 +78,7 @@ pub struct Course {
     pub sucs: u32,
     pub pres: u32,
     pub overtaking: u32,
+    pub shuffled: u32,
     pub seed: usize,
     pub link: usize,
     pub lower: usize,
@@ -85,14 +95,17 @@ pub const RUN_ON: usize = 1;
 
 const READ: usize = 2;
 
-// A call: its kind, the numbers and the place of a pick, the first number being what a reading reads, and by how many to run on; the link
-// tried last, and whether the order itself picks from it.
+pub const RUN_SHUFFLED: usize = 3;
+
+// A call: its kind, the numbers and the place of a pick, the first number being what a reading reads, by how many to run on and with which
+// seed; the link tried last, and whether the order itself picks from it.
 pub struct Call {
     pub kind: usize,
     pub from: usize,
     pub to: usize,
     pub place: usize,
     pub k: u32,
+    pub seed: u32,
     pub link: usize,
     pub own: bool,
 }
@@ -107,11 +120,16 @@ pub fn overtaking(order: usize, x: usize) -> usize {
     links + added
 }
 
+// An order by running on with a seed, by a random number.
+pub fn shuffled(x: usize) -> usize {
+    SHUFFLED + x % 3
+}
+
 // Whether picks make every delivery of an order.
 pub fn is_by_picks(order: usize) -> bool {
     let links = order % ORDERS;
     match links {
-        AT_ONCE | PIECES | MIXED => false,
+        AT_ONCE | PIECES | MIXED | SHUFFLED | SHUFFLED_PIECES | SHUFFLED_MIXED => false,
         _ => true,
     }
 }
@@ -219,8 +237,8 @@ fn next_link(list: &[u16], way: Way, c: Course) -> usize {
 // Whether the order runs on now.
 fn is_running(order: usize, x: usize) -> bool {
     match order {
-        AT_ONCE | PIECES => true,
-        MIXED => x % 4 == 0,
+        AT_ONCE | PIECES | SHUFFLED | SHUFFLED_PIECES => true,
+        MIXED | SHUFFLED_MIXED => x % 4 == 0,
         _ => false,
     }
 }
@@ -228,10 +246,27 @@ fn is_running(order: usize, x: usize) -> bool {
 // By how many.
 fn portion(order: usize, x: usize) -> u32 {
     match order {
-        AT_ONCE => u32::MAX,
-        PIECES => (x % 7) as u32,
+        AT_ONCE | SHUFFLED => u32::MAX,
+        PIECES | SHUFFLED_PIECES => (x % 7) as u32,
         _ => (x / 4 % 3) as u32,
     }
+}
+
+// A seed by a random number: any 32 bits but 0.
+fn seed_of(x: usize) -> u32 {
+    let seed = (x % 65536) as u32 * 65536 + (numbers::next(x) % 65536) as u32;
+    if seed == 0 {
+        return 1;
+    }
+    seed
+}
+
+// The seed to run on with: now and then the one that stays the same through a run.
+fn next_seed(way: Way, x: usize) -> u32 {
+    if x / 64 % 4 == 0 {
+        return seed_of(way.first);
+    }
+    seed_of(numbers::next(x))
 }
 
 // The place that is tried first on a link.
@@ -251,6 +286,7 @@ fn pick(from: usize, to: usize, place: usize, link: usize) -> Call {
         to,
         place,
         k: 0,
+        seed: 0,
         link,
         own: false,
     }
@@ -263,6 +299,20 @@ fn run_on(k: u32, link: usize) -> Call {
         to: 0,
         place: 0,
         k,
+        seed: 0,
+        link,
+        own: false,
+    }
+}
+
+fn run_shuffled(k: u32, seed: u32, link: usize) -> Call {
+    Call {
+        kind: RUN_SHUFFLED,
+        from: 0,
+        to: 0,
+        place: 0,
+        k,
+        seed,
         link,
         own: false,
     }
@@ -275,6 +325,7 @@ fn read(p: usize, link: usize) -> Call {
         to: 0,
         place: 0,
         k: 0,
+        seed: 0,
         link,
         own: false,
     }
@@ -287,6 +338,15 @@ fn own_pick(list: &[u16], l: usize, place: usize) -> Call {
     call
 }
 
+// The order's own running on, by a random number.
+fn own_run(way: Way, x: usize, link: usize) -> Call {
+    let k = portion(way.order, x);
+    if way.order >= SHUFFLED {
+        return run_shuffled(k, next_seed(way, x), link);
+    }
+    run_on(k, link)
+}
+
 // The order's own call.
 fn own_call(list: &[u16], way: Way, c: Course) -> Call {
     let x = c.seed / 64;
@@ -294,7 +354,7 @@ fn own_call(list: &[u16], way: Way, c: Course) -> Call {
         return own_pick(list, c.link, c.lower);
     }
     if is_running(way.order, x) {
-        return run_on(portion(way.order, x), c.link);
+        return own_run(way, x, c.link);
     }
     own_pick(list, next_link(list, way, c), highest(way.places, x))
 }
@@ -310,24 +370,40 @@ fn any_place(x: usize) -> usize {
     }
 }
 
-// Another call, on any numbers from 0 to N + 1: a pick, a reading, or running on by nothing.
+// Running on that makes nothing, by a random number: by nothing, without a seed or with one, or with seed 0 by nothing, by a few or by all.
+fn other_run(x: usize, link: usize) -> Call {
+    let number = x % 8;
+    match number {
+        0 => run_shuffled(0, seed_of(x / 8), link),
+        1 => run_shuffled(0, 0, link),
+        2 => run_shuffled((x / 8 % 4) as u32, 0, link),
+        3 => run_shuffled(u32::MAX, 0, link),
+        _ => run_on(0, link),
+    }
+}
+
+// Another call, on any numbers from 0 to N + 1: a pick, a reading, or running on that makes nothing.
 fn other_call(n: usize, c: Course) -> Call {
     let x = numbers::next(c.seed);
     let y = numbers::next(x);
     let bound = numbers::more(numbers::more(n));
+    if x % 3 == RUN_ON {
+        return other_run(y, c.link);
+    }
     Call {
         kind: x % 3,
         from: numbers::below(x / 3, bound),
         to: numbers::below(y, bound),
         place: any_place(numbers::next(y)),
         k: 0,
+        seed: 0,
         link: c.link,
         own: false,
     }
 }
 
 // The calls past the end that come up in every run: running on, picks along the list's first wait, against it and of no link, also at
-// places that no message has, readings of no process.
+// places that no message has, readings of no process, and running on with seed 0 and with another one.
 fn fixed_call(list: &[u16], n: usize, c: Course) -> Call {
     let p = graphs::entry(list, 0);
     let q = graphs::entry(list, 1);
@@ -346,7 +422,10 @@ fn fixed_call(list: &[u16], n: usize, c: Course) -> Call {
         11 => pick(q, p, 5, c.link),
         12 => pick(0, p, 0, c.link),
         13 => pick(p, 129, usize::MAX, c.link),
-        _ => read(129, c.link),
+        14 => read(129, c.link),
+        15 => run_shuffled(0, 0, c.link),
+        16 => run_shuffled(5, 0, c.link),
+        _ => run_shuffled(u32::MAX, seed_of(c.seed), c.link),
     }
 }
 
@@ -432,8 +511,14 @@ pub fn is_looked_into(words: usize, call: Call, c: Course) -> bool {
     x % 4 == 0
 }
 
-// Whether what running on leaves is compared with what picks in the fixed order leave, in an area of so many words: in small areas, before the
-// end.
+// Whether what running on leaves is compared with what picks leave in the same order, in an area of so many words: in small areas, before the
+// end; with a seed every time in those of few words, else now and then.
 pub fn is_followed(words: usize, call: Call, c: Course) -> bool {
-    call.k > 0 && c.past == 0 && words < SMALL
+    if call.k == 0 || c.past > 0 || words >= SMALL {
+        return false;
+    }
+    if call.kind == RUN_ON {
+        return true;
+    }
+    call.seed > 0 && (words < FEW || numbers::next(c.seed / 2) % 2 == 0)
 }

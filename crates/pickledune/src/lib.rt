@@ -6,6 +6,7 @@ mod table_values;
 
 use runs::picking;
 use runs::running;
+use runs::shuffled;
 use steps::Process;
 use steps::TwoCounts;
 ghost use mathlib.Core.Path.{_≡_};
@@ -18,7 +19,7 @@ ghost use Rattle.pickledune.specs.Values.{deliveryKind, deliveryCounts, 
 ghost use Rattle.pickledune.specs.Values.{reportReturned, readingProcess};
 ghost use Rattle.machine.specs.Calls.{ranNumber, ranMade};
 ghost use Rattle.starting.specs.StartCall.{startAnswer, startArea};
-ghost use Rattle.area_calls.specs.AreaCalls.{pickAnswer, pickArea, runOnAnswer, runOnArea, reportAnswer, readAnswer};
+ghost use Rattle.area_calls.specs.AreaCalls.{pickAnswer, pickArea, runOnAnswer, runOnArea, shuffledAnswer, shuffledArea, reportAnswer, readAnswer};
 ghost use Rattle.pickledune.specs.Interface.{chainOf, messageOf, processOf, StepTold};
 
 // Reads a table: its N and M. 1 to 7.
@@ -124,6 +125,26 @@ pub extern "C" fn pickledune_run_on(area: &mut [i32], k: u32, over: &mut u32, ma
     ensures area { λ _. ⌜ now (area .exit) ≡ runOnArea k (now (area .entry)) ⌝ }
 {
     let v = check_values::ran_values(running::run_on(area, k));
+    *over = v.over;
+    *made = v.made;
+    v.number
+}
+
+// The same in the order that a seed gives. 21, 37, 24, 22.
+#[no_mangle]
+pub extern "C" fn pickledune_run_shuffled(
+    area: &mut [i32],
+    k: u32,
+    seed: u32,
+    over: &mut u32,
+    made: &mut u32,
+) -> u32
+    ensures number { λ r. ⌜ r ≡ ranNumber (shuffledAnswer k seed (now (area .entry))) ⌝ }
+    ensures over { λ _. ⌜ now (over .exit) ≡ ranOver (shuffledAnswer k seed (now (area .entry))) ⌝ }
+    ensures made { λ _. ⌜ now (made .exit) ≡ ranMade (shuffledAnswer k seed (now (area .entry))) ⌝ }
+    ensures area { λ _. ⌜ now (area .exit) ≡ shuffledArea k seed (now (area .entry)) ⌝ }
+{
+    let v = check_values::ran_values(shuffled::run_shuffled(area, k, seed));
     *over = v.over;
     *made = v.made;
     v.number

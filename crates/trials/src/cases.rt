@@ -10,8 +10,8 @@ use ordering::Course;
 use table_writer::Writing;
 
 // What a family adds up to: its cases, how many of them the search finds to be knots by the first edition and by the second, and to be returned
-// (02, N3), the runs, their deliveries and how many of these overtook; the last random number. The case at hand: N, the start and how many runs
-// it is to have; edition, order, A, D and difference of the last run.
+// (02, N3), the runs, their deliveries, how many of these overtook and how many running on with a seed made; the last random number. The case at
+// hand: N, the start and how many runs it is to have before the shuffled one; edition, order, A, D and difference of the last run.
 pub struct Tally {
     pub cases: u64,
     pub first: u64,
@@ -20,6 +20,7 @@ pub struct Tally {
     pub runs: u64,
     pub deliveries: u64,
     pub overtaking: u64,
+    pub shuffled: u64,
     pub seed: usize,
     pub n: usize,
     pub start: usize,
@@ -40,6 +41,7 @@ pub fn begun(seed: usize) -> Tally {
         runs: 0,
         deliveries: 0,
         overtaking: 0,
+        shuffled: 0,
         seed,
         n: 0,
         start: 0,
@@ -75,13 +77,23 @@ fn searched(t: Tally, e: Expected) -> Tally {
     u
 }
 
-// One more run.
-fn added(t: Tally, edition: usize, order: usize, c: Course) -> Tally {
+// The random number after run k + 1 of a case: the next one. The shuffled run leaves the one that it began with, so that it has no part in
+// which cases are drawn.
+fn seed_after(k: usize, t: Tally) -> usize {
+    if k == t.count {
+        return t.seed;
+    }
+    numbers::next(t.seed)
+}
+
+// One more run, with the random number after it.
+fn added(t: Tally, edition: usize, order: usize, seed: usize, c: Course) -> Tally {
     let mut u = t;
     u.runs = numbers::total(t.runs, 1);
     u.deliveries = numbers::total(t.deliveries, c.made as u64);
     u.overtaking = numbers::total(t.overtaking, c.overtaking as u64);
-    u.seed = numbers::next(t.seed);
+    u.shuffled = numbers::total(t.shuffled, c.shuffled as u64);
+    u.seed = seed;
     u.edition = edition;
     u.order = order;
     u.made = c.made;
@@ -91,10 +103,13 @@ fn added(t: Tally, edition: usize, order: usize, c: Course) -> Tally {
 }
 
 // The order of run k + 1 of a case: first the fixed order at once, then the others in turn, beginning at another one in each case. The last
-// run overtakes (02, N5).
+// but one overtakes (02, N5), and the last runs on with seeds (02, N13).
 fn order_of(k: usize, t: Tally) -> usize {
     if k == 0 {
         return ordering::AT_ONCE;
+    }
+    if k == t.count {
+        return ordering::shuffled(numbers::next(t.seed));
     }
     let order = 1 + (k % 8 + (t.cases % 8) as usize) % 8;
     if numbers::more(k) == t.count {
@@ -126,11 +141,12 @@ fn one_run(
         t,
         edition,
         order,
+        seed_after(k, t),
         comparing::run(area, table, list, found, under, order, t.seed),
     )
 }
 
-// The runs of a case, at most sixteen.
+// The runs of a case, at most sixteen, the shuffled one among them.
 fn every_run(
     area: &mut [i32],
     table: &[u8],
@@ -141,7 +157,7 @@ fn every_run(
 ) -> Tally {
     let mut u = t;
     for k in 0..16usize {
-        if u.fault != 0 || k >= u.count {
+        if u.fault != 0 || k > u.count {
             return u;
         }
         u = one_run(area, table, list, found, e, k, u);

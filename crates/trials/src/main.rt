@@ -2,10 +2,13 @@
 // from it (the crate `searching`).
 //
 // A case is a wait graph and a start. Its table is written by the library and read by the search, from the bytes. It is run in the fixed
-// order and in many other orders by picks (the crate `comparing`), with refused picks, readings and runnings on by nothing among them.
-// The last run of each case overtakes: its picks take younger messages first wherever two wait on a link (02, N5), and the line of a family
-// says how many deliveries did. In small areas the messages on a link are looked at, in a copy, before and after some picks, and running on leaves
-// what as many picks leave in a copy, lowest receiver first and then lowest sender (02, N11).
+// order, in many other orders by picks (the crate `comparing`) and in one by seeds, with refused picks, readings, runnings on by nothing and
+// refused ones with seed 0 among them.
+// The last run but one of each case overtakes: its picks take younger messages first wherever two wait on a link (02, N5), and the line of a
+// family says how many deliveries did. The last runs on with drawn seeds (02, N13), at once or in pieces, maybe with picks between them, and the
+// line says how many deliveries these made. In small areas the messages on a link are looked at, in a copy, before and after some picks. There
+// running on leaves what as many picks leave in a copy, lowest receiver first and then lowest sender (02, N11), or from the links that the states
+// of the seed name, counted in that order; and in another copy it does the same again.
 // The runs of a case name the two editions in turn (02, N4), and the line of a family says how many cases are knots by each; all else is
 // expected to be the same under both. It also says how many cases are returned (02, N3): every knot by the second edition is among them, those
 // that are knots by the first alone are not, and the others are no knots.
@@ -43,6 +46,7 @@ fn print_tally(f: Family, t: Tally) {
     print_number(b", runs ", t.runs);
     print_number(b", deliveries ", t.deliveries);
     print_number(b", overtaking ", t.overtaking);
+    print_number(b", shuffled ", t.shuffled);
     print(b"\n");
 }
 

@@ -1,169 +1,175 @@
--- `choosing::choose` meets its contract. The outer loop's invariant: nothing waits for a receiver before b; the inner one's: nothing waits for b
--- from a sender before a; both hold where the loops begin. Until the loops are left by label `from` is 0. The measures are what is left.
+-- `choosing::choose` meets its contract. The outer loop's invariant: the links to the receivers before b, and those left, are the place; the inner
+-- loop stands at the sender that was found, on whose link a message waits, and is left there. Until the loops are left by label `from` is 0.
+-- The measures are what is left.
 -- Assumes nothing.
 use Prim.Native.Nat.{ℕ, _+_, _-_, _≤_, _<_}
+use mathlib.Core.Bool.{true, false≢true}
+use mathlib.Core.List.{List}
 use mathlib.Core.Path.{_≡_, refl, sym, ap, _∙_}
 use mathlib.Core.Logic.{⊎-elim}
 use native.Mathlib.Omega.{arith}
 use borrow.Author.Needs.{needs}
 use lib.ListN.{length, getD}
-use Rattle.base.specs.ChoiceLaws.{same?}
-use Rattle.base.specs.Checks.{Same, same, apart}
+use lib.IntN.{ℤ}
+use Rattle.base.specs.Sums.{countTo}
 use Rattle.tables.specs.Table.{mostProcesses, IsProcess}
 use Rattle.checks.specs.Run.{Run}
-use Rattle.machine.specs.Calls.{nobody, pair, linkIf, lowestSender, lowest}
-use Rattle.machine.specs.ChooserLaws.{linkIf-none}
+use Rattle.machine.specs.Calls.{nobody, pair, waiting, linkAt, linksOf}
+use Rattle.machine.specs.ChooserLaws.{waiting-none}
 use Rattle.areas.specs.Area.{runIn}
+use Rattle.lenses.specs.Ready.{Ready}
 use Rattle.lenses.specs.ReadyLaws.{ready-n, ready-sizes}
 use Rattle.choosing.specs.declared.Chosen.the-variants.{Nobody, Link}
+use Rattle.choosing.specs.Memory.{countAt, heldTo, Remembers}
+use Rattle.choosing.specs.Sets.{Ranked}
+use Rattle.choosing.specs.GroupLaws.{heldTo-within}
 use Rattle.choosing.specs.Answers.{chosenOf}
-use Rattle.choosing.specs.OrderLaws.{sender-miss, lowest-miss, lowest-hit, receiver-none, before-least, before-first}
+use Rattle.choosing.specs.OrderLaws.{link-found, sender-in, link-waits, link-none, heldTo-next}
+use Rattle.choosing.proofs.OnLink.{ready-few, ready-within}
 use Rattle.choosing.proofs.choose.Statement.{statement}
 use Rattle.choosing.proofs.choose.Tie as tie
 
--- nothing waits for a receiver before b; nothing waits for b from a sender before a
-abbrev Lower : Run → ℕ → Type 0
-Lower r b = (k : ℕ) → 1 ≤ k → k < b → k ≤ r .waits .n → lowestSender r k (r .waits .n) ≡ nobody
-
-abbrev Before : Run → ℕ → ℕ → Type 0
-Before r b a = (k : ℕ) → 1 ≤ k → k < a → k ≤ r .waits .n → linkIf r k b ≡ nobody
+-- the links to the receivers before b, and left more, are the place
+abbrev So : Run → ℕ → ℕ → ℕ → Type 0
+So r place b left = left + heldTo (λ x y. waiting (r .link x y)) (b - 1) ≡ place
 
 abbrev Inv-loop : tie.InvT-loop
-Inv-loop area square n m memory end from₀ to₀ least b first a₀ from to a = (1 ≤ a) × (from ≡ 0) × Before (runIn area) b a
+Inv-loop area square n m place memory end from₀ to₀ receiver before left b held first a₀ from to a = (a ≡ first) × (from ≡ 0)
 
 abbrev μ-loop : tie.MeasureT-loop
-μ-loop area square n m memory end from₀ to₀ least b first a₀ from to a = end - a
+μ-loop area square n m place memory end from₀ to₀ receiver before left b held first a₀ from to a = end - a
 
 abbrev Inv-scan : tie.InvT-scan
-Inv-scan area square n m memory end from₀ to₀ least b₀ from to b = (1 ≤ b) × (from ≡ 0) × Lower (runIn area) b
+Inv-scan area square n m place memory end from₀ to₀ receiver before left₀ b₀ from to left b = (1 ≤ b) × (from ≡ 0) × So (runIn area) place b left
 
 abbrev μ-scan : tie.MeasureT-scan
-μ-scan area square n m memory end from₀ to₀ least b₀ from to b = end - b
+μ-scan area square n m place memory end from₀ to₀ receiver before left₀ b₀ from to left b = end - b
 
 -- ---- what the loops find
 
-data Found (r : Run) (from to : ℕ) : Type 0 where
-  none : from ≡ 0 → lowest r ≡ nobody → Found r from to
-  some : 1 ≤ from → lowest r ≡ pair from to → Found r from to
+data Found (r : Run) (place from to : ℕ) : Type 0 where
+  none : from ≡ 0 → linkAt place (linksOf r) ≡ nobody → Found r place from to
+  some : 1 ≤ from → linkAt place (linksOf r) ≡ pair from to → Found r place from to
 
-answer-nobody : {r : Run} {from to : ℕ} → Found r from to → from ≡ 0 → Nobody ≡ chosenOf (lowest r)
+answer-nobody : {r : Run} {place from to : ℕ} → Found r place from to → from ≡ 0 → Nobody ≡ chosenOf (linkAt place (linksOf r))
 answer-nobody (none z e) t = rw e
 answer-nobody (some l e) t = absurd (omega arith)
 
-answer-link : {r : Run} {from to : ℕ} → Found r from to → (from ≡ 0 → ⊥) → Link from to ≡ chosenOf (lowest r)
+answer-link : {r : Run} {place from to : ℕ} → Found r place from to → (from ≡ 0 → ⊥) → Link from to ≡ chosenOf (linkAt place (linksOf r))
 answer-link (none z e) t = absurd (t z)
 answer-link (some l e) t = rw e
 
--- one receiver more for whom nothing waits
-lower-next : (r : Run) (b : ℕ) → Lower r b → (b ≤ r .waits .n → lowestSender r b (r .waits .n) ≡ nobody) → Lower r (b + 1)
-lower-next r b h e k l u v = at (same? k b)
-  where
-    at : Same k b → lowestSender r k (r .waits .n) ≡ nobody
-    at (same f _) = rw f (e (omega arith))
-    at (apart f _) = h k l (omega arith) v
+-- a is the sender of the link at the place, which is to b
+record Here (r : Run) (place a b : ℕ) : Type 0 where
+  is : linkAt place (linksOf r) ≡ pair a b
+  from-in : IsProcess (r .waits .n) a
+  waits : waiting (r .link a b) ≡ true
 
-before-next : (r : Run) (b a : ℕ) → Before r b a → linkIf r a b ≡ nobody → Before r b (a + 1)
-before-next r b a h e k l u v = at (same? k a)
-  where
-    at : Same k a → linkIf r k b ≡ nobody
-    at (same f _) = rw f e
-    at (apart f _) = h k l (omega arith) v
+-- a link with a message holds some
+some-wait : {r : Run} {place a b : ℕ} → Here r place a b → length (r .link a b) ≡ 0 → ⊥
+some-wait {r} {a = a} {b = b} h e = false≢true (sym (waiting-none (r .link a b) e) ∙ h .waits)
 
--- n messages wait from a to b, and nothing before them in the order
-found-some
-    : {r : Run} {a b : ℕ} → IsProcess (r .waits .n) a → IsProcess (r .waits .n) b → Lower r b → Before r b a
-    → {n : ℕ} → n ≡ length (r .link a b) → (n ≡ 0 → ⊥) → {from to : ℕ} → from ≡ a → to ≡ b → Found r from to
-found-some {r} {a} {b} i j lower before l z f t =
-    let hit = lowest-hit r i j (λ k x y. lower k x y (omega (arith, j))) (λ k x y. before k x y (omega (arith, i))) (λ e. z (l ∙ e)) in
-    some (omega (arith, i)) (rw (f, t) hit)
+module _ {w : List ℤ} {sq : List ℕ} {n m : ℕ} (y : Ready w sq n m) {l : List ℕ} (h : Remembers (runIn w) l) where
+  -- the count of a receiver, as it is read
+  count-is : (b : ℕ) → 1 ≤ b → b < n + 1 → {i : ℕ} → i ≡ countAt b → getD l i 0 ≡ countTo mostProcesses (λ a. waiting (runIn w .link a b))
+  count-is b lo hi e = ap (λ (x : ℕ). getD l x 0) e ∙ h .rows .counts b (lo, omega (arith, ready-sizes y .0))
+
+  module _ (place b left : ℕ) (lo : 1 ≤ b) (so : So (runIn w) place b left) where
+    found-here : b < n + 1 → {i : ℕ} → i ≡ countAt b → left < getD l i 0 → {a : ℕ} → Ranked l b left a → Here (runIn w) place a b
+    found-here hi e u {a} ranked =
+        let j : IsProcess (runIn w .waits .n) b = (lo, omega (arith, ready-n y)) in
+        let nth = ranked (λ x. waiting (runIn w .link x b)) (h .rows .senders b (lo, omega (arith, ready-sizes y .0))) in
+        let more : left < countTo mostProcesses (λ x. waiting (runIn w .link x b)) = omega (arith, u, count-is b lo hi e) in
+        record {
+          is = link-found (runIn w) (ready-few y) (ready-within y) place a b left j so more nth;
+          from-in = sender-in (runIn w) (ready-few y) (ready-within y) place a b left j so more nth;
+          waits = link-waits (runIn w) (ready-few y) (ready-within y) place a b left j so more nth;
+        }
+
+    found-none : n + 1 ≤ b → linkAt place (linksOf (runIn w)) ≡ nobody
+    found-none u =
+        let v = heldTo-within (λ x z. waiting (runIn w .link x z)) (runIn w .waits .n) (b - 1) (omega (arith, ready-n y)) in
+        link-none (runIn w) (ready-few y) (ready-within y) place (omega (arith, so, v))
+
+    passed-over : b < n + 1 → {i : ℕ} → i ≡ countAt b → getD l i 0 ≤ left → {k : ℕ} → k ≡ left - getD l i 0 → So (runIn w) place (b + 1) k
+    passed-over hi e u f =
+        let next = heldTo-next (λ x z. waiting (runIn w .link x z)) b lo in
+        omega (arith, f, so, u, next, count-is b lo hi e)
 
 -- ---- the needs
 
--- a receiver is a process, and N is small
+found
+    : (c : tie.After-ranked-in Inv-loop μ-loop Inv-scan μ-scan)
+    → let i = c .before .before .before .before in
+    let s = i .before .before .before in
+    Here (runIn (s .args .area .now)) (s .args .place) (c .ranked-in .result) (i .before .scan .b)
+found c =
+    let t = c .before in
+    let o = t .before .before in
+    let i = o .before in
+    let a = i .before in
+    let s = a .before .before in
+    found-here (s .pre .0) (s .pre .1) (s .args .place) (a .scan .b) (a .scan .left) (a .scan .inv .0) (a .scan .inv .2) (i .scan-test .taken) (o .count-at .ensures) (t .if1 .taken) (c .ranked-in .ensures)
+
+-- b is a process
 receiver
     : (c : tie.In-scan Inv-loop μ-loop Inv-scan μ-scan)
     → let s = c .before .before .before in
-    let n = runIn (s .args .area .now) .waits .n in
-    IsProcess mostProcesses (c .before .scan .b) × (c .before .scan .b ≤ n) × (n ≤ mostProcesses)
+    IsProcess mostProcesses (c .before .scan .b) × (c .before .scan .b ≤ s .args .n)
 receiver c =
     let s = c .before .before .before in
-    let few = ready-sizes (s .pre .0) .0 in
-    let is = ready-n (s .pre .0) in
-    ((omega arith, omega (arith, few)), omega (arith, is), omega (arith, few, is))
-
-scan-holds : tie.Need-scan-holds Inv-loop μ-loop Inv-scan μ-scan
-scan-holds c =
-    let s = c .before in
-    let r = runIn (s .args .area .now) in
-    let few : r .waits .n ≤ mostProcesses = omega (arith, ready-sizes (s .pre .0), ready-n (s .pre .0)) in (
-      c .lowest-in .ensures .1,
-      refl,
-      λ k l u v. before-least r (s .pre .1) few k (l, omega arith) (omega (arith, c .lowest-in .ensures .0)),
-    )
-
-loop-holds : tie.Need-loop-holds Inv-loop μ-loop Inv-scan μ-scan
-loop-holds c =
-    let i = c .before .before .before .before in
-    let s = i .before .before .before in
-    let r = runIn (s .args .area .now) in
-    let b = i .before .scan .b in (
-      c .lowest-in2 .ensures .1,
-      i .before .scan .inv .1,
-      λ k l u v. before-first r (s .pre .1) (receiver i .2) b (receiver i .0) k l (omega (arith, c .lowest-in2 .ensures .0)),
-    )
+    ((c .before .scan .inv .0, omega (arith, c .scan-test .taken, ready-sizes (s .pre .0) .0)), omega (arith, c .scan-test .taken))
 
 waiting-on-requires : tie.Need-waiting-on-requires Inv-loop μ-loop Inv-scan μ-scan
 waiting-on-requires c κs =
-    let i = c .before .before .before .before .before .before in
+    let a = c .before in
+    let f = a .before in
+    let i = f .before .before .before .before in
     let s = i .before .before .before in
-    (s .pre .0, omega (arith, receiver i, ready-n (s .pre .0)))
+    (s .pre .0, omega (arith, a .loop .inv .0, found f .from-in, receiver i, ready-n (s .pre .0)))
 
+-- the inner loop is never gone through again: a message waits where it begins
 loop-again : tie.Need-loop-again Inv-loop μ-loop Inv-scan μ-scan
 loop-again c =
     let o = c .before in
     let a = o .before .before in
-    let i = a .before .before .before .before .before in
+    let f = a .before in
+    let i = f .before .before .before .before in
     let r = runIn (i .before .before .before .args .area .now) in
-    let empty = linkIf-none r (a .loop .a) (i .before .scan .b) (sym (o .waiting-on .ensures .0) ∙ c .if2 .left) in
-    (omega arith, a .loop .inv .1, before-next r (i .before .scan .b) (a .loop .a) (a .loop .inv .2) empty)
-
--- nothing waits for a receiver: by its count, or sender by sender
-passed
-    : (c : tie.Joined1 Inv-loop μ-loop Inv-scan μ-scan)
-    → let k = c .before .before .before .before in
-    let r = runIn (k .before .before .args .area .now) in
-    (c .if1 .from ≡ 0) × (lowestSender r (k .scan .b) (r .waits .n) ≡ nobody)
-passed c =
-    let o = c .before .before in
-    let i = o .before in
-    let k = i .before in
-    let s = k .before .before in
-    let r = runIn (s .args .area .now) in
-    let is = ready-n (s .pre .0) in
-    let e = ap (λ (j : ℕ). getD (s .args .memory .now) j 0) (o .count-at .ensures) in
-    ⊎-elim
-    (λ w. (w .4 ∙ w .2 .inv .1, sender-miss r (k .scan .b) (λ a l u. w .2 .inv .2 a l (omega (arith, is, w .3 .left)) u)))
-    (λ w. (w .1 ∙ k .scan .inv .1, receiver-none r (s .pre .1) (receiver i .2) (k .scan .b) (receiver i .0) (omega (arith, e, w .0 .left))))
-    (c .if1 .came)
+    let e = sym (ap (λ (x : ℕ). length (r .link x (i .before .scan .b))) (a .loop .inv .0)) ∙ sym (o .waiting-on .ensures .0) ∙ c .if2 .left in
+    absurd (some-wait (found f) e)
 
 scan-again : tie.Need-scan-again Inv-loop μ-loop Inv-scan μ-scan
 scan-again c =
-    let k = c .before .before .before .before in
-    let r = runIn (k .before .before .args .area .now) in
-    (omega arith, passed c .0, lower-next r (k .scan .b) (k .scan .inv .2) (λ u. passed c .1))
-
-found
-    : (c : tie.Left-scan Inv-loop μ-loop Inv-scan μ-scan)
-    → Found (runIn (c .before .before .before .args .area .now)) (c .scan-test .from) (c .scan-test .to)
-found c =
-    let k = c .before in
-    let s = k .before .before in
-    let r = runIn (s .args .area .now) in
-    let is = ready-n (s .pre .0) in
+    let h = c .before in
+    let o = h .before in
+    let i = o .before in
+    let a = i .before in
+    let s = a .before .before in
     ⊎-elim
-    (λ w. none (w .1 ∙ k .scan .inv .1) (lowest-miss r (λ b l u. k .scan .inv .2 b l (omega (arith, is, w .0 .left)) u)))
-    (λ w. found-some (omega (arith, is, w .5 .inv, w .6 .taken)) (omega (arith, is, w .0 .taken)) (k .scan .inv .2) (w .5 .inv .2)
-    (w .7 .ensures .0) (w .8 .taken) (w .9) (w .10))
+    (λ w. let f = found (record { before = record { before = h; if1 = w .0 }; ranked-in = w .1 }) in
+    absurd (omega (arith, f .from-in, w .2 .inv .0, w .3 .left, ready-n (s .pre .0))))
+    (λ w. (
+      omega arith,
+      w .1 ∙ a .scan .inv .1,
+      passed-over (s .pre .0) (s .pre .1) (s .args .place) (a .scan .b) (a .scan .left) (a .scan .inv .0) (a .scan .inv .2) (i .scan-test .taken)
+          (o .count-at .ensures) (w .0 .left) (w .3),
+    ))
+    (c .if1 .came)
+
+all-found
+    : (c : tie.Left-scan Inv-loop μ-loop Inv-scan μ-scan)
+    → let s = c .before .before .before in
+    Found (runIn (s .args .area .now)) (s .args .place) (c .scan-test .from) (c .scan-test .to)
+all-found c =
+    let a = c .before in
+    let s = a .before .before in
+    ⊎-elim
+    (λ w. none (w .1 ∙ a .scan .inv .1)
+    (found-none (s .pre .0) (s .pre .1) (s .args .place) (a .scan .b) (a .scan .left) (a .scan .inv .0) (a .scan .inv .2) (w .0 .left)))
+    (λ w. let f = found-here (s .pre .0) (s .pre .1) (s .args .place) (a .scan .b) (a .scan .left) (a .scan .inv .0) (a .scan .inv .2) (w .0 .taken)
+    (w .1 .ensures) (w .3 .taken) (w .4 .ensures) in
+    some (omega (arith, f .from-in, w .9, w .5 .inv .0)) (rw (w .9, w .10, w .5 .inv .0) (f .is)))
     (c .scan-test .came)
 
 pub choose-spec : {M : Type 1} → statement M
@@ -175,19 +181,19 @@ choose-spec =
     Inv-scan
     μ-scan
     (λ c. omega (arith, ready-sizes (c .pre .0) .0))
-    (λ c κs. (c .pre .1 .long, omega arith))
-    scan-holds
+    (λ c κs. c .pre .1 .rows .long)
+    (λ c. let s = c .before in let b = c .begin-at .ensures (λ x y. waiting (runIn (s .args .area .now) .link x y)) (s .pre .1) in (b .0, refl, b .1))
     (λ c κs. search needs)
     (λ c. omega (arith, receiver (c .before), c .count-at .ensures))
-    (λ c. omega (arith, receiver (c .before), c .count-at .ensures, c .before .before .before .before .pre .1 .long))
-    (λ c κs. let i = c .before .before .before in (i .before .before .before .pre .1 .long, receiver i .0 .1))
-    loop-holds
+    (λ c. omega (arith, receiver (c .before), c .count-at .ensures, c .before .before .before .before .pre .1 .rows .long))
+    (λ c κs. let i = c .before .before .before in (i .before .before .before .pre .1 .rows .long, receiver i .0 .1))
+    (λ c. (refl, c .before .before .before .before .before .scan .inv .1))
     waiting-on-requires
-    (λ c. let i = c .before .before .before .before .before .before .before .before in omega (arith, ready-sizes (i .before .before .before .pre .0) .0))
-    (λ c. omega arith)
+    (λ c. let i = c .before .before .before .before .before .before .before .before in omega (arith, c .before .before .loop-test .taken, ready-sizes (i .before .before .before .pre .0) .0))
+    (λ c. omega (arith, c .before .before .loop-test .taken))
     loop-again
     (λ c. omega (arith, receiver (c .before .before .before)))
-    (λ c. omega arith)
+    (λ c. omega (arith, c .before .before .before .scan-test .taken))
     scan-again
-    (λ c. answer-nobody (found (c .before)) (c .if3 .taken))
-    (λ c. answer-link (found (c .before)) (c .if3 .left)))
+    (λ c. answer-nobody (all-found (c .before)) (c .if3 .taken))
+    (λ c. answer-link (all-found (c .before)) (c .if3 .left)))

@@ -7,6 +7,8 @@ use native.Mathlib.Omega.{arith}
 use borrow.Author.Needs.{needs}
 use Rattle.tables.specs.Table.{mostProcesses}
 use Rattle.checks.specs.Calls.{deliveryMade}
+use Rattle.machine.specs.Calls.{lowest}
+use Rattle.choosing.specs.OrderLaws.{lowest-names}
 use Rattle.choosing.proofs.OnLink.{left-small, left-refusal, left-message}
 use Rattle.printing.proofs.print_own.Statement.{statement}
 use Rattle.printing.proofs.print_own.Tie as tie
@@ -15,7 +17,7 @@ use Rattle.printing.proofs.print_own.Tie as tie
 small : (c : tie.After-known-told) → let g = c .before .from .given .0 in (g .0 ≤ mostProcesses) × (g .1 .0 ≤ mostProcesses)
 small c =
     let d = c .before .before .before .before in
-    left-small (d .before .before .before .pre .0) (d .deliver-next .ensures) (c .before .from .given .1)
+    left-small lowest lowest-names (d .before .before .before .pre .0) (d .deliver-next .ensures) (c .before .from .given .1)
 
 cast-print-delivery : tie.Need-cast-print-delivery
 cast-print-delivery c = omega (arith, small c .0)
@@ -28,14 +30,14 @@ returns c =
     let f = c .before .before in
     let d = f .before .before .before in
     let left = d .deliver-next .ensures in
-    (sym (ap deliveryMade (left-message (d .before .before .before .pre .0) left (f .from .given .1))), left .1)
+    (sym (ap deliveryMade (left-message lowest lowest-names (d .before .before .before .pre .0) left (f .from .given .1))), left .1)
 
 returns-2 : tie.Need-returns-2
 returns-2 c =
     let f = c .before .before in
     let d = f .before .before .before in
     let left = d .deliver-next .ensures in
-    (sym (ap deliveryMade (left-refusal (d .before .before .before .pre .0) left (f .number .given .1))), left .1)
+    (sym (ap deliveryMade (left-refusal lowest lowest-names (d .before .before .before .pre .0) left (f .number .given .1))), left .1)
 
 pub print-own-spec : {M : Type 1} → statement M
 print-own-spec =

@@ -9,20 +9,22 @@ use Rattle.base.specs.Choice.{bit}
 use Rattle.checks.specs.Run.{knot}
 use Rattle.areas.specs.Area.{runIn}
 use Rattle.lenses.proofs.Holding.{holding-ready, holding-length}
+use Rattle.machine.specs.Calls.{fixedOrder}
+use Rattle.choosing.specs.OrderLaws.{lowest-names}
 use Rattle.choosing.specs.Memory.{Remembers}
-use Rattle.area_calls.specs.CallLaws.{runOn-on}
+use Rattle.area_calls.specs.CallLaws.{runOn-fixed}
 use Rattle.runs.proofs.Turns.{Turn, turn-first, turn-over, turn-full, turn-unmade, turn-made}
 use Rattle.printing.proofs.run_out.Statement.{statement}
 use Rattle.printing.proofs.run_out.Tie as tie
 
 abbrev Inv-loop : tie.InvT-loop
-Inv-loop area₀ square n m memory₀ turns₀ area memory turns = Turn area₀ (knot .most) area turns × Remembers (runIn area) memory
+Inv-loop area₀ square n m memory₀ turns₀ area memory turns = Turn fixedOrder 0 area₀ (knot .most) area turns 0 × Remembers (runIn area) memory
 
 abbrev μ-loop : tie.MeasureT-loop
 μ-loop area₀ square n m memory₀ turns₀ area memory turns = knot .most - turns
 
 loop-holds : tie.Need-loop-holds Inv-loop μ-loop
-loop-holds c = (turn-first (c .pre .0), c .pre .1)
+loop-holds c = (turn-first fixedOrder 0 (c .pre .0), c .pre .1)
 
 is-over-requires : tie.Need-is-over-requires Inv-loop μ-loop
 is-over-requires c κs = let a = c .before .before in holding-ready (a .before .pre .0) (a .loop .inv .0 .holds)
@@ -36,7 +38,7 @@ returns c =
     let a = i .before .before .before in
     let y = a .before .pre .0 in
     let t = a .loop .inv .0 in
-    (turn-over y t (i .is-over .ensures) (c .if1 .taken) .1 ∙ runOn-on _ (y .right) (knot .most) .1, holding-ready y (t .holds))
+    (turn-over fixedOrder 0 y t (i .is-over .ensures) (c .if1 .taken) .1 ∙ runOn-fixed _ (y .right) (knot .most), holding-ready y (t .holds))
 
 print-own-requires : tie.Need-print-own-requires Inv-loop μ-loop
 print-own-requires c κs =
@@ -59,8 +61,8 @@ returns-2 c =
     let y = a .before .pre .0 in
     let own = d .print-own .ensures in
     let none = sym (own .0) ∙ ap bit (not-true (d .print-own .result) (c .if2 .taken)) in
-    let end = turn-unmade y (a .loop .inv .0) (i .is-over .ensures) (e .if1 .left) (omega (arith, l .loop-test .taken)) (own .1 .0) none in
-    (end ∙ runOn-on _ (y .right) (knot .most) .1, own .1 .1 .1)
+    let end = turn-unmade fixedOrder 0 y (a .loop .inv .0) (i .is-over .ensures) (e .if1 .left) lowest-names (omega (arith, l .loop-test .taken)) (own .1 .0) none in
+    (end ∙ runOn-fixed _ (y .right) (knot .most), own .1 .1 .1)
 
 loop-again : tie.Need-loop-again Inv-loop μ-loop
 loop-again c =
@@ -71,7 +73,7 @@ loop-again c =
     let a = l .before in
     let own = d .print-own .ensures in
     let one = sym (own .0) ∙ ap bit (not-false (d .print-own .result) (c .if2 .left)) in
-    let next = turn-made (a .before .pre .0) (a .loop .inv .0) (i .is-over .ensures) (e .if1 .left) (omega (arith, l .loop-test .taken)) (own .1 .0) one in
+    let next = turn-made fixedOrder 0 (a .before .pre .0) (a .loop .inv .0) (i .is-over .ensures) (e .if1 .left) lowest-names (omega (arith, l .loop-test .taken)) (own .1 .0) one in
     (next, own .1 .1 .0)
 
 same-length-3 : tie.Need-same-length-3 Inv-loop μ-loop
@@ -82,7 +84,7 @@ returns-3 c =
     let a = c .before in
     let y = a .before .pre .0 in
     let t = a .loop .inv .0 in
-    (turn-full y t (omega (arith, c .loop-test .left)) ∙ runOn-on _ (y .right) (knot .most) .1, holding-ready y (t .holds))
+    (turn-full fixedOrder 0 y t (omega (arith, c .loop-test .left)) ∙ runOn-fixed _ (y .right) (knot .most), holding-ready y (t .holds))
 
 pub run-out-spec : {M : Type 1} → statement M
 run-out-spec =

@@ -3,10 +3,10 @@
 //!     bench [PLOT.svg]
 //!
 //! Every time is the median of repetitions in which the two take turns. All calls are timed on the
-//! waits in which each process waits for the next four, and a whole check by one running on also
-//! on waits of other shapes, with the bounds that it is to keep. With KNOT_CHECK set to
-//! the built check program, that program is timed from process start to exit against
-//! `plain_check`, which stands beside this one (or at PLAIN_CHECK).
+//! waits in which each process waits for the next four, and a whole check by one running on, and by
+//! one that is shuffled, also on waits of other shapes, with the bounds that it is to keep. With
+//! KNOT_CHECK set to the built check program, that program is timed from process start to exit
+//! against `plain_check`, which stands beside this one (or at PLAIN_CHECK).
 
 mod plot;
 mod programs;
@@ -14,8 +14,8 @@ mod rows;
 mod shapes;
 mod timing;
 
-use calls::{Calls, Plain, Proved, STANDIN};
-use rows::{print_growth, print_rows, print_shapes, Shaped, Size};
+use calls::{Answer, Calls, Plain, Proved, STANDIN};
+use rows::{print_deliveries, print_growth, print_rows, print_shapes, Row, Shaped, Size};
 use shapes::{Shape, SHAPES};
 use std::hint::black_box;
 use std::process::ExitCode;
@@ -95,10 +95,15 @@ fn expect(number: u32) {
     assert_eq!(number, 0, "refused in a benchmark");
 }
 
+fn expect_over(answer: Answer, input: &Input) {
+    assert_eq!(answer.values[..2], [1, input.picks.len() as i64], "over, after D deliveries");
+}
+
 const READ: &str = "reading a table";
 const START: &str = "start";
 const PICK: &str = "one pick with its test of the area";
 const WHOLE: &str = "a whole check by one running on";
+const SHUFFLED: &str = "a whole check by one shuffled running on";
 const PICKS: &str = "a whole check by picks";
 
 fn read(input: &Input) -> Timed<'_> {
@@ -133,8 +138,16 @@ fn pick(input: &Input) -> Timed<'_> {
 
 fn whole(input: &Input) -> Timed<'_> {
     timed(WHOLE, input, input.started.clone(), 1, |library, _, area| {
-        let answer = library.run_on(area, u32::MAX);
-        assert_eq!(answer.values[..2], [1, input.picks.len() as i64], "over, after D deliveries");
+        expect_over(library.run_on(area, u32::MAX), input);
+    })
+}
+
+/// The seed of every shuffled running on that is timed: Marsaglia's own.
+const SEED: u32 = 2_463_534_242;
+
+fn shuffled(input: &Input) -> Timed<'_> {
+    timed(SHUFFLED, input, input.started.clone(), 1, |library, _, area| {
+        expect_over(library.run_shuffled(area, u32::MAX, SEED), input);
     })
 }
 
@@ -144,6 +157,16 @@ fn picks(input: &Input) -> Timed<'_> {
             expect(library.pick(area, from, to, 1).number);
         }
     })
+}
+
+/// The times of one kind of whole check, on all inputs.
+fn by_shape(inputs: &[Input], rows: impl Iterator<Item = Row>) -> Vec<Shaped> {
+    let shaped = inputs.iter().zip(rows).map(|(input, row)| Shaped {
+        shape: input.shape,
+        deliveries: input.picks.len(),
+        row,
+    });
+    shaped.collect()
 }
 
 fn main() -> ExitCode {
@@ -160,6 +183,7 @@ fn main() -> ExitCode {
         things.extend([read(input), start(input), pick(input), whole(input)]);
     }
     things.extend(others.iter().map(whole));
+    things.extend(inputs.iter().map(shuffled));
     things.push(picks(largest));
     match programs::timed(&largest.table, &largest.picks) {
         Ok(timed) => things.extend(timed),
@@ -167,17 +191,17 @@ fn main() -> ExitCode {
     }
     let rows = time_all(things);
     let (growth, rest) = rows.split_at(4 * SIZES.len());
-    let (by_shape, rest) = rest.split_at(others.len());
+    let (on_others, rest) = rest.split_at(others.len());
+    let (shuffled, rest) = rest.split_at(inputs.len());
     let growth = growth.as_chunks::<4>().0;
-    print_rows(&[&growth[SIZES.len() - 1], rest].concat());
+    let on_largest = &shuffled[SIZES.len() - 1..SIZES.len()];
+    print_rows(&[&growth[SIZES.len() - 1], on_largest, rest].concat());
     print_growth(growth);
-    let whole_checks = growth.iter().map(|rows| rows[3]).chain(by_shape.iter().copied());
-    let shaped = inputs.iter().zip(whole_checks).map(|(input, row)| Shaped {
-        shape: input.shape,
-        deliveries: input.picks.len(),
-        row,
-    });
-    print_shapes(&shaped.collect::<Vec<_>>());
+    let whole = growth.iter().map(|rows| rows[3]).chain(on_others.iter().copied());
+    let whole = by_shape(&inputs, whole);
+    print_shapes(&whole, |n| if n == 128 { 1.5 } else { 2.0 });
+    print_deliveries(&whole);
+    print_shapes(&by_shape(&inputs, shuffled.iter().copied()), |_| 2.0);
     if let Some(path) = std::env::args_os().nth(1) {
         if let Err(error) = std::fs::write(&path, plot::draw(growth)) {
             eprintln!("bench: {}: {error}", path.to_string_lossy());

@@ -80,20 +80,14 @@ pub struct Shaped {
     pub row: Row,
 }
 
-/// How many times as long as the plain Rust the proved code may take, by N.
-fn bound(n: usize) -> f64 {
-    match n {
-        128 => 1.5,
-        _ => 2.0,
-    }
-}
-
 /// How many times as long one delivery may take in the largest check as in the one before.
 const DELIVERY_BOUND: f64 = 1.1;
 
-/// For each shape its whole checks by size, then its time for each delivery in the two largest.
-pub fn print_shapes(shaped: &[Shaped]) {
-    println!("\n| a whole check by one running on | N, M | deliveries | proved | plain Rust | ratio | to be within |");
+/// For each shape its whole checks by size; `bound` says by N how many times as long as the plain Rust
+/// the proved code may take.
+pub fn print_shapes(shaped: &[Shaped], bound: fn(usize) -> f64) {
+    let what = shaped.first().map_or("", |check| check.row.what);
+    println!("\n| {what} | N, M | deliveries | proved | plain Rust | ratio | to be within |");
     println!("|---|---|---|---|---|---|---|");
     for Shaped { shape, deliveries, row } in shaped {
         let Some(Size { n, m }) = row.size else { continue };
@@ -104,6 +98,10 @@ pub fn print_shapes(shaped: &[Shaped]) {
             bound(n)
         );
     }
+}
+
+/// For each shape its time for each delivery in the two largest.
+pub fn print_deliveries(shaped: &[Shaped]) {
     println!("\n| time for each delivery, N 64 to 128 | proved | times as long | plain Rust | times as long | to be within |");
     println!("|---|---|---|---|---|---|");
     for sizes in shaped.chunk_by(|a, b| a.shape == b.shape) {

@@ -148,6 +148,21 @@ impl Calls for Proved {
         Answer::new(number, [over.get(), made.get()])
     }
 
+    fn run_shuffled(&self, area: &mut [i32], k: u32, seed: u32) -> Answer {
+        let (mut over, mut made) = (Slot::unset(), Slot::unset());
+        let number = unsafe {
+            pickledune_run_shuffled(
+                area.as_mut_ptr(),
+                area.len(),
+                k,
+                seed,
+                over.place(),
+                made.place(),
+            )
+        };
+        Answer::new(number, [over.get(), made.get()])
+    }
+
     fn report(&self, area: &mut [i32]) -> Answer {
         let (mut deliveries, mut knot, mut outside) = (Slot::unset(), Slot::unset(), Slot::unset());
         let (mut escape, mut returned) = (Slot::unset(), Slot::unset());

@@ -73,6 +73,8 @@ pub trait Calls {
     fn pick(&self, area: &mut [i32], from: usize, to: usize, place: usize) -> Answer;
     /// over, made
     fn run_on(&self, area: &mut [i32], k: u32) -> Answer;
+    /// over, made
+    fn run_shuffled(&self, area: &mut [i32], k: u32, seed: u32) -> Answer;
     /// deliveries, knot, outside, escape, returned
     fn report(&self, area: &mut [i32]) -> Answer;
     /// succeeding, preceding, subordinate, cs, num, father, second sum

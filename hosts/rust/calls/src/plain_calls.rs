@@ -24,6 +24,16 @@ fn chain_of(chain: u32) -> Chain {
     }
 }
 
+/// Over and made.
+fn running_answer((stopped, made): (Stopped, u32)) -> Answer {
+    let made = made.into();
+    match stopped {
+        Stopped::Over => Answer::new(0, [1, made]),
+        Stopped::Spent => Answer::new(0, [0, made]),
+        Stopped::Refused(refusal) => Answer::new(refusal.number(), [0, made]),
+    }
+}
+
 fn record_values(record: &Record) -> [i64; 7] {
     [
         record.succeeding.into(),
@@ -81,13 +91,11 @@ impl Calls for Plain {
     }
 
     fn run_on(&self, area: &mut [i32], k: u32) -> Answer {
-        let (stopped, made) = plain::run_on(area, k);
-        let made = made.into();
-        match stopped {
-            Stopped::Over => Answer::new(0, [1, made]),
-            Stopped::Spent => Answer::new(0, [0, made]),
-            Stopped::Refused(refusal) => Answer::new(refusal.number(), [0, made]),
-        }
+        running_answer(plain::run_on(area, k))
+    }
+
+    fn run_shuffled(&self, area: &mut [i32], k: u32, seed: u32) -> Answer {
+        running_answer(plain::run_shuffled(area, k, seed))
     }
 
     fn report(&self, area: &mut [i32]) -> Answer {

@@ -101,6 +101,18 @@ unsafe extern "C" fn pickledune_run_on(
 }
 
 #[no_mangle]
+unsafe extern "C" fn pickledune_run_shuffled(
+    area: *mut i32,
+    area_len: usize,
+    k: u32,
+    seed: u32,
+    over: *mut u32,
+    made: *mut u32,
+) -> u32 {
+    give!(Plain.run_shuffled(from_raw_parts_mut(area, area_len), k, seed), over, made)
+}
+
+#[no_mangle]
 unsafe extern "C" fn pickledune_report(
     area: *const i32,
     area_len: usize,

@@ -15,6 +15,7 @@ pub enum Call {
     Start { start: usize, edition: usize },
     Pick { from: usize, to: usize, place: usize },
     RunOn { k: u32 },
+    RunShuffled { k: u32, seed: u32 },
     Report,
     ReadRecord { process: usize },
     Step { record: LentRecord, received: Received },
@@ -30,6 +31,7 @@ impl Call {
             Call::Start { .. } => "start",
             Call::Pick { .. } => "pick",
             Call::RunOn { .. } => "run_on",
+            Call::RunShuffled { .. } => "run_shuffled",
             Call::Report => "report",
             Call::ReadRecord { .. } => "read_record",
             Call::Step { .. } => "step",
@@ -57,7 +59,7 @@ impl Call {
             Call::Open { .. } | Call::Next { .. } => &["arc"],
             Call::Start { .. } => &[],
             Call::Pick { .. } => &["kind", "count", "second"],
-            Call::RunOn { .. } => &["over", "made"],
+            Call::RunOn { .. } | Call::RunShuffled { .. } => &["over", "made"],
             Call::Report => &["deliveries", "knot", "outside", "escape", "returned"],
             Call::ReadRecord { .. } => &STEP[..7],
             Call::Step { .. } => &STEP,
@@ -84,6 +86,10 @@ impl Call {
             && (!self.lends_table() || matches!(self, Call::Start { .. }))
     }
 
+    fn runs_on(&self) -> bool {
+        matches!(self, Call::RunOn { .. } | Call::RunShuffled { .. })
+    }
+
     fn make(self, library: &impl Calls, lent: &mut Lent) -> Answer {
         let Lent { table, list, out, area } = lent;
         let (table, list) = (unguarded(table), unguarded(list));
@@ -96,6 +102,7 @@ impl Call {
             Call::Start { start, edition } => library.start(table, start, edition, area),
             Call::Pick { from, to, place } => library.pick(area, from, to, place),
             Call::RunOn { k } => library.run_on(area, k),
+            Call::RunShuffled { k, seed } => library.run_shuffled(area, k, seed),
             Call::Report => library.report(area),
             Call::ReadRecord { process } => library.read_record(area, process),
             Call::Step { record, received } => library.step(record, received),
@@ -238,8 +245,7 @@ impl<'a, L: Calls> Driver<'a, L> {
         }
         *self.answers.entry((call.name(), by_plain.number)).or_default() += 1;
         // Running on keeps the deliveries that it made.
-        let may_change =
-            by_plain.number == 0 || (matches!(call, Call::RunOn { .. }) && by_plain.values[1] > 0);
+        let may_change = by_plain.number == 0 || (call.runs_on() && by_plain.values[1] > 0);
         if !may_change && !self.plain_lent.is_as_before(lent, call) {
             return Err(self.found(call, lent, "refused, but what was lent has changed".into()));
         }

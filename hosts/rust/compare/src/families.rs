@@ -13,7 +13,7 @@ use calls::{Calls, LentRecord, Received};
 type Family<L> = fn(&mut Driver<L>, &mut Rng, u64) -> Outcome<()>;
 
 /// Every family with its name and the least number of calls in a whole comparison.
-pub fn families<L: Calls>() -> [(&'static str, u64, Family<L>); 16] {
+pub fn families<L: Calls>() -> [(&'static str, u64, Family<L>); 17] {
     [
         ("valid tables", 150_000, valid_tables),
         ("damaged tables", 200_000, damaged_tables),
@@ -31,6 +31,7 @@ pub fn families<L: Calls>() -> [(&'static str, u64, Family<L>); 16] {
         ("editions", 150_000, editions),
         ("second sums and counts", 200_000, second_numbers),
         ("small runnings on and picks in turn", 150_000, small_runs),
+        ("shuffled runs and picks in turn", 200_000, shuffled_runs),
     ]
 }
 
@@ -72,6 +73,32 @@ fn any_k(rng: &mut Rng) -> u32 {
         1 => u32::MAX,
         2 => rng.below(3000) as u32,
         _ => rng.below(6) as u32,
+    }
+}
+
+fn few(rng: &mut Rng) -> u32 {
+    rng.below(4) as u32
+}
+
+/// Seeds (02, N13): 0, which is refused, and others with few bits or many.
+pub const SEEDS: [u32; 8] = [0, 1, 2, 1 << 16, 1 << 31, (1 << 31) - 1, u32::MAX - 1, u32::MAX];
+
+/// What a shuffled run from seed 0 gives.
+pub const NO_SEED: u32 = 37;
+
+fn any_seed(rng: &mut Rng) -> u32 {
+    match rng.one_in(3) {
+        true => rng.choose(&SEEDS),
+        false => rng.word() as u32,
+    }
+}
+
+/// A running on in the fixed order, or shuffled by a seed that is not 0.
+fn any_run(rng: &mut Rng, draw_k: fn(&mut Rng) -> u32) -> Call {
+    let k = draw_k(rng);
+    match rng.one_in(2) {
+        true => Call::RunOn { k },
+        false => Call::RunShuffled { k, seed: any_seed(rng).max(1) },
     }
 }
 
@@ -365,11 +392,11 @@ fn draw_call(rng: &mut Rng, order: Order, n: usize, links: &[Link], area: &[i32]
         0 => Call::Report,
         1 => Call::ReadRecord { process: any_number(rng, n) },
         2 => stray_pick(rng, n),
-        3 => Call::RunOn { k: rng.below(4) as u32 },
+        3 => any_run(rng, few),
         4 if !links.is_empty() => pick(rng.choose(links), any_place(rng)),
         _ => match choose_message(rng, order, links, area) {
             Some((link, place)) => pick(link, place),
-            None => Call::RunOn { k: any_k(rng) },
+            None => any_run(rng, any_k),
         },
     }
 }
@@ -426,9 +453,10 @@ fn check_whole<L: Calls>(
         let call = draw_call(rng, order, graph.n, &links, &lent.area);
         driver.make(call, &mut lent)?;
     }
-    driver.make(Call::RunOn { k: u32::MAX }, &mut lent)?;
+    driver.make(any_run(rng, |_| u32::MAX), &mut lent)?;
     for k in [0, 1] {
         driver.make(Call::RunOn { k }, &mut lent)?;
+        driver.make(Call::RunShuffled { k, seed: any_seed(rng) }, &mut lent)?;
     }
     if !links.is_empty() {
         driver.make(pick(rng.choose(&links), any_place(rng)), &mut lent)?;
@@ -554,7 +582,9 @@ fn every_call<L: Calls>(
         None => stray_pick(rng, n),
     };
     let record = Call::ReadRecord { process: any_number(rng, n) };
-    for call in [Call::Report, record, Call::RunOn { k: any_k(rng) }, pick] {
+    let run = Call::RunOn { k: any_k(rng) };
+    let shuffled = Call::RunShuffled { k: any_k(rng), seed: any_seed(rng) };
+    for call in [Call::Report, record, run, shuffled, pick] {
         driver.make(call, lent)?;
         lent.area.copy_from_slice(&before);
     }
@@ -575,7 +605,7 @@ fn area_of_a_run<L: Calls>(
         driver.make(pick(link, place), &mut lent)?;
     }
     if rng.one_in(6) {
-        driver.make(Call::RunOn { k: u32::MAX }, &mut lent)?;
+        driver.make(any_run(rng, |_| u32::MAX), &mut lent)?;
     }
     Ok((lent, links))
 }
@@ -818,30 +848,62 @@ fn with_word<L: Calls>(
 /// in turn (02, N11): the area after each shows which links the deliveries were on.
 fn small_runs<L: Calls>(driver: &mut Driver<L>, rng: &mut Rng, least: u64) -> Outcome<()> {
     while driver.calls_in_family() < least {
-        let graph = Graph::uneven(rng);
-        let (start, edition) = (rng.within(1, graph.n), rng.choose(&EDITIONS));
-        let (mut lent, links) = begin(driver, rng, &graph, Call::Start { start, edition })?;
-        run_by_few(driver, rng, &links, &mut lent)?;
-        hold_against_search(driver, &graph, start, edition, &mut lent)?;
-        for _ in 0..4 {
-            let (mut lent, links) = unreached_area(rng, &graph);
-            run_by_few(driver, rng, &links, &mut lent)?;
-        }
+        run_by_few(driver, rng, |rng| Call::RunOn { k: few(rng) })?;
     }
     Ok(())
 }
 
-/// Until the run is over or a running on is refused.
+/// The same by shuffled runs (02, N13), at times from the seed of the one before; and whole checks by
+/// one of them.
+fn shuffled_runs<L: Calls>(driver: &mut Driver<L>, rng: &mut Rng, least: u64) -> Outcome<()> {
+    while driver.calls_in_family() < least {
+        let mut seed = any_seed(rng);
+        run_by_few(driver, rng, |rng| {
+            if !rng.one_in(4) {
+                seed = any_seed(rng);
+            }
+            Call::RunShuffled { k: few(rng), seed }
+        })?;
+        let graph = Graph::any(rng);
+        let (start, edition) = (rng.within(1, graph.n), rng.choose(&EDITIONS));
+        let (mut lent, _) = begin(driver, rng, &graph, Call::Start { start, edition })?;
+        let seed = any_seed(rng).max(1);
+        driver.make(Call::RunShuffled { k: rng.choose(&[2048, u32::MAX]), seed }, &mut lent)?;
+        hold_against_search(driver, &graph, start, edition, &mut lent)?;
+    }
+    Ok(())
+}
+
+/// A whole check and areas that no run reaches, by drawn runnings on.
 fn run_by_few<L: Calls>(
+    driver: &mut Driver<L>,
+    rng: &mut Rng,
+    mut draw_run: impl FnMut(&mut Rng) -> Call,
+) -> Outcome<()> {
+    let graph = Graph::uneven(rng);
+    let (start, edition) = (rng.within(1, graph.n), rng.choose(&EDITIONS));
+    let (mut lent, links) = begin(driver, rng, &graph, Call::Start { start, edition })?;
+    run_to_the_end(driver, rng, &links, &mut lent, &mut draw_run)?;
+    hold_against_search(driver, &graph, start, edition, &mut lent)?;
+    for _ in 0..4 {
+        let (mut lent, links) = unreached_area(rng, &graph);
+        run_to_the_end(driver, rng, &links, &mut lent, &mut draw_run)?;
+    }
+    Ok(())
+}
+
+/// Until the run is over or a running on is refused, but for its seed.
+fn run_to_the_end<L: Calls>(
     driver: &mut Driver<L>,
     rng: &mut Rng,
     links: &[Link],
     lent: &mut Lent,
+    draw_run: &mut impl FnMut(&mut Rng) -> Call,
 ) -> Outcome<()> {
     let order = any_order(rng);
     loop {
-        let ran = driver.make(Call::RunOn { k: rng.below(4) as u32 }, lent)?;
-        if ran.number != 0 || ran.values[0] == 1 {
+        let ran = driver.make(draw_run(rng), lent)?;
+        if ![0, NO_SEED].contains(&ran.number) || ran.values[0] == 1 {
             return Ok(());
         }
         if rng.one_in(2) {

@@ -2,23 +2,27 @@
 //! a call can have, is told apart from the plain Rust, and the call is named.
 
 use crate::driver::Driver;
-use crate::families::{COUNTS, EDITIONS, OTHER_EDITIONS, OTHER_EDITION_WORDS, PLACES, SUMS};
+use crate::families::{
+    COUNTS, EDITIONS, NO_SEED, OTHER_EDITIONS, OTHER_EDITION_WORDS, PLACES, SEEDS, SUMS,
+};
 use crate::graphs::Graph;
 use crate::layout::{ack_word, Link, EDITION, MOST_WAITING};
-use crate::running::{links_in, run_on_by_picks, ORDER_FAULTS};
+use crate::running::{
+    links_in, run_on_by_picks, run_shuffled_by_picks, LastShuffle, ORDER_FAULTS, SHUFFLE_FAULTS,
+};
 use crate::seconds::{
     counts_in, graph_in, is_small, pick_with_more, second_place, with_counts_swapped,
     without_second, Receiver, SecondPlaces,
 };
 use crate::{compare, Options};
 use calls::{Answer, Calls, LentRecord, Plain, Received};
-use std::cell::RefCell;
+use std::cell::{Cell, RefCell};
 use std::collections::BTreeSet;
 
 #[derive(Clone, Copy, Debug, PartialEq)]
 pub enum Fault {
     Sound,
-    /// No fault: running on is made by picks.
+    /// No fault: running on is made by picks, shuffled or not.
     SoundByPicks,
     ReadGivesAnotherM,
     ReadTakes7Before6,
@@ -89,6 +93,47 @@ pub enum Fault {
     RunTakesALinkThatFellEmpty,
     /// The link to itself is empty before the receiver sends on it.
     RunForgetsWhatALoopSends,
+    ShuffleKeepsTheFixedOrder,
+    /// Right 17 before left 13.
+    ShuffleShiftsRightFirst,
+    /// Left 5 in the place of left 13, and left 13 in the place of left 5.
+    ShuffleShiftsLeft5First,
+    ShuffleShiftsRightWithTheSign,
+    /// The state has 64 bits.
+    ShuffleKeepsBitsPast32,
+    /// Left shifts are rotations.
+    ShuffleBringsBitsPast32Back,
+    ShufflePicksBeforeItMovesOn,
+    /// All deliveries of a call are by one state.
+    ShuffleMovesOnOnce,
+    /// Only the first call begins from its seed.
+    ShuffleGoesOnFromTheCallBefore,
+    /// A call from the seed of the call before goes on where that one ended.
+    ShuffleHandsItsStateOnUnderOneSeed,
+    ShuffleCountsFrom1,
+    ShuffleTakesSendersFirst,
+    ShuffleTakesTheHighestReceiver,
+    ShuffleTakesTheHighestSender,
+    /// The state modulo the number of receivers for whom a message waits.
+    ShuffleCountsReceivers,
+    /// The state modulo the number of all links.
+    ShuffleCountsAllLinks,
+    /// The state modulo the number of messages.
+    ShuffleCountsMessages,
+    /// The lowest sender to it goes.
+    ShufflePicksAReceiverOnly,
+    ShuffleTakesTheNewest,
+    /// From seed 0, whose states are all 0.
+    ShuffleTakesSeed0,
+    ShuffleTakesSeed0ForSeed1,
+    ShuffleTakes37Before21,
+    ShuffleTakesOverBefore37,
+    ShuffleTakesSpentBefore37,
+    ShuffleForgetsTheEdition,
+    ShuffleForgetsMadeWhenRefused,
+    ShuffleUndoesItsDeliveriesWhenRefused,
+    ShuffleSaysOverWhenTheSeedIsRefused,
+    ShuffleWritesWhenTheSeedIsRefused,
     ReportHasAFixedVerdict,
     ReportNamesTheStartAsEscape,
     ReportNamesNoEscape,
@@ -176,6 +221,12 @@ struct Noted {
     /// Of accepted runnings on that made one delivery: whether the order before 02, N11 has another
     /// link, whether another sender's message waits for the receiver, and whether the link is a loop.
     deliveries: BTreeSet<[bool; 3]>,
+    /// Of shuffled runs from one of `SEEDS`: the seed, whether the run was over before, whether none was
+    /// asked for, and the number that was given.
+    seeds: BTreeSet<(u32, bool, bool, u32)>,
+    /// Of accepted shuffled runs that made one delivery: how many links had a message, and which of them,
+    /// counted from 0 in N11's order, the delivery was on.
+    ranks: BTreeSet<(usize, usize)>,
     /// On areas of one to three processes.
     reports: BTreeSet<Judged>,
     /// Of calls on an area that would be well formed with an edition: the call, the word in the
@@ -194,11 +245,12 @@ struct Noted {
 struct Planted {
     fault: Fault,
     noted: RefCell<Noted>,
+    last_shuffle: Cell<LastShuffle>,
 }
 
 impl Planted {
     fn new(fault: Fault) -> Planted {
-        Planted { fault, noted: RefCell::default() }
+        Planted { fault, noted: RefCell::default(), last_shuffle: Cell::default() }
     }
 
     fn has(&self, fault: Fault) -> bool {
@@ -454,6 +506,26 @@ impl Planted {
         self.noted.borrow_mut().deliveries.insert([is_another, has_another, from == to]);
     }
 
+    fn note_shuffle(&self, before: &[i32], after: &[i32], k: u32, seed: u32, answer: Answer) {
+        if SEEDS.contains(&seed) {
+            let was_over = Plain.report(&mut before.to_vec()).number == 0;
+            let called = (seed, was_over, k == 0, answer.number);
+            self.noted.borrow_mut().seeds.insert(called);
+        }
+        if (answer.number, answer.values[1]) != (0, 1) {
+            return;
+        }
+        let mut links = links_in(before);
+        links.retain(|link| link.load(before) > 0);
+        links.sort_by_key(|link| (link.to, link.from));
+        let is_taken = |link: &Link| {
+            let mut picked = before.to_vec();
+            Plain.pick(&mut picked, link.from, link.to, 1).number == 0 && picked == after
+        };
+        let rank = links.iter().position(is_taken).expect("a delivery takes the oldest of a link");
+        self.noted.borrow_mut().ranks.insert((links.len(), rank));
+    }
+
     fn note_step(&self, record: LentRecord, received: Received, refused: bool) {
         let others = (LentRecord { second: 0, ..record }, Received { second_count: 0, ..received });
         if Plain.step(others.0, others.1).number != 21 {
@@ -630,6 +702,33 @@ impl Calls for Planted {
             RunUndoesItsDeliveriesWhenRefused if answer.number != 0 => {
                 area.copy_from_slice(&before)
             }
+            _ => {}
+        }
+        answer
+    }
+
+    fn run_shuffled(&self, area: &mut [i32], k: u32, seed: u32) -> Answer {
+        if self.has(SoundByPicks) || SHUFFLE_FAULTS.contains(&self.fault) {
+            let mut last = self.last_shuffle.get();
+            let answer = run_shuffled_by_picks(self.fault, area, k, seed, &mut last);
+            self.last_shuffle.set(last);
+            return answer;
+        }
+        let before = area.to_vec();
+        let mut answer = self.seen("run_shuffled", area, |area| Plain.run_shuffled(area, k, seed));
+        if self.has(Sound) {
+            self.note_shuffle(&before, area, k, seed, answer);
+        }
+        match self.fault {
+            ShuffleForgetsTheEdition if answer.values[1] > 0 => area[EDITION] = 1,
+            ShuffleForgetsMadeWhenRefused if answer.number != 0 => answer.values[1] = 0,
+            ShuffleUndoesItsDeliveriesWhenRefused if answer.number != 0 => {
+                area.copy_from_slice(&before)
+            }
+            ShuffleSaysOverWhenTheSeedIsRefused if answer.number == NO_SEED => {
+                answer.values[0] = Plain.run_on(area, 0).values[0]
+            }
+            ShuffleWritesWhenTheSeedIsRefused if answer.number == NO_SEED => area[2] ^= 1,
             _ => {}
         }
         answer
@@ -835,6 +934,11 @@ fn every_planted_fault_is_found_and_its_call_named() {
         (RunForgetsAReceiverAfterOneLink, "RunOn"),
         (RunTakesALinkThatFellEmpty, "RunOn"),
         (RunForgetsWhatALoopSends, "RunOn"),
+        (ShuffleForgetsTheEdition, "RunShuffled"),
+        (ShuffleForgetsMadeWhenRefused, "RunShuffled"),
+        (ShuffleUndoesItsDeliveriesWhenRefused, "RunShuffled"),
+        (ShuffleSaysOverWhenTheSeedIsRefused, "RunShuffled"),
+        (ShuffleWritesWhenTheSeedIsRefused, "RunShuffled"),
         (ReportHasAFixedVerdict, "Report"),
         (ReportNamesTheStartAsEscape, "Report"),
         (ReportNamesNoEscape, "Report"),
@@ -880,7 +984,8 @@ fn every_planted_fault_is_found_and_its_call_named() {
         (StepTestsTheSecondCountOfAProbe, "Step"),
         (StepLetsTheSecondSumLeaveItsRange, "Step"),
     ];
-    for (fault, call) in faults {
+    let shuffles = SHUFFLE_FAULTS.map(|fault| (fault, "RunShuffled"));
+    for (fault, call) in faults.into_iter().chain(shuffles) {
         let shown =
             call_that_shows(fault, None).unwrap_or_else(|| panic!("{fault:?} is not found"));
         assert!(shown.starts_with(call), "{fault:?} shows in {shown}");
@@ -896,6 +1001,25 @@ fn every_fault_of_the_order_is_found_by_small_runnings_on() {
         let shown = call_that_shows(fault, Some(SMALL_RUNS));
         assert!(shown.is_some_and(|call| call.starts_with("RunOn")), "{fault:?} is not found");
     }
+}
+
+const SHUFFLED_RUNS: &str = "shuffled runs and picks in turn";
+
+/// 02, N13: but for 21, which areas that are well formed never give.
+#[test]
+fn every_fault_of_shuffling_is_found_by_shuffled_runs() {
+    for fault in SHUFFLE_FAULTS.into_iter().filter(|&fault| fault != ShuffleTakes37Before21) {
+        let shown = call_that_shows(fault, Some(SHUFFLED_RUNS));
+        let is_shown = shown.is_some_and(|call| call.starts_with("RunShuffled"));
+        assert!(is_shown, "{fault:?} is not found");
+    }
+}
+
+/// 02, N13: 37 comes before 21 only where both are met.
+#[test]
+fn the_order_of_21_and_37_is_found_in_damaged_areas() {
+    let shown = call_that_shows(ShuffleTakes37Before21, Some("areas damaged one word at a time"));
+    assert!(shown.is_some_and(|call| call.starts_with("RunShuffled")));
 }
 
 /// What one family calls.
@@ -914,6 +1038,41 @@ fn small_runnings_on_choose_among_all_kinds_of_links() {
     for kind in 0..8 {
         let kind = [1, 2, 4].map(|bit| kind & bit != 0);
         assert!(deliveries.contains(&kind), "{kind:?} is missing");
+    }
+}
+
+/// 02, N13: every link among few, by its rank.
+#[test]
+fn shuffled_runs_pick_every_link_among_few() {
+    let Noted { ranks, .. } = noted_in(SHUFFLED_RUNS, 100);
+    for count in 1..=8 {
+        for rank in 0..count {
+            assert!(ranks.contains(&(count, rank)), "{rank} of {count} is missing");
+        }
+    }
+}
+
+/// 02, N13: from each of the seeds, in runs that are over and that are not, with and without deliveries
+/// asked for.
+#[test]
+fn every_seed_is_tried_with_every_number() {
+    let mut seeds = BTreeSet::new();
+    for family in ["areas damaged one word at a time", "well-formed areas that no run reaches"] {
+        seeds.extend(noted_in(family, 300).seeds);
+    }
+    for seed in SEEDS {
+        for (was_over, none_asked_for) in
+            [(false, false), (false, true), (true, false), (true, true)]
+        {
+            let number = if seed == 0 { NO_SEED } else { 0 };
+            let called = (seed, was_over, none_asked_for, number);
+            assert!(seeds.contains(&called), "{called:?} is missing");
+        }
+        let refusals: &[u32] = if seed == 0 { &[21] } else { &[21, 22, 24] };
+        for &number in refusals {
+            let called = (seed, false, false, number);
+            assert!(seeds.contains(&called), "{called:?} is missing");
+        }
     }
 }
 
@@ -969,11 +1128,14 @@ fn every_edition_is_tried_with_and_without_8_and_9() {
     }
 }
 
+/// The calls on an area.
+const AREA_CALLS: [&str; 5] = ["pick", "run_on", "run_shuffled", "report", "read_record"];
+
 /// 02, N4: 21 from every call, unless the word names an edition.
 #[test]
 fn every_call_is_made_on_every_edition_in_an_area() {
     let Noted { editions, .. } = noted_in("editions", 100);
-    for call in ["pick", "run_on", "report", "read_record"] {
+    for call in AREA_CALLS {
         for word in OTHER_EDITION_WORDS.into_iter().chain([1, 2]) {
             let called = (call, word, !names_edition(word));
             assert!(editions.contains(&called), "{called:?} is missing");
@@ -985,7 +1147,7 @@ fn every_call_is_made_on_every_edition_in_an_area() {
 #[test]
 fn every_call_is_made_on_every_second_sum_in_an_area() {
     let Noted { sums, .. } = noted_in("second sums and counts", 100);
-    for call in ["pick", "run_on", "report", "read_record"] {
+    for call in AREA_CALLS {
         for sum in SUMS {
             let called = (call, sum, !is_small(sum));
             assert!(sums.contains(&called), "{called:?} is missing");
@@ -997,7 +1159,7 @@ fn every_call_is_made_on_every_second_sum_in_an_area() {
 #[test]
 fn every_two_counts_are_tried_in_a_message() {
     let Noted { counts, .. } = noted_in("second sums and counts", 300);
-    for call in ["pick", "run_on", "report", "read_record"] {
+    for call in AREA_CALLS {
         for both in COUNTS.into_iter().flat_map(|count| COUNTS.map(|second| [count, second])) {
             let called = (call, both, !both.iter().all(|&count| is_small(count)));
             // The word of the least two is 0, which is no message.
@@ -1051,7 +1213,7 @@ fn every_refusal_of_every_call_occurs() {
     let library = Planted::new(Sound);
     let mut driver = Driver::new(&library, options.seed);
     compare(&mut driver, &options, 100).expect("no fault is planted");
-    let expected: [(&str, &[u32]); 10] = [
+    let expected: [(&str, &[u32]); 11] = [
         ("next", &[0]),
         ("open", &[0, 1, 2, 3, 4, 5, 6, 7, 8]),
         ("pick", &[0, 21, 22, 23, 24, 25, 31]),
@@ -1059,6 +1221,7 @@ fn every_refusal_of_every_call_occurs() {
         ("read_table", &[0, 1, 2, 3, 4, 5, 6, 7]),
         ("report", &[0, 21, 26]),
         ("run_on", &[0, 21, 22, 24]),
+        ("run_shuffled", &[0, 21, 22, 24, 37]),
         ("start", &[0, 1, 2, 3, 4, 5, 6, 7, 8, 9, 30]),
         ("step", &[0, 21, 22, 25]),
         ("write_table", &[0, 2, 4, 7, 10, 11]),

@@ -77,6 +77,10 @@ pub fn run_on(area: &mut [i32], k: u32, over: &mut u32, made: &mut u32) -> u32 {
     unsafe { pickledune_run_on(area.as_mut_ptr(), area.len(), k, over, made) }
 }
 
+pub fn run_shuffled(area: &mut [i32], k: u32, seed: u32, over: &mut u32, made: &mut u32) -> u32 {
+    unsafe { pickledune_run_shuffled(area.as_mut_ptr(), area.len(), k, seed, over, made) }
+}
+
 pub fn report(
     area: &[i32],
     deliveries: &mut u32,

@@ -47,6 +47,14 @@ extern "C" {
         over: *mut u32,
         made: *mut u32,
     ) -> u32;
+    pub fn pickledune_run_shuffled(
+        area: *mut i32,
+        words: usize,
+        k: u32,
+        seed: u32,
+        over: *mut u32,
+        made: *mut u32,
+    ) -> u32;
     pub fn pickledune_report(
         area: *const i32,
         words: usize,

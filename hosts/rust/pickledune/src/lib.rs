@@ -74,7 +74,7 @@ pub enum Message {
     Ack { count: i32, second: i32 },
 }
 
-/// The answer of running on: over or spent with the number of deliveries made, or a refusal with the deliveries made before it.
+/// The answer of running on, also shuffled: over or spent with the number of deliveries made, or a refusal with the deliveries made before it.
 #[derive(Clone, Copy, Debug, PartialEq, Eq, Hash)]
 pub enum Ran {
     Over(u32),
@@ -212,11 +212,36 @@ pub fn pick(area: &mut [i32], from: usize, to: usize, place: usize) -> Result<Me
 pub fn run_on(area: &mut [i32], k: u32) -> Ran {
     let mut over = 0;
     let mut made = 0;
-    match accepted(archive::run_on(area, k, &mut over, &mut made)) {
-        Err(refusal) => Ran::Refused { refusal, made },
-        Ok(()) if over == 1 => Ran::Over(made),
-        Ok(()) => Ran::Spent(made),
-    }
+    let number = archive::run_on(area, k, &mut over, &mut made);
+    ran(number, over, made)
+}
+
+/// Runs on in an order that `seed` gives and that anyone can repeat (02, N13): the same area with the same `k` and seed gives the same
+/// answer and the same words on every machine. Before each delivery the state, which begins as the seed, is moved on (Marsaglia's
+/// xorshift32); modulo the number of links with a message, counted from 0 in the order of [`run_on`], it picks the link, whose oldest
+/// message goes. Each call begins from its own seed, so that two calls of one delivery from one seed are not one call of two. A check
+/// ends as it does by any other deliveries. 21, 37 (the seed is 0) before the first delivery; 24, 22 at a delivery.
+///
+/// ```
+/// use pickledune::{Ran, Refusal};
+///
+/// let mut table = [0u8; pickledune::table_bytes(3, 4)];
+/// pickledune::write_table(3, &[1, 2, 1, 3, 2, 3, 3, 1], &mut table)?;
+/// let fathers = |seed| {
+///     let mut area = [0i32; pickledune::area_words(3, 4)];
+///     pickledune::start(&table, 1, 1, &mut area)?;
+///     assert_eq!(pickledune::run_shuffled(&mut area, 2048, seed), Ran::Over(16));
+///     Ok((pickledune::read_record(&area, 2)?.father, pickledune::read_record(&area, 3)?.father))
+/// };
+/// assert_eq!(fathers(2463534242)?, (3, 1));
+/// assert_eq!(fathers(2026)?, (1, 2)); // of a process's values only father depends on the order
+/// # Ok::<(), Refusal>(())
+/// ```
+pub fn run_shuffled(area: &mut [i32], k: u32, seed: u32) -> Ran {
+    let mut over = 0;
+    let mut made = 0;
+    let number = archive::run_shuffled(area, k, seed, &mut over, &mut made);
+    ran(number, over, made)
 }
 
 /// The report of a run that is over. 21, 26.
@@ -308,6 +333,14 @@ fn accepted(number: u32) -> Result<(), Refusal> {
         Ok(())
     } else {
         Err(Refusal(number))
+    }
+}
+
+fn ran(number: u32, over: u32, made: u32) -> Ran {
+    match accepted(number) {
+        Err(refusal) => Ran::Refused { refusal, made },
+        Ok(()) if over == 1 => Ran::Over(made),
+        Ok(()) => Ran::Spent(made),
     }
 }
 

@@ -130,6 +130,69 @@ fn running_on_takes_the_lowest_receiver_and_then_the_lowest_sender() {
     }
 }
 
+/// 02, N13: the same waits. The states from seed 1 are 270369, 67634689, 2647435461 and one more, from 2463534242 they are 723471715,
+/// 2497366906, 2064144800 and one more; two links have a message until one of them is the last.
+#[test]
+fn a_shuffled_run_takes_the_link_that_the_state_picks() {
+    for (seed, links) in [
+        (1, [(3, 2), (2, 3), (3, 1), (1, 3)]),
+        (2463534242, [(3, 2), (3, 1), (1, 3), (2, 3)]),
+    ] {
+        let mut picked = started(&written(3, &[3, 1, 3, 2]), 3);
+        for (k, (from, to)) in (1..).zip(links) {
+            assert!(pickledune::pick(&mut picked, from, to, 1).is_ok());
+            let ran = if k < 4 { Ran::Spent } else { Ran::Over };
+            let mut area = started(&written(3, &[3, 1, 3, 2]), 3);
+            assert_eq!(pickledune::run_shuffled(&mut area, k, seed), ran(k));
+            assert_eq!(area, picked);
+        }
+    }
+}
+
+/// 02, N13: such a run ends as any other, with other fathers at most.
+#[test]
+fn a_shuffled_run_ends_as_any_other() {
+    let table = written(3, &[1, 2, 1, 3, 2, 3, 3, 1]);
+    let ended = |run: &dyn Fn(&mut [i32]) -> Ran| {
+        let mut area = started(&table, 1);
+        assert_eq!(run(&mut area), Ran::Over(16));
+        let records = [1, 2, 3].map(|process| pickledune::read_record(&area, process).unwrap());
+        let fathers = records.map(|record| record.father);
+        let others = records.map(|record| Process {
+            father: 0,
+            ..record
+        });
+        (pickledune::report(&area).unwrap(), others, fathers)
+    };
+    let (report, others, fathers) = ended(&|area| pickledune::run_on(area, 2048));
+    assert_eq!(fathers, [0, 1, 1]);
+    for (seed, fathers) in [(2463534242, [0, 3, 1]), (2026, [0, 1, 2])] {
+        let shuffled = ended(&|area| pickledune::run_shuffled(area, 2048, seed));
+        assert_eq!(shuffled, (report, others, fathers));
+    }
+}
+
+/// 02, N13: 37 comes after 21, and before all else.
+#[test]
+fn seed_0() {
+    let refused = |number| Ran::Refused {
+        refusal: Refusal(number),
+        made: 0,
+    };
+    let mut area = started(&TABLE, 1);
+    // At the start, between its two deliveries, and when the run is over.
+    for ran in [Ran::Spent(1), Ran::Over(1), Ran::Over(0)] {
+        let before = area.clone();
+        for k in [0, 1, u32::MAX] {
+            assert_eq!(pickledune::run_shuffled(&mut area, k, 0), refused(37));
+            assert_eq!(area, before);
+            assert_eq!(pickledune::run_shuffled(&mut area[1..], k, 0), refused(21));
+            assert_eq!(area, before);
+        }
+        assert_eq!(pickledune::run_shuffled(&mut area, 1, 1), ran);
+    }
+}
+
 /// The verdict under editions 1 and 2 (02, N4).
 type Verdicts = [Verdict; 2];
 const KNOT: Verdicts = [Verdict::Knot, Verdict::Knot];
@@ -313,6 +376,13 @@ fn refusals_change_nothing() {
     assert_eq!(pickledune::pick(&mut words, 1, 2, 1), Err(Refusal(21)));
     assert_eq!(
         pickledune::run_on(&mut words, 1),
+        Ran::Refused {
+            refusal: Refusal(21),
+            made: 0
+        }
+    );
+    assert_eq!(
+        pickledune::run_shuffled(&mut words, 1, 1),
         Ran::Refused {
             refusal: Refusal(21),
             made: 0

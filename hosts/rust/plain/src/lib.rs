@@ -10,12 +10,15 @@
 mod areas;
 mod program;
 mod runs;
+mod shuffled;
 mod steps;
 mod tables;
 
 pub use areas::words_needed;
 pub use program::{check_program, LARGEST_INPUT};
-pub use runs::{pick, read_record, report, run_on, start, Delivered, Report, Stopped};
+pub use runs::{
+    pick, read_record, report, run_on, run_shuffled, start, Delivered, Report, Stopped,
+};
 pub use steps::{step, Counts, Message, Probe, Record, Reply, Sent};
 pub use tables::{next, open, read_table, write_table, Chain, Sizes};
 
@@ -72,6 +75,8 @@ pub enum Refusal {
     NoEdition = 30,
     /// 02, N5: the place is 0 or beyond the messages waiting.
     NoPlace = 31,
+    /// 02, N13: a shuffled run from seed 0.
+    NoSeed = 37,
 }
 
 impl Refusal {

@@ -61,7 +61,7 @@ fn check(input: &[u8], out: &mut Vec<u8>) -> Result<(), Refusal> {
         }
     }
     while !run.is_over() {
-        let delivered = run.deliver_lowest(&mut links)?;
+        let delivered = run.deliver_chosen(&mut links, Indexed::lowest)?;
         put_delivery(out, b"own ", delivered);
     }
     put_end(out, &run)

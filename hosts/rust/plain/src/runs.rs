@@ -1,10 +1,11 @@
-//! The calls on a run area: start, pick, running on, the report, reading a record.
+//! The calls on a run area: start, pick, running on, also shuffled, the report, reading a record.
 
 use crate::areas::{
     code_of, edition_in, first_link, load, message_of, record_of, second_link, without,
     words_needed, words_of, Area, Edition, Link, RecordWords, CHECK, DELIVERIES, EDITION, HEADING,
     KNOT_CHECK, MOST_WAITING, START,
 };
+use crate::shuffled::{Counted, State};
 use crate::steps::{advance, advance_start, own_count, Message, Probe, Record, Sent};
 use crate::tables::{accept, Arc, Chain, Sizes, Table, Waits, Words};
 use crate::{Refusal, MOST_DELIVERIES, MOST_PROCESSES};
@@ -109,6 +110,16 @@ impl Indexed {
         links
     }
 
+    /// Row q − 1 has the senders to q.
+    pub(crate) fn senders(&self) -> &[u128; MOST_PROCESSES] {
+        &self.senders
+    }
+
+    /// Whether a message waits on a link.
+    pub(crate) fn holds(&self, from: usize, to: usize) -> bool {
+        self.senders[to - 1] >> (from - 1) & 1 != 0
+    }
+
     fn add(&mut self, run: &Run, from: usize, to: usize, link: usize) {
         self.places[from - 1][to - 1] = link as u16;
         if run.links[link][0] != 0 {
@@ -118,7 +129,7 @@ impl Indexed {
 
     /// The first link with a message, as its sender and its receiver: "The fixed order becomes
     /// lowest receiver first and then lowest sender" (02, N11).
-    fn lowest(&self) -> Option<(usize, usize)> {
+    pub(crate) fn lowest(&self) -> Option<(usize, usize)> {
         if self.receivers == 0 {
             return None;
         }
@@ -346,13 +357,47 @@ impl<'a> Run<'a> {
         }
     }
 
-    /// The next delivery in the fixed order, while the run is not over: 24, 22.
-    pub(crate) fn deliver_lowest(&mut self, links: &mut Indexed) -> Result<Delivered, Refusal> {
-        let (from, to) = links.lowest().ok_or(Refusal::Nothing)?;
+    /// A delivery on the link that is chosen, as its sender and its receiver, or on none if no message
+    /// waits, while the run is not over: 24, 22.
+    pub(crate) fn deliver_chosen<L: Links>(
+        &mut self,
+        links: &mut L,
+        choose: impl FnOnce(&L) -> Option<(usize, usize)>,
+    ) -> Result<Delivered, Refusal> {
+        let (from, to) = choose(links).ok_or(Refusal::Nothing)?;
         let link = links.find(&self.table, &self.waits, from, to);
         // Running on names no place and takes the oldest.
         let message = self.deliver(links, from, to, link, 1)?;
         Ok(Delivered { from, to, message })
+    }
+
+    /// Running on after 21, and 37 if it is shuffled: over, spent, 24, 22.
+    fn run_on<L: Links>(
+        &mut self,
+        k: u32,
+        links: fn(&Run) -> L,
+        mut choose: impl FnMut(&L) -> Option<(usize, usize)>,
+    ) -> (Stopped, u32) {
+        if self.is_over() {
+            return (Stopped::Over, 0);
+        }
+        if k == 0 {
+            return (Stopped::Spent, 0);
+        }
+        let mut links = links(self);
+        let mut made = 0;
+        loop {
+            if let Err(refusal) = self.deliver_chosen(&mut links, &mut choose) {
+                return (Stopped::Refused(refusal), made);
+            }
+            made += 1;
+            if self.is_over() {
+                return (Stopped::Over, made);
+            }
+            if made == k {
+                return (Stopped::Spent, made);
+            }
+        }
     }
 
     pub(crate) fn records(&self) -> impl Iterator<Item = Record> + '_ {
@@ -409,29 +454,19 @@ pub fn pick(area: &mut [i32], from: usize, to: usize, place: usize) -> Result<Me
 /// Makes up to k deliveries in the fixed order (02, N11: lowest receiver first and then lowest
 /// sender), and gives how it stopped and how many it made.
 pub fn run_on(area: &mut [i32], k: u32) -> (Stopped, u32) {
-    let mut run = match Run::test(area) {
-        Ok(run) => run,
-        Err(refusal) => return (Stopped::Refused(refusal), 0),
-    };
-    if run.is_over() {
-        return (Stopped::Over, 0);
+    match Run::test(area) {
+        Ok(mut run) => run.run_on(k, Indexed::new, Indexed::lowest),
+        Err(refusal) => (Stopped::Refused(refusal), 0),
     }
-    if k == 0 {
-        return (Stopped::Spent, 0);
-    }
-    let mut links = Indexed::new(&run);
-    let mut made = 0;
-    loop {
-        if let Err(refusal) = run.deliver_lowest(&mut links) {
-            return (Stopped::Refused(refusal), made);
-        }
-        made += 1;
-        if run.is_over() {
-            return (Stopped::Over, made);
-        }
-        if made == k {
-            return (Stopped::Spent, made);
-        }
+}
+
+/// Makes up to k deliveries in the order that a seed gives (02, N13), and gives how it stopped and how
+/// many it made. "It refuses seed 0 with 37, after 21." Each call begins from its own seed.
+pub fn run_shuffled(area: &mut [i32], k: u32, seed: u32) -> (Stopped, u32) {
+    let begun = Run::test(area).and_then(|run| Ok((run, State::begin(seed)?)));
+    match begun {
+        Ok((mut run, mut state)) => run.run_on(k, Counted::new, |links| links.picked(&mut state)),
+        Err(refusal) => (Stopped::Refused(refusal), 0),
     }
 }
 

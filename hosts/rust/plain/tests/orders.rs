@@ -3,7 +3,10 @@
 
 mod common;
 
-use common::{links, printed, small_sets, started_under, table, waiting, Link};
+use common::{
+    a_message_on_each_link, links, printed, run_by_picks, small_sets, started_under, table,
+    without_fathers, Link,
+};
 use plain::*;
 
 /// What the first link has least of.
@@ -15,25 +18,9 @@ const RECEIVERS_FIRST: Order = |&(from, to, _)| (to, from);
 /// 01's order: "lowest sender first and then lowest receiver".
 const SENDERS_FIRST: Order = |&(from, to, _)| (from, to);
 
-/// Running on by picks of the oldest message, each on the first link with a message.
+/// Running on by picks, each on the first link with a message.
 fn run_on_by_picks(area: &mut [i32], links: &[Link], order: Order, k: u32) -> (Stopped, u32) {
-    let mut made = 0;
-    loop {
-        match report(area) {
-            Ok(_) => return (Stopped::Over, made),
-            Err(Refusal::NotOver) if made < k => {}
-            Err(Refusal::NotOver) => return (Stopped::Spent, made),
-            Err(refusal) => return (Stopped::Refused(refusal), made),
-        }
-        let with_a_message = links.iter().copied().filter(|link| !waiting(area, link.2).is_empty());
-        let Some((from, to, _)) = with_a_message.min_by_key(order) else {
-            return (Stopped::Refused(Refusal::Nothing), made);
-        };
-        if let Err(refusal) = pick(area, from, to, 1) {
-            return (Stopped::Refused(refusal), made);
-        }
-        made += 1;
-    }
+    run_by_picks(area, links, k, |links| links.into_iter().min_by_key(order))
 }
 
 /// What the program prints first, from a start and without picks.
@@ -81,21 +68,9 @@ fn every_delivery_is_on_the_first_link_with_a_message() {
     }
 }
 
-/// Of 128 processes, each with a message to the one in the middle and from it: no run leaves so many.
-/// Nobody sends anything on an acknowledgement, so each delivery is one message less.
 #[test]
 fn every_receiver_and_every_sender_has_its_turn() {
-    let (n, middle) = (128, 64);
-    let list: Vec<u16> = (1..=n as u16).flat_map(|other| [middle, other]).collect();
-    let links = links(n, &list);
-    let mut full = started_under(1, n, &list, n);
-    for process in 1..=n {
-        full[16 + 2 * n + 4 * n + 6 * (process - 1) + 2] = 256;
-    }
-    for &(.., link) in &links {
-        full[link] = 256 + 512 * 256;
-        full[link + 1..link + 4].fill(0);
-    }
+    let (mut full, links) = a_message_on_each_link();
     let mut picked = full.clone();
     for k in 0..links.len() as u32 {
         let mut area = full.clone();
@@ -149,14 +124,8 @@ impl Both {
         [&self.new, &self.old].iter().all(|area| report(area).is_ok())
     }
 
-    fn agree_but_for_fathers(&self, n: usize) -> bool {
-        let [new, old] = [&self.new, &self.old].map(|area| {
-            let mut area = area.clone();
-            let records = 16 + 2 * n + 4 * area[15] as usize;
-            (0..n).for_each(|process| area[records + 6 * process + 3] = 0);
-            area
-        });
-        new == old
+    fn agree_but_for_fathers(&self) -> bool {
+        without_fathers(&self.new) == without_fathers(&self.old)
     }
 }
 
@@ -194,7 +163,7 @@ fn what_differs_by_the_order_ends_with_the_run() {
             let was_alike = is_alike;
             is_alike = both.new == both.old;
             if !is_alike && both.both_are_over() {
-                assert!(both.agree_but_for_fathers(n), "{list:?} from {start}, {call:?}");
+                assert!(both.agree_but_for_fathers(), "{list:?} from {start}, {call:?}");
                 is_alike = true;
                 fathers += 1;
             }

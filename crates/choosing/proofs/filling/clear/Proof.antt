@@ -9,7 +9,7 @@ use lib.Seq.{getD-set-same, getD-set-other}
 use Rattle.base.specs.ChoiceLaws.{same?}
 use Rattle.base.specs.Checks.{Same, same, apart}
 use Rattle.choosing.specs.Memory.{memorySize}
-use Rattle.choosing.specs.MarkLaws.{marks-cleared}
+use Rattle.choosing.specs.GroupLaws.{marks-cleared}
 use Rattle.choosing.proofs.filling.clear.Statement.{statement}
 use Rattle.choosing.proofs.filling.clear.Tie as tie
 

@@ -39,10 +39,10 @@ count-down-spec =
     (tie.spec
     (λ c κs. search needs)
     (λ c. omega (arith, c .count-at .ensures))
-    (λ c. omega (arith, c .count-at .ensures, c .before .pre .0 .1 .long))
+    (λ c. omega (arith, c .count-at .ensures, c .before .pre .0 .1 .rows .long))
     fits
     (λ c. omega (arith, c .before .count-at .ensures))
-    (λ c. omega (arith, c .before .count-at .ensures, c .before .before .pre .0 .1 .long))
+    (λ c. omega (arith, c .before .count-at .ensures, c .before .before .pre .0 .1 .rows .long))
     returns
     strike-requires
     returns-2)

@@ -15,7 +15,7 @@ fits c =
     let o = c .before in
     let s = o .before in
     let e = ap (λ (i : ℕ). getD (s .args .memory .now) i 0) (o .count-at .ensures) in
-    omega (arith, e, marks-few (s .pre .0 .1) (s .args .b) (s .pre .1))
+    omega (arith, e, marks-few (s .pre .0 .1 .rows) (s .args .b) (s .pre .1))
 
 returns : tie.Need-returns
 returns c =
@@ -41,10 +41,10 @@ count-up-spec =
     (tie.spec
     (λ c κs. search needs)
     (λ c. omega (arith, c .count-at .ensures))
-    (λ c. omega (arith, c .count-at .ensures, c .before .pre .0 .1 .long))
+    (λ c. omega (arith, c .count-at .ensures, c .before .pre .0 .1 .rows .long))
     fits
     (λ c. omega (arith, c .before .count-at .ensures))
-    (λ c. omega (arith, c .before .count-at .ensures, c .before .before .pre .0 .1 .long))
+    (λ c. omega (arith, c .before .count-at .ensures, c .before .before .pre .0 .1 .rows .long))
     returns
     add-requires
     returns-2)

@@ -1,6 +1,6 @@
 -- `choosing::sets::mark` meets its contract: the link was marked, or it is marked now.
 -- Assumes nothing.
-use Rattle.choosing.proofs.Marking.{mark-none, mark-asks, mark-is}
+use Rattle.choosing.proofs.Marking.{mark-none, mark-asks, mark-asks-group, mark-is}
 use Rattle.choosing.proofs.sets.mark.Statement.{statement}
 use Rattle.choosing.proofs.sets.mark.Tie as tie
 
@@ -19,21 +19,33 @@ add-requires c κs =
     mark-asks (s .args .memory .now) (s .args .a) (s .args .b) (s .pre .1 .0) (s .pre .1 .1) (o .is-in .ensures) (e .if1 .left) (u .count-up .ensures)
     (s .pre .0)
 
+group-up-requires : tie.Need-group-up-requires
+group-up-requires c κs =
+    let d = c .before in
+    let u = d .before .before in
+    let e = u .before .before in
+    let o = e .before in
+    let s = o .before .before in
+    mark-asks-group (s .args .memory .now) (s .args .a) (s .args .b) (s .pre .1 .0) (s .pre .1 .1) (o .is-in .ensures) (e .if1 .left)
+    (u .count-up .ensures) (d .add .ensures) (s .pre .0)
+
 returns-2 : tie.Need-returns-2
 returns-2 c =
-    let u = c .before .before in
+    let d = c .before .before in
+    let u = d .before .before in
     let e = u .before .before in
     let o = e .before in
     let s = o .before .before in
     mark-is (s .args .memory .now) (s .args .a) (s .args .b) (s .pre .1 .0) (s .pre .1 .1) (o .is-in .ensures) (e .if1 .left) (u .count-up .ensures)
-    (c .add .ensures)
+    (d .add .ensures) (c .group-up .ensures)
 
 pub mark-spec : {M : Type 1} → statement M
 mark-spec =
     tie.close
     (tie.spec
-    (λ c κs. (c .before .pre .0 .1 .long, (c .before .pre .1 .1 .1, c .before .pre .1 .0)))
+    (λ c κs. (c .before .pre .0 .1 .rows .long, (c .before .pre .1 .1 .1, c .before .pre .1 .0)))
     returns
     (λ c κs. (c .before .before .before .before .pre .0, c .before .before .before .before .pre .1 .1))
     add-requires
+    group-up-requires
     returns-2)

@@ -28,20 +28,15 @@ ready c =
     let g = c .n .given in
     right-ready (start c .args .area .now) (t .test .last .1 .0) (t .test .result) (g .0 .0) (g .0 .1 .0) (t .test .ensures .0) (g .1) (t .test .ensures .1)
 
-remember-requires : tie.Need-remember-requires
-remember-requires c κs = (ready (c .before .before .before .before), refl)
-
-drive-requires : tie.Need-drive-requires
-drive-requires c κs =
-    let f = c .before .before .before in
-    (ready (f .before .before .before .before .before), f .remember .ensures)
+run-in-requires : tie.Need-run-in-requires
+run-in-requires c κs = ready (c .before .before .before)
 
 returns-2 : tie.Need-returns-2
 returns-2 c =
     let d = c .before in
-    let n = d .before .before .before .before .before .before .before .before .before in
+    let n = d .before .before .before .before in
     let o = runOn-on (start n .args .area .now) (ready n .right) (start n .args .k) in
-    (d .drive .ensures .0 ∙ o .0, d .drive .ensures .1 ∙ o .1)
+    (d .run-in .ensures .0 ∙ o .0, d .run-in .ensures .1 ∙ o .1)
 
 pub run-on-spec : {M : Type 1} → statement M
 run-on-spec =
@@ -52,7 +47,6 @@ run-on-spec =
     (λ c. search needs)
     (λ c. search needs)
     returns
-    remember-requires
-    drive-requires
+    run-in-requires
     (λ c. search needs)
     returns-2)
