@@ -80,7 +80,8 @@ holding-next-of {choice} named {w} y {r = r} h e =
 
 abbrev pub Left : (Run → Selection) → List ℤ → List ℕ → ℕ → ℕ → ChosenDelivery → List ℤ → List ℕ → Type 0
 Left choice w sq n m x v l =
-    (x ≡ chosenAnswer (choice (runIn w)) (on choice (runIn w) .answer)) × ((v ≡ keeping w (on choice (runIn w) .run)) × (Remembers (runIn v) l × Ready v sq n m))
+    (x ≡ chosenAnswer (choice (runIn w)) (on choice (runIn w) .answer))
+    × ((v ≡ keeping w (on choice (runIn w) .run)) × (Remembers (runIn v) l × Ready v sq n m))
 
 module _ (choice : Run → Selection) (named : Names choice) {w : List ℤ} {sq : List ℕ} {n m : ℕ} (y : Ready w sq n m) where
   pub left-small

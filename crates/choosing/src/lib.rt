@@ -103,11 +103,11 @@ fn begin_at(memory: &[usize; parts::MEMORY_SIZE], place: usize) -> Beginning
     let mut left = place;
     let mut g = 0;
     while g < parts::GROUPS {
-        let held = memory[parts::group_at(g)];
-        if left < held {
+        let count = memory[parts::group_at(g)];
+        if left < count {
             break;
         }
-        left -= held;
+        left -= count;
         g += 1;
     }
     Beginning {

@@ -6,7 +6,8 @@ ghost use Prim.Native.Nat.{_+_, _-_, _*_, _^_, _≤_, _<_};
 ghost use lib.ListN.{length};
 ghost use Rattle.tables.specs.Table.{mostProcesses, IsProcess};
 ghost use Rattle.choosing.specs.Memory.{memorySize, wordDigits, digitOf};
-ghost use Rattle.choosing.specs.Sets.{word, isIn, addedTo, struckFrom, lowestOf, lowestIn, Ranked, countOf, countedUp, countedDown, groupCount, putGroup, turned};
+ghost use Rattle.choosing.specs.Sets.{word, isIn, addedTo, struckFrom, lowestOf, lowestIn, Ranked, countOf, countedUp, countedDown};
+ghost use Rattle.choosing.specs.Sets.{groupCount, putGroup, turned};
 ghost use Rattle.choosing.specs.Noting.{Marked, MarkedAt, Turns};
 
 // Whether p is in the set j.

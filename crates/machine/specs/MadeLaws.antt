@@ -27,7 +27,8 @@ use Rattle.machine.specs.Machine.{Machine, Rules, over, wellFormed, afte
 use Rattle.machine.specs.Calls.{Answer, given, refusal, Picked, refused, Cut, cut, behind, atPlace, delivered, deliver, pick}
 use Rattle.machine.specs.Calls.{Selection, nobody, pair, Chooser, RanOn, notRun, goOn, deliverOn, runFrom, runOn, ranNumber, ranMade}
 use Rattle.machine.specs.Calls.{shuffledOrder, runShuffled}
-use Rattle.machine.specs.Lists.{Call, picking, runningOn, runningShuffled, reporting, reading, Passed, Reads, acceptedPick, answerNumber, inTurn, passedBy}
+use Rattle.machine.specs.Lists.{Call, picking, runningOn, runningShuffled, reporting, reading, Passed, Reads}
+use Rattle.machine.specs.Lists.{acceptedPick, answerNumber, inTurn, passedBy}
 use Rattle.machine.specs.Made.{Made, none, more, Stopped, went, nothing, no-place, full}
 use Rattle.machine.specs.Made.{Answered, none-refused, was-over, none-waits, no-link, not-over, beyond, no-seed}
 use Rattle.machine.specs.Made.{Finds, PickMade, RunMade, Sure, PassMade}

@@ -68,9 +68,9 @@ pub struct Way {
 }
 
 // How a run stands: its start; A of 01; D, as the search found it; the sucs and pres that picks delivered, how many deliveries overtook, and how
-// many running on with a seed made; the last random number; the link tried last, as its place in the list, and the place below the one tried there, 0 if no message is known to
-// wait on that link; the receiver of the last delivery by a pick, before it the start, and the tries since; which call past the end is next, 0
-// before the end; the first difference.
+// many running on with a seed made; the last random number; the link tried last, as its place in the list, and the place below the one tried
+// there, 0 if no message is known to wait on that link; the receiver of the last delivery by a pick, before it the start, and the tries since;
+// which call past the end is next, 0 before the end; the first difference.
 pub struct Course {
     pub start: usize,
     pub made: u32,

@@ -109,7 +109,8 @@ found c =
     let i = o .before in
     let a = i .before in
     let s = a .before .before in
-    found-here (s .pre .0) (s .pre .1) (s .args .place) (a .scan .b) (a .scan .left) (a .scan .inv .0) (a .scan .inv .2) (i .scan-test .taken) (o .count-at .ensures) (t .if1 .taken) (c .ranked-in .ensures)
+    found-here (s .pre .0) (s .pre .1) (s .args .place) (a .scan .b) (a .scan .left) (a .scan .inv .0) (a .scan .inv .2)
+    (i .scan-test .taken) (o .count-at .ensures) (t .if1 .taken) (c .ranked-in .ensures)
 
 -- b is a process
 receiver
@@ -127,6 +128,12 @@ waiting-on-requires c κs =
     let i = f .before .before .before .before in
     let s = i .before .before .before in
     (s .pre .0, omega (arith, a .loop .inv .0, found f .from-in, receiver i, ready-n (s .pre .0)))
+
+add-a : tie.Need-add-a Inv-loop μ-loop Inv-scan μ-scan
+add-a c =
+    let l = c .before .before in
+    let i = l .before .before .before .before .before .before in
+    omega (arith, l .loop-test .taken, ready-sizes (i .before .before .before .pre .0) .0)
 
 -- the inner loop is never gone through again: a message waits where it begins
 loop-again : tie.Need-loop-again Inv-loop μ-loop Inv-scan μ-scan
@@ -189,7 +196,7 @@ choose-spec =
     (λ c κs. let i = c .before .before .before in (i .before .before .before .pre .1 .rows .long, receiver i .0 .1))
     (λ c. (refl, c .before .before .before .before .before .scan .inv .1))
     waiting-on-requires
-    (λ c. let i = c .before .before .before .before .before .before .before .before in omega (arith, c .before .before .loop-test .taken, ready-sizes (i .before .before .before .pre .0) .0))
+    add-a
     (λ c. omega (arith, c .before .before .loop-test .taken))
     loop-again
     (λ c. omega (arith, receiver (c .before .before .before)))

@@ -1,7 +1,7 @@
 -- `printing::run_out` meets its contract. The loop's invariant is a turn of running on (runs, proofs/Turns) by as many deliveries as a run
 -- counts at most, with what is remembered of the area. The measure is the turns that are left.
 -- Assumes nothing.
-use Prim.Native.Nat.{_-_}
+use Prim.Native.Nat.{_-_, _<_}
 use mathlib.Core.Path.{sym, ap, _∙_}
 use native.Mathlib.Omega.{arith}
 use borrow.Author.Tests.{not-true, not-false}
@@ -61,7 +61,8 @@ returns-2 c =
     let y = a .before .pre .0 in
     let own = d .print-own .ensures in
     let none = sym (own .0) ∙ ap bit (not-true (d .print-own .result) (c .if2 .taken)) in
-    let end = turn-unmade fixedOrder 0 y (a .loop .inv .0) (i .is-over .ensures) (e .if1 .left) lowest-names (omega (arith, l .loop-test .taken)) (own .1 .0) none in
+    let more : a .loop .turns < knot .most = omega (arith, l .loop-test .taken) in
+    let end = turn-unmade fixedOrder 0 y (a .loop .inv .0) (i .is-over .ensures) (e .if1 .left) lowest-names more (own .1 .0) none in
     (end ∙ runOn-fixed _ (y .right) (knot .most), own .1 .1 .1)
 
 loop-again : tie.Need-loop-again Inv-loop μ-loop
@@ -73,7 +74,8 @@ loop-again c =
     let a = l .before in
     let own = d .print-own .ensures in
     let one = sym (own .0) ∙ ap bit (not-false (d .print-own .result) (c .if2 .left)) in
-    let next = turn-made fixedOrder 0 (a .before .pre .0) (a .loop .inv .0) (i .is-over .ensures) (e .if1 .left) lowest-names (omega (arith, l .loop-test .taken)) (own .1 .0) one in
+    let more : a .loop .turns < knot .most = omega (arith, l .loop-test .taken) in
+    let next = turn-made fixedOrder 0 (a .before .pre .0) (a .loop .inv .0) (i .is-over .ensures) (e .if1 .left) lowest-names more (own .1 .0) one in
     (next, own .1 .1 .0)
 
 same-length-3 : tie.Need-same-length-3 Inv-loop μ-loop

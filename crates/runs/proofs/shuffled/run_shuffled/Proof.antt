@@ -17,7 +17,8 @@ returns : tie.Need-returns
 returns c =
     let t = c .before .before in
     let s = t .before .before .before in
-    shuffled-21 (s .args .area .now) (wrong-area (s .args .area .now) (t .test .result) (t .test .ensures .0) (c .enum-told .given .1)) (s .args .k) (s .args .seed)
+    let wrong = wrong-area (s .args .area .now) (t .test .result) (t .test .ensures .0) (c .enum-told .given .1) in
+    shuffled-21 (s .args .area .now) wrong (s .args .k) (s .args .seed)
 
 -- the area, once it is tested
 abbrev start : tie.After-n → tie.Start
