@@ -1,5 +1,6 @@
 -- What the answer of the receiver's step says of a delivery in a well-formed run.
 --   outDegree-most, inDegree-most   == a degree is at most N
+--   lent                  == the record of a process in a well-formed run and its degrees are in range
 --   steppedAt-is          == the receiver's step is refused only by 22, and is else its turn
 --   steppedAt-taken, steppedAt-refused   == what an answer of the step says
 --   accepts-is            == the delivery of a step that is taken meets no 22 exactly if the count and the links have room
@@ -24,7 +25,7 @@ use Rattle.base.specs.ChoiceLaws.{tested, and-both, and-three}
 use Rattle.base.specs.Checks.{Tested, passed, failed}
 use Rattle.base.specs.Sums.{allTo}
 use Rattle.base.specs.SumLaws.{allTo-at, countTo-most}
-use Rattle.tables.specs.Table.{mostProcesses}
+use Rattle.tables.specs.Table.{mostProcesses, IsProcess}
 use Rattle.tables.specs.Waits.{Waits, outDegree, inDegree, neighbours}
 use Rattle.tables.specs.Sound.{Sound}
 use Rattle.tables.specs.WaitsLaws.{neighbours-ends}
@@ -64,24 +65,25 @@ inDegree-most w p = countTo-most (w .n) (λ q. w .waits q p)
 
 -- ---- the receiver's step
 
+-- the record, the degrees and the counts are in range, so that the step does not meet 21
+pub lent : (r : Run) → wellFormed r ≡ true → Sound (r .waits) → (b : ℕ) → IsProcess (r .waits .n) b → (m : Message) → countSmall m ≡ true
+    → lentInRange m (outDegree (r .waits) b) (inDegree (r .waits) b) (r .process b) ≡ true
+unfolding lentInRange
+lent r h sd b e m c =
+    let x = r .process b in
+    let o = outDegree (r .waits) b in
+    let i = inDegree (r .waits) b in
+    and-both (inRange x && leb (x .father) mostProcesses && countSmall m && leb o mostProcesses) (leb i mostProcesses)
+    (and-both (inRange x && leb (x .father) mostProcesses && countSmall m) (leb o mostProcesses)
+    (and-both (inRange x && leb (x .father) mostProcesses) (countSmall m)
+    (and-both (inRange x) (leb (x .father) mostProcesses) (formed-range (wellFormed-P knot r .0 h) b e)
+    (le-leb (x .father) mostProcesses (father-few (r .waits) sd b x (formed-father (wellFormed-P knot r .0 h) b e))))
+    c)
+    (le-leb o mostProcesses (omega (arith, outDegree-most (r .waits) b, sd .few))))
+    (le-leb i mostProcesses (omega (arith, inDegree-most (r .waits) b, sd .few)))
+
 module _ (r : Run) (h : wellFormed r ≡ true) (sd : Sound (r .waits)) (a b : ℕ) (j : neighbours (r .waits) a b ≡ true) (m : Message)
     (c : countSmall m ≡ true) where
-  lent : lentInRange m (outDegree (r .waits) b) (inDegree (r .waits) b) (r .process b) ≡ true
-  unfolding lentInRange
-  lent =
-      let e = neighbours-ends (r .waits) sd a b j in
-      let x = r .process b in
-      let o = outDegree (r .waits) b in
-      let i = inDegree (r .waits) b in
-      and-both (inRange x && leb (x .father) mostProcesses && countSmall m && leb o mostProcesses) (leb i mostProcesses)
-      (and-both (inRange x && leb (x .father) mostProcesses && countSmall m) (leb o mostProcesses)
-      (and-both (inRange x && leb (x .father) mostProcesses) (countSmall m)
-      (and-both (inRange x) (leb (x .father) mostProcesses) (formed-range (wellFormed-P knot r .0 h) b (e .2, e .3))
-      (le-leb (x .father) mostProcesses (father-few (r .waits) sd b x (formed-father (wellFormed-P knot r .0 h) b (e .2, e .3)))))
-      c)
-      (le-leb o mostProcesses (omega (arith, outDegree-most (r .waits) b, sd .few))))
-      (le-leb i mostProcesses (omega (arith, inDegree-most (r .waits) b, sd .few)))
-
   steppedAt-is : steppedAt r a b m ≡ answer (choose (not (fitting m (r .process b) (turnAt r a b m))) 22 0) (turnAt r a b m)
   unfolding turnOf startStepped
   steppedAt-is = at (tested (eqb b (r .start)))
@@ -90,8 +92,8 @@ module _ (r : Run) (h : wellFormed r ≡ true) (sd : Sound (r .waits)) (a b : �
       at (passed e) = rw e
       at (failed e) =
           let k = neighbours-ends (r .waits) sd a b j in
-          rw e (stepped-inside m (outDegree (r .waits) b) (inDegree (r .waits) b) a (r .process b) lent (λ q. omega (arith, k .0))
-          (omega (arith, k .1, sd .few)))
+          rw e (stepped-inside m (outDegree (r .waits) b) (inDegree (r .waits) b) a (r .process b) (lent r h sd b (k .2, k .3) m c)
+          (λ q. omega (arith, k .0)) (omega (arith, k .1, sd .few)))
 
   pub steppedAt-taken : (x : Process) (y : Probes) (z : Reply) → steppedAt r a b m ≡ Taken x y z → Taking r a b m x y z
   unfolding answer

@@ -105,5 +105,5 @@ pub fn step_at(
     }
     let out_degree = out_needed(area, square, n, m, b, x, message);
     let in_degree = in_needed(area, square, n, m, b, x, message);
-    steps::step(x, message, out_degree, in_degree, a as u32)
+    steps::other_step(x, message, out_degree, in_degree, a as u32)
 }

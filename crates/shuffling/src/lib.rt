@@ -7,10 +7,13 @@ const KEPT_BY_13: u32 = 0x0007_ffff;
 
 const KEPT_BY_5: u32 = 0x07ff_ffff;
 
-// The next state: xored with itself shifted left 13, then right 17, then left 5.
+// The next state: xored with itself shifted left 13, then right 17, then left 5. 0 stays 0, which the fixed order is spared to compute.
 pub fn moved_on(state: u32) -> u32
     ensures { λ r. ⌜ r ≡ movedOn state ⌝ }
 {
+    if state == 0 {
+        return 0;
+    }
     let first = state ^ ((state & KEPT_BY_13) << 13);
     let second = first ^ (first >> 17);
     second ^ ((second & KEPT_BY_5) << 5)

@@ -4,7 +4,7 @@
 --   newSubordinate-both             == of two flags: the new subordinate, and 1 for both, are succeeding
 --   turn-effect, startTurn-effect   == every step has the effect that Effect says
 --   turn-named, startTurn-named     == whom a step of any record takes as father, and whom it acknowledges
---   stepped-needed    == a step does not depend on a degree that it does not use
+--   lent-needed, stepped-needed   == a step, and what it may refuse with 21, does not depend on a degree that it does not use
 --   ownCount-small    == the 1 or 0 that a process adds to its second sum is a count in range
 --   inRange-P         == what `inRange x` says of the values of a record
 --   stepped-inside    == a step of what is in range, from a process: 22, or the turn
@@ -507,7 +507,7 @@ in-few Suc x h = omega arith
 in-few Pre x h = choose-few (eqb (x .preceding) 0) h
 in-few (Ack c) x h = omega arith
 
-lent-needed : (m : Message) (o i : ℕ) (x : Process) → o ≤ mostProcesses → i ≤ mostProcesses
+pub lent-needed : (m : Message) (o i : ℕ) (x : Process) → o ≤ mostProcesses → i ≤ mostProcesses
     → lentInRange m (outNeeded m x o) (inNeeded m x i) x ≡ lentInRange m o i x
 unfolding lentInRange
 lent-needed m o i x h k =

@@ -1,11 +1,11 @@
 // Messages, process records, and one process's step (01, section "Steps"), by value: a function for each rule.
-// step takes any values whatever and refuses with 21, 25 or 22; start_step refuses with 22. No sum wraps.
+// step takes any values whatever and refuses with 21, 25 or 22; in a run other_step and start_step refuse with 22. No sum wraps.
 // The code stands on tables for the largest N, a law of it on machine.
 ghost use mathlib.Core.Path.{_≡_};
 ghost use mathlib.Core.Bool.{true};
 ghost use Prim.Native.Nat.{_≤_};
 ghost use lib.IntN.{pos, _+ℤ_, _-ℤ_};
-ghost use Rattle.tables.specs.Table.{mostProcesses};
+ghost use Rattle.tables.specs.Table.{mostProcesses, IsProcess};
 ghost use Rattle.steps.specs.Step.{mostNum, small, bothSmall, inRange, countSmall, lentInRange, numSuffices, replyFits, sumsOf, ownCount};
 ghost use Rattle.steps.specs.Step.{newSubordinate, rule1, setSucceeding, setPreceding, rule3, rule4, acknowledged, turn, stepped, startTurn};
 ghost use Rattle.steps.specs.Step.{startStepped};
@@ -456,6 +456,24 @@ fn settled(turn: Turn) -> Stepped
     }
 }
 
+// The step of a process other than the start, in a run whose records and counts are in range, from one of its processes: it checks 22.
+pub fn other_step(
+    process: Process,
+    message: Message,
+    out_degree: u32,
+    in_degree: u32,
+    sender: u32,
+) -> Stepped
+    requires { ⌜ lentInRange message «out_degree» «in_degree» process ≡ true ⌝ }
+    requires { ⌜ IsProcess mostProcesses sender ⌝ }
+    ensures { λ r. ⌜ r ≡ stepped message «out_degree» «in_degree» sender process ⌝ }
+{
+    if !is_num_sufficient(message, process) {
+        return Stepped::Refused(22);
+    }
+    settled(take_turn(process, message, out_degree, in_degree, sender))
+}
+
 // One process's step by itself: it checks 21, 25, 22, whatever it is given.
 pub fn step(
     process: Process,
@@ -475,10 +493,7 @@ pub fn step(
     if sender > MOST_PROCESSES {
         return Stepped::Refused(25);
     }
-    if !is_num_sufficient(message, process) {
-        return Stepped::Refused(22);
-    }
-    settled(take_turn(process, message, out_degree, in_degree, sender))
+    other_step(process, message, out_degree, in_degree, sender)
 }
 
 // The start's step, in a run whose records and counts are in range: it checks 22.
