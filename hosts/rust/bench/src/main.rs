@@ -185,11 +185,12 @@ fn main() -> ExitCode {
     things.extend(others.iter().map(whole));
     things.extend(inputs.iter().map(shuffled));
     things.push(picks(largest));
+    let mut rows = time_all(things);
+    // By themselves: this program waits for them, and its processor is slower for a while after that.
     match programs::timed(&largest.table, &largest.picks) {
-        Ok(timed) => things.extend(timed),
+        Ok(timed) => rows.extend(time_all(timed.into())),
         Err(reason) => println!("The program is not timed: {reason}.\n"),
     }
-    let rows = time_all(things);
     let (growth, rest) = rows.split_at(4 * SIZES.len());
     let (on_others, rest) = rest.split_at(others.len());
     let (shuffled, rest) = rest.split_at(inputs.len());
