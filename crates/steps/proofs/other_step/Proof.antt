@@ -1,8 +1,6 @@
--- `steps::other_step` meets its contract: 21 and 25 are not met, 22 is where num does not suffice, and else the step is what settled says of the
--- turn.
+-- `steps::other_step` meets its contract: 22 where num does not suffice, else what settled says of the turn.
 -- Assumes nothing.
-use Prim.Native.Nat.{ℕ, _≤_}
-use mathlib.Core.Bool.{true, not}
+use mathlib.Core.Bool.{not}
 use mathlib.Core.Path.{_≡_}
 use native.Mathlib.Omega.{arith}
 use borrow.Author.Needs.{needs}
@@ -17,6 +15,7 @@ use Rattle.steps.proofs.other_step.Tie as tie
 abbrev turn-of : tie.Start → Turn
 turn-of c = turn (c .args .message) (c .args .out-degree) (c .args .in-degree) (c .args .sender) (c .args .process)
 
+-- neither 21 nor 25 is met
 inside : (c : tie.Start) → stepped (c .args .message) (c .args .out-degree) (c .args .in-degree) (c .args .sender) (c .args .process)
     ≡ answer (choose (not (fitting (c .args .message) (c .args .process) (turn-of c))) 22 0) (turn-of c)
 inside c =
