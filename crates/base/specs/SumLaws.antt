@@ -1,12 +1,13 @@
 -- Laws of sums, tests and searches over the numbers 1 to n, each named after its definition. Those that are cited most:
 --   sumTo-cong, sumTo-add, sumTo-le, sumTo-zero, sumTo-part, sumTo-swap, sumTo-scale, sumTo-times   == sums of like parts
+--   sumTo-more, sumTo-short   == sums of more parts: no less, and the same if only 0 is added
 --   allTo-at, allTo-of, anyTo-of, anyTo-found   == what a test of all, or of some, says of one
 --   sumTo-some, sumTo-one, sumTo-full, sumTo-least   == sums whose parts are 0 or 1, or at least 1
 --   countTo-most, countTo-one, sumTo-pick, sumTo-pick-two   == a test that at most one number passes, and one part picked out of a sum
 --   countTo-P   == countTo counts what HowMany counts
 --   lowestTo-P, lowestTo-same   == lowestTo finds what Lowest says; by two tests that agree it finds the same
 -- Assumes nothing.
-use Prim.Native.Nat.{ℕ, zero, suc, _+_, _*_, _≤_}
+use Prim.Native.Nat.{ℕ, zero, suc, _+_, _-_, _*_, _≤_, _<_}
 use mathlib.Core.Bool.{Bool, true, false, _&&_, _||_, false≢true}
 use mathlib.Core.Path.{_≡_, refl, sym, ap, _∙_, subst}
 use mathlib.Core.Logic.{_↔_, ⊎-elim}
@@ -90,6 +91,25 @@ sumTo-part (suc n) f k p q = at (same? k (suc n)) (sumTo-part n f k p)
     at : Same k (suc n) → (k ≤ n → f k ≤ sumTo n f) → f k ≤ sumTo n f + f (suc n)
     at (same e _) below = rw e (omega arith)
     at (apart e _) below = omega (arith, below (omega arith))
+
+-- the first m parts, and k more
+sumTo-split : (m k : ℕ) (f : ℕ → ℕ) → sumTo (m + k) f ≡ sumTo m f + sumTo k (λ i. f (m + i))
+unfolding sumTo
+sumTo-split m zero f = let e : m + 0 ≡ m = omega arith in ap (λ (n : ℕ). sumTo n f) e ∙ omega arith
+sumTo-split m (suc k) f =
+    let e : m + suc k ≡ suc (m + k) = omega arith in
+    ap (λ (n : ℕ). sumTo n f) e ∙ omega (arith, sumTo-split m k f, ap f e)
+
+pub sumTo-more : (m n : ℕ) (f : ℕ → ℕ) → m ≤ n → sumTo m f ≤ sumTo n f
+sumTo-more m n f u =
+    let e : m + (n - m) ≡ n = omega arith in
+    omega (arith, ap (λ (k : ℕ). sumTo k f) e, sumTo-split m (n - m) f)
+
+pub sumTo-short : (m n : ℕ) (f : ℕ → ℕ) → m ≤ n → ((k : ℕ) → m < k → f k ≡ 0) → sumTo n f ≡ sumTo m f
+sumTo-short m n f u z =
+    let e : m + (n - m) ≡ n = omega arith in
+    let none = sumTo-zero (n - m) (λ i. f (m + i)) (λ k l _. z (m + k) (omega arith)) in
+    omega (arith, ap (λ (k : ℕ). sumTo k f) e, sumTo-split m (n - m) f, none)
 
 pub sumTo-spot : (n i v : ℕ) → 1 ≤ i → i ≤ n → sumTo n (spot i v) ≡ v
 unfolding sumTo

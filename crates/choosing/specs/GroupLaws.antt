@@ -6,7 +6,7 @@
 --   group-few, group-some          == a group's count is small, and not 0 where a link to it is marked
 --   marks-added, marks-struck      == the array once a link that was not marked is, and once one that was is not, its group's count put anew
 -- Assumes nothing.
-use Prim.Native.Nat.{ℕ, zero, suc, _+_, _-_, _*_, _^_, _≤_, _<_}
+use Prim.Native.Nat.{ℕ, _+_, _-_, _*_, _^_, _≤_, _<_}
 use mathlib.Core.Bool.{Bool, true, false, not}
 use mathlib.Core.List.{List}
 use mathlib.Core.Path.{_≡_, refl, sym, ap, _∙_}
@@ -18,7 +18,7 @@ use Rattle.base.specs.Choice.{bit}
 use Rattle.base.specs.ChoiceLaws.{same?, below?}
 use Rattle.base.specs.Checks.{Same, same, apart, Below, below, beyond}
 use Rattle.base.specs.Sums.{sumTo, countTo, spot}
-use Rattle.base.specs.SumLaws.{spot-at, spot-off, sumTo-cong, sumTo-add, sumTo-spot, sumTo-zero, sumTo-most, countTo-most}
+use Rattle.base.specs.SumLaws.{spot-at, spot-off, sumTo-cong, sumTo-add, sumTo-spot, sumTo-zero, sumTo-more, sumTo-most, countTo-most}
 use Rattle.tables.specs.Table.{mostProcesses, IsProcess}
 use Rattle.choosing.specs.Memory.{memorySize, groupSize, groups, countAt, wordAt, digitOf, groupAt, groupOf, heldTo, Rows, Marks}
 use Rattle.choosing.specs.Sets.{word, busy, countOf, addedTo, struckFrom, countedUp, countedDown, turned, groupCount, putGroup}
@@ -30,13 +30,8 @@ use Rattle.choosing.specs.MarkLaws.{count-cong, count-more, rows-cong, r
 
 module _ (held : ℕ → ℕ → Bool) where
   pub heldTo-within : (m n : ℕ) → m ≤ n → heldTo held m ≤ heldTo held n
-  unfolding heldTo sumTo
-  heldTo-within m zero u = let e : m ≡ 0 = omega arith in rw e (omega arith)
-  heldTo-within m (suc n) u = at (same? m (suc n)) (λ v. heldTo-within m n v)
-    where
-      at : Same m (suc n) → (m ≤ n → heldTo held m ≤ heldTo held n) → heldTo held m ≤ heldTo held (suc n)
-      at (same e _) rest = rw e (omega arith)
-      at (apart e _) rest = omega (arith, rest (omega arith))
+  unfolding heldTo
+  heldTo-within m n u = sumTo-more m n (λ b. countTo mostProcesses (λ a. held a b)) u
 
   pub heldTo-most : (m : ℕ) → heldTo held m ≤ mostProcesses * m
   unfolding heldTo

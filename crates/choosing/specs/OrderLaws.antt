@@ -8,7 +8,7 @@
 --   heldTo-next                  == the links with one receiver more
 --   least-begins, groups-first, groups-next   == where to begin to look: at the lowest receiver, or behind so many groups
 -- Assumes nothing.
-use Prim.Native.Nat.{ℕ, zero, suc, _+_, _-_, _*_, _%_, _≤_, _<_}
+use Prim.Native.Nat.{ℕ, suc, _+_, _-_, _*_, _%_, _≤_, _<_}
 use mathlib.Core.Bool.{Bool, true, false, not}
 use mathlib.Core.List.{List}
 use mathlib.Core.Path.{_≡_, refl, sym, ap, _∙_}
@@ -21,7 +21,7 @@ use Rattle.base.specs.Choice.{choose, bit}
 use Rattle.base.specs.ChoiceLaws.{same?, tested}
 use Rattle.base.specs.Checks.{Same, same, apart, Tested, passed, failed}
 use Rattle.base.specs.Sums.{sumTo, countTo}
-use Rattle.base.specs.SumLaws.{sumTo-cong, sumTo-zero}
+use Rattle.base.specs.SumLaws.{sumTo-cong, sumTo-zero, sumTo-short}
 use Rattle.tables.specs.Table.{mostProcesses, IsProcess}
 use Rattle.machine.specs.Calls.{Selection, nobody, pair, waiting, inRow, linkAt, linkIf, linksTo, linksOf, lowest, drawn}
 use Rattle.machine.specs.ChooserLaws.{linkIf-length, linkIf-first, linksOf-all}
@@ -48,16 +48,6 @@ drawn-names s r a b e = linksOf-all r .names (s % length (linksOf r)) e
 
 -- ---- the lengths
 
--- nothing is added from n on
-sumTo-short : (m n : ℕ) (f : ℕ → ℕ) → n ≤ m → ((k : ℕ) → n < k → f k ≡ 0) → sumTo m f ≡ sumTo n f
-unfolding sumTo
-sumTo-short zero n f u z = let e : n ≡ 0 = omega arith in rw e
-sumTo-short (suc m) n f u z = at (same? n (suc m)) (λ v. sumTo-short m n f v z)
-  where
-    at : Same n (suc m) → (n ≤ m → sumTo m f ≡ sumTo n f) → sumTo (suc m) f ≡ sumTo n f
-    at (same e _) rest = rw e
-    at (apart e _) rest = omega (arith, rest (omega arith), z (suc m) (omega arith))
-
 -- messages wait between processes alone
 abbrev pub Within : Run → Type 0
 Within r = (a b : ℕ) → waiting (r .link a b) ≡ true → IsProcess (r .waits .n) a × IsProcess (r .waits .n) b
@@ -74,25 +64,23 @@ module _ (r : Run) where
       inRow-length m (λ a. linkIf r a b) ∙ sumTo-cong m (λ a. length (linkIf r a b)) (λ a. bit (held a b)) (λ a _ _. linkIf-length r a b)
 
   module _ (few : r .waits .n ≤ mostProcesses) (within : Within r) where
-    -- nothing waits from a sender, or for a receiver, that is no process
-    no-sender : (b a : ℕ) → r .waits .n < a → bit (held a b) ≡ 0
-    no-sender b a u = at (tested (held a b))
+    -- nothing waits where an end is no process
+    no-link : (a b : ℕ) → (IsProcess (r .waits .n) a × IsProcess (r .waits .n) b → ⊥) → bit (held a b) ≡ 0
+    no-link a b no-ends = at (tested (held a b))
       where
         at : Tested (held a b) → bit (held a b) ≡ 0
-        at (passed e) = absurd (omega (arith, within a b e))
+        at (passed e) = absurd (no-ends (within a b e))
         at (failed e) = ap bit e
 
     no-receiver : (b : ℕ) → r .waits .n < b → countTo mostProcesses (λ a. held a b) ≡ 0
     unfolding countTo
-    no-receiver b u = sumTo-zero mostProcesses (λ a. bit (held a b)) (λ a _ _. at a (tested (held a b)))
-      where
-        at : (a : ℕ) → Tested (held a b) → bit (held a b) ≡ 0
-        at a (passed e) = absurd (omega (arith, within a b e))
-        at a (failed e) = ap bit e
+    no-receiver b u = sumTo-zero mostProcesses (λ a. bit (held a b)) (λ a _ _. no-link a b (λ i. absurd (omega (arith, i))))
 
     links-to : (b : ℕ) → length (linksTo r b) ≡ countTo mostProcesses (λ a. held a b)
     unfolding linksTo countTo
-    links-to b = senders-count b (r .waits .n) ∙ sym (sumTo-short mostProcesses (r .waits .n) (λ a. bit (held a b)) few (no-sender b))
+    links-to b =
+        senders-count b (r .waits .n)
+        ∙ sym (sumTo-short (r .waits .n) mostProcesses (λ a. bit (held a b)) few (λ a u. no-link a b (λ i. absurd (omega (arith, i)))))
 
     links-before : (m : ℕ) → length (inRow m (λ b. linksTo r b)) ≡ heldTo held m
     unfolding heldTo
@@ -104,7 +92,7 @@ module _ (r : Run) where
     unfolding linksOf heldTo
     links-all =
         links-before (r .waits .n)
-        ∙ sym (sumTo-short mostProcesses (r .waits .n) (λ b. countTo mostProcesses (λ a. held a b)) few no-receiver)
+        ∙ sym (sumTo-short (r .waits .n) mostProcesses (λ b. countTo mostProcesses (λ a. held a b)) few no-receiver)
 
     -- ---- the link at a place
 

@@ -16,6 +16,7 @@ use lib.ListN.{length, length-append}
 use Rattle.base.specs.ChoiceLaws.{same?, below?}
 use Rattle.base.specs.Checks.{Same, same, apart, Below, below, beyond}
 use Rattle.base.specs.Sums.{sumTo}
+use Rattle.base.specs.SumLaws.{sumTo-more}
 use Rattle.tables.specs.Table.{IsProcess}
 use Rattle.machine.specs.Calls.{nobody, pair, inRow, linkAt}
 
@@ -61,13 +62,7 @@ inRow-length (suc n) c = length-append (inRow n c) (c (suc n)) ∙ ap (λ (i : �
 module _ (c : ℕ → Links) where
   -- a longer row is no shorter
   inRow-more : (m n : ℕ) → m ≤ n → length (inRow m c) ≤ length (inRow n c)
-  unfolding inRow
-  inRow-more m zero u = let e : m ≡ 0 = omega arith in rw e (omega arith)
-  inRow-more m (suc n) u = at (same? m (suc n)) (λ v. inRow-more m n v)
-    where
-      at : Same m (suc n) → (m ≤ n → length (inRow m c) ≤ length (inRow n c)) → length (inRow m c) ≤ length (inRow (suc n) c)
-      at (same e _) rest = rw e (omega arith)
-      at (apart e _) rest = omega (arith, rest (omega arith), length-append (inRow n c) (c (suc n)))
+  inRow-more m n u = omega (arith, inRow-length m c, inRow-length n c, sumTo-more m n (λ x. length (c x)) u)
 
   -- a place before its last list is a place in the shorter row
   inRow-keeps : (k m n : ℕ) → m ≤ n → k < length (inRow m c) → linkAt k (inRow n c) ≡ linkAt k (inRow m c)

@@ -7,7 +7,8 @@ const KEPT_BY_13: u32 = 0x0007_ffff;
 
 const KEPT_BY_5: u32 = 0x07ff_ffff;
 
-// The next state: xored with itself shifted left 13, then right 17, then left 5. 0 stays 0, which the fixed order is spared to compute.
+// The next state: xored with itself shifted left 13, then right 17, then left 5. State 0, which is that of the fixed order, stays 0 and is not
+// computed.
 pub fn moved_on(state: u32) -> u32
     ensures { λ r. ⌜ r ≡ movedOn state ⌝ }
 {
