@@ -33,7 +33,7 @@ fn next_heading() -> Heading {
     Heading::Case(word(head[0], head[1]))
 }
 
-// Fills the bytes of case k from the input and runs it; gives whether the case was whole.
+// Fills the bytes of case k from the input and runs it; gives whether the case was whole and its answer came out.
 fn fill_case(k: u64, bytes: &mut [u8]) -> bool {
     let got = io::read_full(libc::STDIN_FILENO, bytes);
     if got < bytes.len() {
@@ -43,8 +43,7 @@ fn fill_case(k: u64, bytes: &mut [u8]) -> bool {
     print(b"case ");
     io::print_decimal(libc::STDOUT_FILENO, k);
     print(b"\n");
-    printing::print_check(bytes);
-    true
+    printing::print_check(bytes)
 }
 
 fn read_case(k: u64, length: u16) -> bool {

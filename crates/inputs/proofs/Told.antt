@@ -2,7 +2,7 @@
 --   Parted bs s v e k    == the parts of an input that is not refused
 --   split-parted, split-refused   == the answer Parts s v e k tells Parted bs s v e k, the answer Refused r the number
 --   BegunAt bs w e k     == an input that is begun: where its picks begin, and how many there are
---   begun-ready, begun-refused    == the answer Ready e k tells BegunAt bs w e k, the answer Refused r that the input is not begun
+--   begun-ready, begun-refused    == the answer Ready e k tells BegunAt bs w e k, the answer Refused r the number
 -- Assumes nothing.
 use Prim.Native.Nat.{ℕ, zero, suc}
 use mathlib.Core.List.{List}
@@ -52,10 +52,10 @@ unfolding begunBy
 begunBy-ready zero bs e k q = (refl, cc, cc)
 begunBy-ready (suc n) bs e k q = absurd (let z : _≡_ {A = ℕ} 0 1 = cc in omega arith)
 
-begunBy-refused : (n : ℕ) (bs : List ℕ) (r : ℕ) → begunBy n bs ≡ Begun.Refused r → n ≡ 0 → ⊥
+begunBy-refused : (n : ℕ) (bs : List ℕ) (r : ℕ) → begunBy n bs ≡ Begun.Refused r → (n ≡ r) × (r ≡ 0 → ⊥)
 unfolding begunBy
-begunBy-refused zero bs r q e = let z : _≡_ {A = ℕ} 0 1 = cc in omega arith
-begunBy-refused (suc n) bs r q e = omega arith
+begunBy-refused zero bs r q = absurd (let z : _≡_ {A = ℕ} 0 1 = cc in omega arith)
+begunBy-refused (suc n) bs r q = let here : suc n ≡ r = cc in (here, λ z. omega arith)
 
 module _ (bs : List ℕ) (w : List ℤ) (x : Begun) (ex : x ≡ begunOf bs w) where
   pub begun-ready : (e k : ℕ) → x ≡ Begun.Ready e k → BegunAt bs w e k
@@ -64,6 +64,6 @@ module _ (bs : List ℕ) (w : List ℤ) (x : Begun) (ex : x ≡ begunOf bs w) wh
       let told = begunBy-ready (begunNumber bs w) bs e k (sym ex ∙ q) in
       record { begun = told .0; end-is = told .1; picks-is = told .2 }
 
-  pub begun-refused : (r : ℕ) → x ≡ Begun.Refused r → begunNumber bs w ≡ 0 → ⊥
+  pub begun-refused : (r : ℕ) → x ≡ Begun.Refused r → (begunNumber bs w ≡ r) × (r ≡ 0 → ⊥)
   unfolding begunOf
   begun-refused r q = begunBy-refused (begunNumber bs w) bs r (sym ex ∙ q)

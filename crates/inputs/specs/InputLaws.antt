@@ -5,6 +5,7 @@
 --   end-least         == the table ends no sooner than its N and M
 --   parts-sizes       == N and M of an input that is not refused are in range
 --   parts-fill        == it is its start process, its edition, its table and its picks, with nothing left
+--   table-field       == the table's bytes hold its own N and M
 --   table-length      == its table has exactly the length that its own N and M ask
 --   table-read        == so reading the table checks 4 to 7 only
 --   then-4-to-8-30    == "then 4 to 8", then 30: what start says of that table, in words enough for any table
@@ -174,7 +175,7 @@ module _ (bs : List ℕ) where
       given (no-row l s f) = f
 
   -- the table's bytes hold its own fields, as far as N and M
-  table-field : (j : ℕ) → j < 2 → fieldOf (tableIn bs) j ≡ tableFields bs j
+  pub table-field : (j : ℕ) → j < 2 → fieldOf (tableIn bs) j ≡ tableFields bs j
   unfolding tableIn tableFields
   table-field j h = fieldOf-take (drop beforeTable bs) (tableEnd bs - beforeTable) j (omega (arith, end-least))
 

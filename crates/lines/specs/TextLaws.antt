@@ -56,7 +56,7 @@ decimal-one-length n h = rw (decimal-one n h)
 pub decimal-more-length : (n : ℕ) → 10 ≤ n → length (decimal n) ≡ length (decimal (n / 10)) + 1
 decimal-more-length n h = rw (decimal-more n h, length-append)
 
-decimal-length : (k n : ℕ) → n < 10 ^ suc k → length (decimal n) ≤ suc k
+pub decimal-length : (k n : ℕ) → n < 10 ^ suc k → length (decimal n) ≤ suc k
 decimal-length zero n h = omega (arith, decimal-one-length n h)
 decimal-length (suc k) n h = at (tested (ltb n 10)) (decimal-length k (n / 10))
   where

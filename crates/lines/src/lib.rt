@@ -1,6 +1,7 @@
-// The lines that the check program prints (01, "The check program"), written into bytes that the caller lends: of any numbers, messages and
-// records whatever. A line stands at the front of the bytes, of which 128 are enough for each. It stands on steps and checks for the values
-// that are printed, and on areas for a signed number without its sign.
+// The lines that the check program prints (01, "The check program"), put into bytes that the caller lends, at any place that has room for just
+// that line: of any numbers, messages and records whatever. Each is formed at the front of 128 bytes of its own, which are enough for any
+// values, and then put where it belongs. It stands on steps and checks for the values that are printed, and on areas for a signed number without
+// its sign.
 use checks::Mark;
 use checks::Verdict;
 use pieces::put_count_field;
@@ -16,12 +17,12 @@ use steps::Process;
 ghost use Prim.Native.Nat.{_+_, _≤_};
 ghost use lib.ListN.{length};
 ghost use Rattle.lines.specs.Text.{deliveryLine, refusedPickLine, refusedLine, processLine, verdictLine, outsideLine, markLine, reportText};
-ghost use Rattle.lines.specs.Adding.{Added, Line};
+ghost use Rattle.lines.specs.Adding.{Added, Line, Put};
 
 mod pieces;
 
 // `pick 1 2 suc`, `own 2 1 ack 1 1`
-pub fn delivery_line(out: &mut [u8], own: bool, from: u32, to: u32, message: Message) -> usize
+fn delivery_line(out: &mut [u8], own: bool, from: u32, to: u32, message: Message) -> usize
     requires { ⌜ 128 ≤ length (now out) ⌝ }
     ensures { λ r. ⌜ Line (deliveryLine own from to message) (now (out .entry)) (now (out .exit)) r ⌝ }
 {
@@ -31,7 +32,7 @@ pub fn delivery_line(out: &mut [u8], own: bool, from: u32, to: u32, message: Mes
 }
 
 // `pick 1 2 refused 24`: a delivery that the program chooses itself is never refused with a link.
-pub fn refused_delivery_line(out: &mut [u8], from: u32, to: u32, number: u32) -> usize
+fn refused_delivery_line(out: &mut [u8], from: u32, to: u32, number: u32) -> usize
     requires { ⌜ 128 ≤ length (now out) ⌝ }
     ensures { λ r. ⌜ Line (refusedPickLine from to number) (now (out .entry)) (now (out .exit)) r ⌝ }
 {
@@ -42,7 +43,7 @@ pub fn refused_delivery_line(out: &mut [u8], from: u32, to: u32, number: u32) ->
 }
 
 // `refused 13`
-pub fn refused_line(out: &mut [u8], number: u32) -> usize
+fn refused_line(out: &mut [u8], number: u32) -> usize
     requires { ⌜ 128 ≤ length (now out) ⌝ }
     ensures { λ r. ⌜ Line (refusedLine number) (now (out .entry)) (now (out .exit)) r ⌝ }
 {
@@ -50,7 +51,7 @@ pub fn refused_line(out: &mut [u8], number: u32) -> usize
 }
 
 // `process 1 1 1 0 1 0 1`
-pub fn process_line(out: &mut [u8], p: u32, x: Process) -> usize
+fn process_line(out: &mut [u8], p: u32, x: Process) -> usize
     requires { ⌜ 128 ≤ length (now out) ⌝ }
     ensures { λ r. ⌜ Line (processLine p x) (now (out .entry)) (now (out .exit)) r ⌝ }
 {
@@ -94,7 +95,7 @@ fn put_mark(out: &mut [u8], at: usize, mark: Mark) -> usize
 }
 
 // "deliveries; the report": the five lines from `over` to `mark`
-pub fn report_text(
+fn report_text(
     out: &mut [u8],
     deliveries: u32,
     verdict: Verdict,
@@ -110,4 +111,69 @@ pub fn report_text(
     end = put_outside(out, end, outside);
     end = put_number_line(out, end, b"escape", escape);
     put_mark(out, end, mark)
+}
+
+// The line of a delivery, at a place.
+pub fn put_delivery(
+    out: &mut [u8],
+    at: usize,
+    own: bool,
+    from: u32,
+    to: u32,
+    message: Message,
+) -> usize
+    requires { ⌜ at + length (deliveryLine own from to message) ≤ length (now out) ⌝ }
+    ensures { λ r. ⌜ Put (now (out .entry)) at (deliveryLine own from to message) (now (out .exit)) r ⌝ }
+{
+    let mut line = [0u8; 128];
+    let end = delivery_line(&mut line, own, from, to, message);
+    put_word(out, at, &line[0..end])
+}
+
+// The line of a refused pick, at a place.
+pub fn put_refused_delivery(out: &mut [u8], at: usize, from: u32, to: u32, number: u32) -> usize
+    requires { ⌜ at + length (refusedPickLine from to number) ≤ length (now out) ⌝ }
+    ensures { λ r. ⌜ Put (now (out .entry)) at (refusedPickLine from to number) (now (out .exit)) r ⌝ }
+{
+    let mut line = [0u8; 128];
+    let end = refused_delivery_line(&mut line, from, to, number);
+    put_word(out, at, &line[0..end])
+}
+
+// The line of a refusal, at a place.
+pub fn put_refused(out: &mut [u8], at: usize, number: u32) -> usize
+    requires { ⌜ at + length (refusedLine number) ≤ length (now out) ⌝ }
+    ensures { λ r. ⌜ Put (now (out .entry)) at (refusedLine number) (now (out .exit)) r ⌝ }
+{
+    let mut line = [0u8; 128];
+    let end = refused_line(&mut line, number);
+    put_word(out, at, &line[0..end])
+}
+
+// The line of a process, at a place.
+pub fn put_process(out: &mut [u8], at: usize, p: u32, x: Process) -> usize
+    requires { ⌜ at + length (processLine p x) ≤ length (now out) ⌝ }
+    ensures { λ r. ⌜ Put (now (out .entry)) at (processLine p x) (now (out .exit)) r ⌝ }
+{
+    let mut line = [0u8; 128];
+    let end = process_line(&mut line, p, x);
+    put_word(out, at, &line[0..end])
+}
+
+// The lines of a report, at a place.
+pub fn put_report(
+    out: &mut [u8],
+    at: usize,
+    deliveries: u32,
+    verdict: Verdict,
+    outside: i32,
+    escape: u32,
+    mark: Mark,
+) -> usize
+    requires { ⌜ at + length (reportText deliveries verdict outside escape mark) ≤ length (now out) ⌝ }
+    ensures { λ r. ⌜ Put (now (out .entry)) at (reportText deliveries verdict outside escape mark) (now (out .exit)) r ⌝ }
+{
+    let mut line = [0u8; 128];
+    let end = report_text(&mut line, deliveries, verdict, outside, escape, mark);
+    put_word(out, at, &line[0..end])
 }

@@ -2,7 +2,7 @@
 --   no-pair                        == a link is not nobody
 --   linkAt-end, linkAt-within      == past the end of a list is nobody, before it a link
 --   linkAt-front, linkAt-behind    == a place in the first of two lists, and in the second
---   inRow-length                   == the lengths of the lists in a row add up
+--   inRow-length, inRow-more       == the lengths of the lists in a row add up; a longer row is no shorter
 --   inRow-within, inRow-at         == a place in one list of a row
 --   Named c n k, inRow-named       == in which list of a row, and at which place of it, the link at place k stands
 --   named-order                    == the lower of two places is in a list before, or at a lower place of the same list
@@ -54,16 +54,16 @@ linkAt-behind (suc k) (x ∷ l) m u = linkAt-behind k l m (omega arith) ∙ ap (
 
 -- ---- rows
 
-pub inRow-length : (n : ℕ) (c : ℕ → Links) → length (inRow n c) ≡ sumTo n (λ x. length (c x))
-unfolding inRow sumTo
-inRow-length zero c = refl
-inRow-length (suc n) c = length-append (inRow n c) (c (suc n)) ∙ ap (λ (i : ℕ). i + length (c (suc n))) (inRow-length n c)
+module _ {A : Type 0} where
+  pub inRow-length : (n : ℕ) (c : ℕ → List A) → length (inRow n c) ≡ sumTo n (λ x. length (c x))
+  unfolding inRow sumTo
+  inRow-length zero c = refl
+  inRow-length (suc n) c = length-append (inRow n c) (c (suc n)) ∙ ap (λ (i : ℕ). i + length (c (suc n))) (inRow-length n c)
+
+  pub inRow-more : (c : ℕ → List A) (m n : ℕ) → m ≤ n → length (inRow m c) ≤ length (inRow n c)
+  inRow-more c m n u = omega (arith, inRow-length m c, inRow-length n c, sumTo-more m n (λ x. length (c x)) u)
 
 module _ (c : ℕ → Links) where
-  -- a longer row is no shorter
-  inRow-more : (m n : ℕ) → m ≤ n → length (inRow m c) ≤ length (inRow n c)
-  inRow-more m n u = omega (arith, inRow-length m c, inRow-length n c, sumTo-more m n (λ x. length (c x)) u)
-
   -- a place before its last list is a place in the shorter row
   inRow-keeps : (k m n : ℕ) → m ≤ n → k < length (inRow m c) → linkAt k (inRow n c) ≡ linkAt k (inRow m c)
   unfolding inRow
@@ -72,7 +72,7 @@ module _ (c : ℕ → Links) where
     where
       at : Same m (suc n) → (m ≤ n → linkAt k (inRow n c) ≡ linkAt k (inRow m c)) → linkAt k (inRow (suc n) c) ≡ linkAt k (inRow m c)
       at (same e _) rest = rw e
-      at (apart e _) rest = linkAt-front k (inRow n c) (c (suc n)) (omega (arith, inRow-more m n (omega arith))) ∙ rest (omega arith)
+      at (apart e _) rest = linkAt-front k (inRow n c) (c (suc n)) (omega (arith, inRow-more c m n (omega arith))) ∙ rest (omega arith)
 
   -- a list behind the shorter row
   inRow-whole : (x : ℕ) → 1 ≤ x → length (inRow (x - 1) c) + length (c x) ≡ length (inRow x c)
@@ -84,7 +84,7 @@ module _ (c : ℕ → Links) where
 
   module _ (x n k : ℕ) (i : IsProcess n x) (u : k < length (c x)) where
     pub inRow-within : length (inRow (x - 1) c) + k < length (inRow n c)
-    inRow-within = omega (arith, inRow-whole x (i .0), inRow-more x n (i .1))
+    inRow-within = omega (arith, inRow-whole x (i .0), inRow-more c x n (i .1))
 
     pub inRow-at : linkAt (length (inRow (x - 1) c) + k) (inRow n c) ≡ linkAt k (c x)
     unfolding inRow
@@ -145,4 +145,4 @@ module _ (c : ℕ → Links) where
       at (beyond v _) (same e _) =
           inr (e, omega (arith, h .place, i .place, ap (λ (y : ℕ). length (inRow (y - 1) c)) e))
       at (beyond v _) (apart e _) =
-          absurd (omega (arith, h .place, i .place, i .within, inRow-whole (i .x) (i .x-in .0), inRow-more (i .x) (h .x - 1) (omega arith)))
+          absurd (omega (arith, h .place, i .place, i .within, inRow-whole (i .x) (i .x-in .0), inRow-more c (i .x) (h .x - 1) (omega arith)))

@@ -1,60 +1,112 @@
--- How the parts of the check program make up its area, and that its check is over at the end.
---   program-then      == the picks, then running on
---   program-wrong     == an area that is not well formed stays as it is
---   program-refused, program-begun   == a refused input, and one that is begun
---   program-over      == "it runs on to the end": the run in the area of a begun input is over at the end
+-- What is known of the runs of a begun input, and that its check is over at the end.
+--   program-begun, program-refused   == the text of a begun input, and of a refused one
+--   begun, table-right, table-sound, start-process   == the start of a begun input is accepted, so that its table is right and its start a process
+--   begun-right, begun-run   == its area is well formed, and holds the first run
+--   program-own       == what the program delivers itself is all that is left of D, and nothing is refused
+--   program-over      == "it runs on to the end": the run at the end of a begun input is over
 --   program-ended     == .. and it is what 01 says of the end of a check, of the input's table, start process and edition
+--   program-report    == .. so that the last lines are those of the wait graph, whatever the picks
 -- Assumes nothing.
-use Prim.Native.Nat.{ℕ}
-use mathlib.Core.Bool.{true, false}
-use mathlib.Core.List.{List, _∷_, []}
+use Prim.Native.Nat.{ℕ, _+_, _-_, _≤_}
+use mathlib.Core.Bool.{true}
+use mathlib.Core.List.{List, _∷_, [], _++_}
 use mathlib.Core.Path.{_≡_, refl, sym, ap, _∙_}
-use borrow.Author.Tests.{ne-eqb}
-use lib.IntN.{ℤ}
-use Rattle.tables.specs.Table.{fieldOf}
-use Rattle.tables.specs.Waits.{waitsOf}
-use Rattle.machine.specs.Lists.{runningOn, inTurn}
-use Rattle.checks.specs.Run.{knot, over}
-use Rattle.checks.specs.Lists.{Ended}
+use native.Mathlib.Omega.{arith}
+use borrow.Author.Tests.{eq-eqb, ne-eqb}
+use lib.IntN.{ℤ, pos}
+use Rattle.base.specs.Choice.{choose}
+use Rattle.tables.specs.Layout.{Right}
+use Rattle.tables.specs.Sound.{Sound}
+use Rattle.tables.specs.Table.{fieldOf, nOf, mOf, IsProcess}
+use Rattle.tables.specs.Waits.{Waits, waitsOf}
+use Rattle.tables.specs.WaitsLaws.{waitsOf-sound}
+use Rattle.machine.specs.declared.Ran.{Ran}
+use Rattle.machine.specs.Lists.{Call, Passed, runningOn, inTurn, passedBy}
+use Rattle.machine.specs.Calls.{fixedOrder}
+use Rattle.checks.specs.declared.Verdict.the-variants.{Knot, Free}
+use Rattle.checks.specs.declared.Mark.the-variants.{Returned, Held}
+use Rattle.checks.specs.Run.{Run, knot, over}
+use Rattle.checks.specs.Calls.{runOn, report}
+use Rattle.checks.specs.Reach.{inKnot, outsiders, lowestOutsider, allWait, dOf}
+use Rattle.checks.specs.Lists.{Ended, asked, passed}
 use Rattle.areas.specs.Area.{runIn, areaRight}
-use Rattle.starting.specs.StartCall.{startArea}
-use Rattle.area_calls.specs.AreaCalls.{runOnArea, areaPassed}
-use Rattle.area_calls.specs.CallLaws.{passed-then, passed-21}
-use Rattle.area_ending.specs.AreaEnding.{area-ending}
-use Rattle.area_ending.specs.AreaEndingLaws.{area-over-most}
-use Rattle.inputs.specs.Input.{startIn, editionIn, tableIn, begunNumber, begunArea}
-use Rattle.inputs.specs.InputLaws.{begun-started, begun-kept}
-use Rattle.printing.specs.Program.{pickCalls, programCalls, programArea}
+use Rattle.ending.specs.Ending.{ending}
+use Rattle.ending.specs.EndingLaws.{ending-runs-out, ending-over}
+use Rattle.ending.specs.SpreadEndLaws.{dOf-most}
+use Rattle.starting.specs.StartCall.{startNumber}
+use Rattle.starting.specs.Starting.{Startable}
+use Rattle.area_ending.specs.AreaEnding as AreaEnding
+use Rattle.area_ending.specs.AreaEnding.{table, area-run, area-ending}
+use Rattle.inputs.specs.Input.{startIn, editionIn, tableIn, begunArea}
+use Rattle.inputs.specs.InputLaws.{begun-started}
+use Rattle.lines.specs.Text.{refusedLine, reportText}
+use Rattle.printing.specs.Program.{enough, numberIn, firstRun, pickCalls, pickedRun, endRun, reportLines, checkText, programText}
 
-pub program-then : (bs : List ℕ) (w : List ℤ) → runOnArea (knot .most) (areaPassed (pickCalls bs) w .left) ≡ areaPassed (programCalls bs) w .left
+-- a call behind a list
+end-passed : (cs : List Call) (r : Run) → passed (cs ++ (runningOn (knot .most) ∷ [])) r .left ≡ endRun (passed cs r .left)
 unfolding inTurn
-program-then bs w = sym (passed-then (pickCalls bs) (runningOn (knot .most) ∷ []) w)
+end-passed [] r = refl
+end-passed (c ∷ cs) r = end-passed cs (passedBy knot fixedOrder asked c r .left)
 
-pub program-wrong : (bs : List ℕ) (w : List ℤ) → areaRight w ≡ false → w ≡ areaPassed (programCalls bs) w .left
-program-wrong bs w e = sym (passed-21 w e (programCalls bs))
+module _ (bs : List ℕ) where
+  pub program-refused : {r : ℕ} → numberIn bs ≡ r → (r ≡ 0 → ⊥) → programText bs ≡ refusedLine r
+  unfolding programText
+  program-refused {r} e d = rw (e, ne-eqb r 0 d)
 
-module _ (bs : List ℕ) (w : List ℤ) where
-  pub program-refused : (begunNumber bs w ≡ 0 → ⊥) → begunArea bs w ≡ programArea bs w
-  unfolding programArea
-  program-refused d = rw (ne-eqb (begunNumber bs w) 0 d) (begun-kept bs w d)
+  pub program-begun : numberIn bs ≡ 0 → programText bs ≡ checkText bs
+  unfolding programText
+  program-begun e = rw (eq-eqb (numberIn bs) 0 e)
 
-  pub program-begun : begunNumber bs w ≡ 0 → {v : List ℤ} → v ≡ begunArea bs w → areaPassed (programCalls bs) v .left ≡ programArea bs w
-  unfolding programArea
-  program-begun e f = rw (f, e)
+module _ (bs : List ℕ) (e : numberIn bs ≡ 0) where
+  abbrev waits : Waits
+  waits = waitsOf (fieldOf (tableIn bs))
 
-module _ (bs : List ℕ) (w : List ℤ) (e : begunNumber bs w ≡ 0) where
-  -- the area at the end is what the program's calls leave of the area that the start left
-  started : programArea bs w ≡ areaPassed (programCalls bs) (startArea (tableIn bs) (startIn bs) (editionIn bs) w) .left
-  started =
-      let b = begun-started bs w e in
-      sym (program-begun bs w e refl) ∙ ap (λ (v : List ℤ). areaPassed (programCalls bs) v .left) (b .2)
+  pub begun : startNumber (tableIn bs) (startIn bs) (editionIn bs) enough ≡ 0
+  begun = begun-started bs enough e .1
 
-  pub program-over : over (runIn (programArea bs w)) ≡ true
-  program-over =
-      rw (started, ← program-then bs (startArea (tableIn bs) (startIn bs) (editionIn bs) w))
-      (area-over-most (tableIn bs) (startIn bs) (editionIn bs) w (begun-started bs w e .1) (pickCalls bs))
+  pub table-right : Right (fieldOf (tableIn bs))
+  table-right = table (tableIn bs) (startIn bs) (editionIn bs) enough begun .right
 
-  pub program-ended : Ended (waitsOf (fieldOf (tableIn bs))) (startIn bs) (editionIn bs) (runIn (programArea bs w))
+  pub table-sound : Sound waits
+  table-sound = waitsOf-sound (fieldOf (tableIn bs)) table-right
+
+  started : Startable (tableIn bs) (nOf (fieldOf (tableIn bs))) (mOf (fieldOf (tableIn bs))) (startIn bs) (editionIn bs) enough
+  started = AreaEnding.begun (tableIn bs) (startIn bs) (editionIn bs) enough begun
+
+  pub start-process : IsProcess (waits .n) (startIn bs)
+  unfolding waitsOf
+  start-process = started .start-in
+
+  pub begun-right : {v : List ℤ} → v ≡ begunArea bs enough → areaRight v ≡ true
+  unfolding inTurn
+  begun-right f = rw (f, begun-started bs enough e .2) (area-ending (tableIn bs) (startIn bs) (editionIn bs) enough begun [] .right)
+
+  pub begun-run : {v : List ℤ} → v ≡ begunArea bs enough → runIn v ≡ firstRun bs
+  unfolding inTurn
+  begun-run f =
+      rw (f, begun-started bs enough e .2)
+      (ap (λ (p : Passed Run). p .left) (area-run (tableIn bs) (startIn bs) (editionIn bs) enough begun []))
+
+  -- ---- the end
+
+  -- so many deliveries as a run counts at most are enough
+  most-enough : dOf waits (startIn bs) ≤ passed (pickCalls bs) (firstRun bs) .made + knot .most
+  most-enough = omega (arith, dOf-most waits (startIn bs) table-sound)
+
+  pub program-own : runOn (knot .most) (pickedRun bs) .answer ≡ Ran.Over (dOf waits (startIn bs) - passed (pickCalls bs) (firstRun bs) .made)
+  program-own = ending-runs-out waits table-sound (startIn bs) start-process (editionIn bs) (started .edition) (pickCalls bs) (knot .most) most-enough
+
+  pub program-over : over (endRun (pickedRun bs)) ≡ true
+  program-over = ending-over waits table-sound (startIn bs) start-process (editionIn bs) (started .edition) (pickCalls bs) (knot .most) most-enough
+
+  pub program-ended : Ended waits (startIn bs) (editionIn bs) (endRun (pickedRun bs))
   program-ended =
-      let ended = area-ending (tableIn bs) (startIn bs) (editionIn bs) w (begun-started bs w e .1) (programCalls bs) .promise .ended in
-      rw started (ended (rw started at program-over))
+      let last = end-passed (pickCalls bs) (firstRun bs) in
+      let calls = pickCalls bs ++ (runningOn (knot .most) ∷ []) in
+      let p = ending waits table-sound (startIn bs) start-process (editionIn bs) (started .edition) calls in
+      rw last at (p .ended (rw last program-over))
+
+  pub program-report : reportLines (report (endRun (pickedRun bs)))
+      ≡ reportText (dOf waits (startIn bs)) (choose (inKnot waits (startIn bs) (editionIn bs)) Knot Free) (pos (outsiders waits (startIn bs)))
+      (lowestOutsider waits (startIn bs)) (choose (allWait waits (startIn bs)) Returned Held)
+  program-report = ap reportLines (program-ended .reports)
