@@ -1,15 +1,19 @@
-// The public calls for C and Rust, on numbers, byte slices and word slices (include/pickledune.h). None asks anything of its caller. Each
-// gives 0 or the number of a refusal, whose order its comment has, and stores 01's values through its references, zeros on a refusal.
+// The public calls for C and Rust, on numbers, byte slices and word slices (include/pickledune.h). None asks anything of its caller. A call
+// that refuses gives 0 or the number of a refusal, whose order its comment has, and stores 01's values through its references, zeros on a
+// refusal.
 mod check_values;
 mod step_values;
 mod table_values;
 
+use areas::places;
 use runs::picking;
 use runs::running;
 use runs::shuffled;
 use steps::Process;
 use steps::TwoCounts;
 ghost use mathlib.Core.Path.{_≡_};
+ghost use lib.IntN.{pos};
+ghost use Rattle.areas.specs.Area.{knotCheck};
 ghost use Rattle.tables.specs.Reading.{readingOf};
 ghost use Rattle.pickledune.specs.TableValues.{numberOf, nFound, mFound, writingNumber, writtenLength, startedNumber};
 ghost use Rattle.table_writer.specs.Writing.{writingOf, written};
@@ -21,6 +25,23 @@ ghost use Rattle.machine.specs.Calls.{ranNumber, ranMade};
 ghost use Rattle.starting.specs.StartCall.{startAnswer, startArea};
 ghost use Rattle.area_calls.specs.AreaCalls.{pickAnswer, pickArea, runOnAnswer, runOnArea, shuffledAnswer, shuffledArea, reportAnswer, readAnswer};
 ghost use Rattle.pickledune.specs.Interface.{chainOf, messageOf, processOf, StepTold};
+ghost use Rattle.pickledune.specs.Versions.{libraryVersion};
+
+// The version of the library as one number: 1.0.0.
+#[no_mangle]
+pub extern "C" fn pickledune_version() -> u32
+    ensures { λ r. ⌜ r ≡ libraryVersion ⌝ }
+{
+    10000
+}
+
+// The version of the layout: what word 0 of every area holds that a start makes and the other calls accept.
+#[no_mangle]
+pub extern "C" fn pickledune_layout() -> u32
+    ensures { λ r. ⌜ pos r ≡ knotCheck ⌝ }
+{
+    places::KNOT_CHECK as u32
+}
 
 // Reads a table: its N and M. 1 to 7.
 #[no_mangle]
