@@ -13,7 +13,7 @@ use mathlib.Core.List.{[], _∷_, _++_, List·Memᴰ, List·Memᴰ·head, List·
 use mathlib.Core.Path.{_≡_, refl}
 use borrow.Author.Tests.{eqb-false}
 use lib.IntN.{pos}
-use lib.ListN.{take, drop, set, replicate}
+use lib.ListN.{getD, take, drop, set, replicate}
 use Rattle.tables.specs.declared.Chain.the-variants.{Out, In}
 use Rattle.tables.specs.declared.Reading.the-variants as Read
 use Rattle.tables.specs.declared.Opened.{Opened}
@@ -47,6 +47,7 @@ use Rattle.checks.specs.Run.{Run, startRun}
 use Rattle.checks.specs.Reach.{lowestOutsider, allWait, sinks}
 use Rattle.checks.specs.Calls.{pick, runOn, runShuffled, escapeOf, report, readRecord, deliveryNumber, deliveryMade, reportNumber, readingNumber}
 use Rattle.checks.specs.Lists.{Promise}
+use Rattle.areas.specs.Used.{checkPlace}
 use Rattle.areas.specs.Area.{runIn}
 use Rattle.starting.specs.declared.Started.{Started}
 use Rattle.starting.specs.StartCall.{startNumber, startAnswer, startArea}
@@ -59,6 +60,7 @@ use Rattle.pickledune.specs.TableValues.{numberOf, nFound, mFound, writingNumbe
 use Rattle.pickledune.specs.Values.{deliveryKind, deliveryCounts, ranOver, reportCount, reportKnot, reportOutside, reportEscape, reportReturned}
 use Rattle.pickledune.specs.Values.{readingProcess, steppedNumber, steppedProbes, steppedReply}
 use Rattle.pickledune.specs.Interface.{chainOf, messageOf, processOf, probesNumber, replyTo}
+use Rattle.pickledune.specs.Versions.{versionNumber, libraryVersion}
 use Rattle.examples.specs.States.{minus, lowFirst, table, one, both, fork, alone, loop, met1, met2, met3, met4, met5, met6, met7, input, words, root}
 use Rattle.examples.specs.States.{beside, counted, only, plain, rootWith, two, under, receiving, three, everywhere, loads, unlinked, area, answers}
 use Rattle.examples.specs.Computing.{computing}
@@ -881,6 +883,13 @@ unfolding computing
 step-zeros n = (refl, refl, refl, refl)
 
 -- ==== the numbers of the C interface (include/pickledune.h)
+
+-- the library is 1.0.0; an area that was started has layout 2 in word 0, whatever stood there (LayoutLaws of pickledune has it of every start)
+versions :
+    (libraryVersion ≡ 10000) × (versionNumber 12 34 56 ≡ 123456) ×
+    (getD (words 52) checkPlace (pos 0) ≡ pos 9) × (getD (startArea one 1 1 (words 52)) checkPlace (pos 0) ≡ pos 2)
+unfolding computing
+versions = (refl, refl, refl, refl)
 
 accepted-numbers :
     (numberOf (Read.Accepted 5 6) ≡ 0) × (nFound (Read.Accepted 5 6) ≡ 5) × (mFound (Read.Accepted 5 6) ≡ 6) ×
