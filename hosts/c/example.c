@@ -1,6 +1,6 @@
 /* A first check from C: process 1 waits for process 2 (01, "The check program"). It prints the nine lines that 01 gives for this table,
  * start 1 (under edition 1) and the pick 1 2, with the second numbers of 02, N3, then a line for each of two shuffled checks (02, N13), and
- * returns 1 with a line on standard error if a call answers anything else than it should.
+ * returns 1 with a line on standard error if a call answers anything else than it should, or if header and archive are of two versions.
  *
  * From the root of the repository, after rt staticlib pickledune:
  *   gcc -std=c99 -Wall -Wextra -pedantic -Iinclude hosts/c/example.c target/staticlib/libpickledune.a -o target/example && target/example
@@ -22,6 +22,32 @@ static void expect(int holds, const char *what)
     }
 }
 
+/* A call must answer with this number, 0 or that of a refusal; a log says both in words. */
+static void answers(uint32_t number, uint32_t wanted, const char *what)
+{
+    if (number != wanted) {
+        fprintf(stderr, "not as it should be: %s: answered %lu (%s), not %lu (%s)\n", what, (unsigned long)number,
+                pickledune_refusal_text(number), (unsigned long)wanted, pickledune_refusal_text(wanted));
+        exit(1);
+    }
+}
+
+/* Before anything else: the archive is of this header's version, and its areas have the layout that the header knows. */
+static void compare_versions(void)
+{
+    if (pickledune_version() != PICKLEDUNE_VERSION || pickledune_layout() != PICKLEDUNE_LAYOUT) {
+        fprintf(stderr, "header and archive are of two versions: %lu and %lu, layouts %lu and %lu\n", (unsigned long)PICKLEDUNE_VERSION,
+                (unsigned long)pickledune_version(), (unsigned long)PICKLEDUNE_LAYOUT, (unsigned long)pickledune_layout());
+        exit(1);
+    }
+}
+
+/* Whether stored words may be an area of this archive: what a host reads before it trusts them. */
+static int has_layout(const int32_t *area, size_t words)
+{
+    return words != 0 && area[PICKLEDUNE_LAYOUT_WORD] == (int32_t)pickledune_layout();
+}
+
 static void print_delivery(const char *how, size_t from, size_t to, uint32_t kind, int32_t count, int32_t second)
 {
     if (kind == PICKLEDUNE_ACK) {
@@ -31,8 +57,8 @@ static void print_delivery(const char *how, size_t from, size_t to, uint32_t kin
     }
 }
 
-/* The delivery that running on makes next, by picks of the oldest message, lowest receiver first and then lowest sender: 24 and 25 say that
- * nothing waits there. Returns 0 if the run is over. */
+/* The delivery that running on makes next, by picks of the oldest message, lowest receiver first and then lowest sender: a refusal says
+ * that nothing waits there, or that the run is over, and then 0 is returned. */
 static int deliver_next(int32_t *area)
 {
     for (size_t to = 1; to <= PROCESSES; to++) {
@@ -45,10 +71,10 @@ static int deliver_next(int32_t *area)
                 print_delivery("own", from, to, kind, count, second);
                 return 1;
             }
-            if (number == 23) {
+            if (number == PICKLEDUNE_REFUSED_OVER) {
                 return 0;
             }
-            expect(number == 24 || number == 25, "a pick of a link with no message");
+            expect(number == PICKLEDUNE_REFUSED_NO_MESSAGE || number == PICKLEDUNE_REFUSED_NO_LINK, pickledune_refusal_text(number));
             expect(kind == 0 && count == 0 && second == 0, "zeros on a refusal");
         }
     }
@@ -63,7 +89,7 @@ static void compare_with_running_on(const int32_t *before, const int32_t *after)
     uint32_t over;
     uint32_t made;
     memcpy(area, before, sizeof area);
-    expect(pickledune_run_on(area, WORDS, 2048, &over, &made) == 0, "running on");
+    answers(pickledune_run_on(area, WORDS, 2048, &over, &made), 0, "running on");
     expect(over == 1 && made == 1, "over after one more delivery");
     expect(memcmp(area, after, sizeof area) == 0, "the same area either way");
 }
@@ -72,10 +98,13 @@ static void compare_with_running_on(const int32_t *before, const int32_t *after)
 static void walk(const uint8_t *table)
 {
     size_t arc;
-    expect(pickledune_open(table, TABLE, PICKLEDUNE_OUT, 1, &arc) == 0 && arc == 1, "the out-chain of 1");
+    answers(pickledune_open(table, TABLE, PICKLEDUNE_OUT, 1, &arc), 0, "a walk along the out-chain of 1");
+    expect(arc == 1, "the out-chain of 1");
     expect(pickledune_next(table, TABLE, PICKLEDUNE_OUT, arc) == 0, "its end");
-    expect(pickledune_open(table, TABLE, PICKLEDUNE_IN, 2, &arc) == 0 && arc == 1, "the in-chain of 2");
-    expect(pickledune_open(table, TABLE, PICKLEDUNE_IN, 3, &arc) == 8 && arc == 0, "no process 3");
+    answers(pickledune_open(table, TABLE, PICKLEDUNE_IN, 2, &arc), 0, "a walk along the in-chain of 2");
+    expect(arc == 1, "the in-chain of 2");
+    answers(pickledune_open(table, TABLE, PICKLEDUNE_IN, 3, &arc), PICKLEDUNE_REFUSED_PROCESS, "no process 3");
+    expect(arc == 0, "0 on a refusal");
 }
 
 /* What process 2 does with the probe, by itself: it has no successor and no father yet, so it acknowledges at once with 1 and, since it
@@ -87,11 +116,12 @@ static void step_by_itself(void)
     uint32_t to;
     int32_t count;
     int32_t second;
-    expect(pickledune_step_process(&record, PICKLEDUNE_SUC, 0, 0, 0, 1, 1, &probes, &to, &count, &second) == 0, "a step");
+    answers(pickledune_step_process(&record, PICKLEDUNE_SUC, 0, 0, 0, 1, 1, &probes, &to, &count, &second), 0, "a step");
     expect(record.succeeding == 1 && record.subordinate == 1 && record.father == 1, "its record");
     expect(record.cs == 0 && record.second == 0, "both sums are passed on");
     expect(probes == PICKLEDUNE_SUC && to == 1 && count == 1 && second == 1, "what it sends");
-    expect(pickledune_step_process(&record, 4, 0, 0, 0, 1, 1, &probes, &to, &count, &second) == 21, "no kind 4");
+    answers(pickledune_step_process(&record, 4, 0, 0, 0, 1, 1, &probes, &to, &count, &second), PICKLEDUNE_REFUSED_NOT_WELL_FORMED,
+            "no kind 4");
     expect(record.succeeding == 1 && probes == 0 && to == 0 && count == 0 && second == 0,
            "a refusal keeps the record and gives zeros");
 }
@@ -101,8 +131,8 @@ static void begin(size_t n, const uint16_t *list, size_t entries, size_t start, 
 {
     uint8_t table[PICKLEDUNE_TABLE_BYTES(3, 4)];
     size_t length;
-    expect(pickledune_write_table(n, list, entries, table, sizeof table, &length) == 0, "writing a table of few waits");
-    expect(pickledune_start(table, length, start, 1, area, words) == 0, "its start");
+    answers(pickledune_write_table(n, list, entries, table, sizeof table, &length), 0, "writing a table of few waits");
+    answers(pickledune_start(table, length, start, 1, area, words), 0, "its start");
 }
 
 /* Overtaking (02, N5): 1 and 2 wait for each other, so that a suc probe and then a pre probe wait on the link from 1 to 2. The second is
@@ -118,9 +148,12 @@ static void overtake(void)
     uint32_t over;
     uint32_t made;
     begin(2, list, 4, 1, area, words);
-    expect(pickledune_pick(area, words, 1, 2, 2, &kind, &count, &second) == 0 && kind == PICKLEDUNE_PRE, "place 2 first");
-    expect(pickledune_pick(area, words, 1, 2, 1, &kind, &count, &second) == 0 && kind == PICKLEDUNE_SUC, "then place 1");
-    expect(pickledune_run_on(area, words, 2048, &over, &made) == 0 && over == 1 && made == 6, "8 deliveries in any order");
+    answers(pickledune_pick(area, words, 1, 2, 2, &kind, &count, &second), 0, "place 2 first");
+    expect(kind == PICKLEDUNE_PRE, "the younger message");
+    answers(pickledune_pick(area, words, 1, 2, 1, &kind, &count, &second), 0, "then place 1");
+    expect(kind == PICKLEDUNE_SUC, "the older message");
+    answers(pickledune_run_on(area, words, 2048, &over, &made), 0, "the rest of that check");
+    expect(over == 1 && made == 6, "8 deliveries in any order");
 }
 
 /* The order of running on (02, N11): process 3 waits for 1 and 2. After the probe to 1 the probe to 2 is delivered, before the
@@ -136,9 +169,11 @@ static void receivers_first(void)
     uint32_t over;
     uint32_t made;
     begin(3, list, 4, 3, area, words);
-    expect(pickledune_run_on(area, words, 2, &over, &made) == 0 && over == 0 && made == 2, "two deliveries");
-    expect(pickledune_pick(area, words, 3, 2, 1, &kind, &count, &second) == 24, "the probe to 2 was one of them");
-    expect(pickledune_pick(area, words, 1, 3, 1, &kind, &count, &second) == 0 && kind == PICKLEDUNE_ACK, "1's acknowledgement waits");
+    answers(pickledune_run_on(area, words, 2, &over, &made), 0, "two deliveries");
+    expect(over == 0 && made == 2, "spent, and not over");
+    answers(pickledune_pick(area, words, 3, 2, 1, &kind, &count, &second), PICKLEDUNE_REFUSED_NO_MESSAGE, "the probe to 2 was one of them");
+    answers(pickledune_pick(area, words, 1, 3, 1, &kind, &count, &second), 0, "1's acknowledgement waits");
+    expect(kind == PICKLEDUNE_ACK, "an acknowledgement");
 }
 
 /* What a report gives. */
@@ -153,7 +188,7 @@ struct report {
 static struct report read_report(const int32_t *area, size_t words)
 {
     struct report r;
-    expect(pickledune_report(area, words, &r.deliveries, &r.knot, &r.outside, &r.escape, &r.returned) == 0, "the report");
+    answers(pickledune_report(area, words, &r.deliveries, &r.knot, &r.outside, &r.escape, &r.returned), 0, "the report");
     return r;
 }
 
@@ -162,8 +197,9 @@ static struct report check(const uint8_t *table, size_t length, size_t process, 
 {
     uint32_t over;
     uint32_t made;
-    expect(pickledune_start(table, length, process, edition, area, words) == 0, "a start under either edition");
-    expect(pickledune_run_on(area, words, 2048, &over, &made) == 0 && over == 1, "its end");
+    answers(pickledune_start(table, length, process, edition, area, words), 0, "a start under either edition");
+    answers(pickledune_run_on(area, words, 2048, &over, &made), 0, "running on to its end");
+    expect(over == 1, "its end");
     return read_report(area, words);
 }
 
@@ -178,14 +214,16 @@ static void shuffle(uint32_t seed)
     uint32_t over;
     uint32_t made;
     begin(3, list, 8, 1, area, words);
-    expect(pickledune_run_shuffled(area, words, 2048, 0, &over, &made) == 37 && over == 0 && made == 0, "no seed 0");
-    expect(pickledune_run_shuffled(area, words, 2048, seed, &over, &made) == 0 && over == 1, "a shuffled run to the end");
+    answers(pickledune_run_shuffled(area, words, 2048, 0, &over, &made), PICKLEDUNE_REFUSED_SEED, "no seed 0");
+    expect(over == 0 && made == 0, "zeros on a refusal");
+    answers(pickledune_run_shuffled(area, words, 2048, seed, &over, &made), 0, "a shuffled run");
+    expect(over == 1, "its end");
     r = read_report(area, words);
     expect(r.deliveries == made && r.knot == 1 && r.outside == 0 && r.escape == 0 && r.returned == 1, "the report by any seed");
     printf("seed %lu made %lu fathers", (unsigned long)seed, (unsigned long)made);
     for (size_t p = 1; p <= 3; p++) {
         struct pickledune_process x;
-        expect(pickledune_read_process(area, words, p, &x) == 0, "reading a record");
+        answers(pickledune_read_process(area, words, p, &x), 0, "reading a record");
         printf(" %lu", (unsigned long)x.father);
     }
     printf("\n");
@@ -200,8 +238,8 @@ static void judge_by_edition(void)
     int32_t area[PICKLEDUNE_AREA_WORDS(2, 1)];
     const size_t words = PICKLEDUNE_AREA_WORDS(2, 1);
     size_t length;
-    expect(pickledune_write_table(2, list, 2, table, sizeof table, &length) == 0, "writing a table of one loop");
-    expect(pickledune_start(table, length, 1, 3, area, words) == 30, "no edition 3");
+    answers(pickledune_write_table(2, list, 2, table, sizeof table, &length), 0, "writing a table of one loop");
+    answers(pickledune_start(table, length, 1, 3, area, words), PICKLEDUNE_REFUSED_EDITION, "no edition 3");
     for (size_t process = 1; process <= 2; process++) {
         for (size_t edition = 1; edition <= 2; edition++) {
             const struct report r = check(table, length, process, edition, area, words);
@@ -210,6 +248,18 @@ static void judge_by_edition(void)
             expect(r.returned == (process == 2), "the mark by both");
         }
     }
+}
+
+/* An area that was stored by a host: one of another layout is known by its word, and no call takes it. */
+static void stored_before(const int32_t *area)
+{
+    int32_t old[WORDS];
+    struct pickledune_process x;
+    expect(has_layout(area, WORDS) && !has_layout(area, 0), "an area that was started has the archive's layout, no words have none");
+    memcpy(old, area, sizeof old);
+    old[PICKLEDUNE_LAYOUT_WORD] = 1;
+    expect(!has_layout(old, WORDS), "layout 1 is from before second sums");
+    answers(pickledune_read_process(old, WORDS, 1, &x), PICKLEDUNE_REFUSED_NOT_WELL_FORMED, "an area of layout 1");
 }
 
 /* The mark (02, N3): process 1 waits for 2, and 2 and 3 wait for each other. Process 1 is in no knot, but all that it waits for, at any
@@ -222,9 +272,10 @@ static void wait_for_a_knot(void)
     const size_t words = PICKLEDUNE_AREA_WORDS(3, 3);
     struct pickledune_process start;
     size_t length;
-    expect(pickledune_write_table(3, list, 6, table, sizeof table, &length) == 0, "writing a table of three waits");
+    answers(pickledune_write_table(3, list, 6, table, sizeof table, &length), 0, "writing a table of three waits");
     const struct report r = check(table, length, 1, 1, area, words);
-    expect(pickledune_read_process(area, words, 1, &start) == 0 && start.cs == 2 && start.second == 0, "the sums of the start");
+    answers(pickledune_read_process(area, words, 1, &start), 0, "reading the start's record");
+    expect(start.cs == 2 && start.second == 0, "the sums of the start");
     expect(r.deliveries == 6 && r.knot == 0 && r.outside == 2 && r.escape == 2 && r.returned == 1, "in no knot, and returned");
 }
 
@@ -233,7 +284,7 @@ static void print_report(const int32_t *area)
     const struct report r = read_report(area, WORDS);
     for (size_t p = 1; p <= PROCESSES; p++) {
         struct pickledune_process x;
-        expect(pickledune_read_process(area, WORDS, p, &x) == 0, "reading a record");
+        answers(pickledune_read_process(area, WORDS, p, &x), 0, "reading a record");
         printf("process %zu %lu %lu %lu %ld %lu %ld\n", p, (unsigned long)x.succeeding, (unsigned long)x.preceding,
                (unsigned long)x.subordinate, (long)x.cs, (unsigned long)x.num, (long)x.second);
     }
@@ -257,15 +308,18 @@ int main(void)
     int32_t count;
     int32_t second;
 
-    expect(pickledune_write_table(PROCESSES, list, 2 * ARCS, table, sizeof table, &length) == 0, "writing the table");
+    compare_versions();
+    answers(pickledune_write_table(PROCESSES, list, 2 * ARCS, table, sizeof table, &length), 0, "writing the table");
     expect(length == TABLE, "its length");
-    expect(pickledune_read_table(table, length, &n, &m) == 0 && n == PROCESSES && m == ARCS, "reading it");
+    answers(pickledune_read_table(table, length, &n, &m), 0, "reading it");
+    expect(n == PROCESSES && m == ARCS, "its sizes");
     walk(table);
 
-    expect(pickledune_start(table, length, 1, 1, area, WORDS - 1) == 9, "an area that is too short");
-    expect(pickledune_start(table, length, 1, 1, area, WORDS) == 0, "the start");
-    expect(pickledune_pick(area, WORDS, 1, 2, 2, &kind, &count, &second) == 31, "one message waits there, and none at place 2");
-    expect(pickledune_pick(area, WORDS, 1, 2, 1, &kind, &count, &second) == 0, "the pick");
+    answers(pickledune_start(table, length, 1, 1, area, WORDS - 1), PICKLEDUNE_REFUSED_AREA_SHORT, "an area that is too short");
+    answers(pickledune_start(table, length, 1, 1, area, WORDS), 0, "the start");
+    stored_before(area);
+    answers(pickledune_pick(area, WORDS, 1, 2, 2, &kind, &count, &second), PICKLEDUNE_REFUSED_PLACE, "only one message waits there");
+    answers(pickledune_pick(area, WORDS, 1, 2, 1, &kind, &count, &second), 0, "the pick");
     print_delivery("pick", 1, 2, kind, count, second);
     memcpy(picked, area, sizeof area);
     while (deliver_next(area)) {
