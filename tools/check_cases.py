@@ -8,6 +8,7 @@ input of each crate that runs the check program itself, with what it must print:
   tools/check_cases.py --print   read one input of the check program and print what it must print
   tools/check_cases.py --planted write nothing; say of each planted mistake in the fixed order how many cases print other lines by it; exit 1
                                  if there is a mistake that none finds
+  tools/check_cases.py --help    print this
 
 What is printed comes from the run below, which is written from 01 ("Run and links", "Steps", "The check program") and 02 (N1, N3, N4, N11)
 and not from the crates, and from the reader of tools/table_vectors.py. Each case names by hand what must be among its lines; the script stops
@@ -17,7 +18,7 @@ fixed seed, so every run makes the same files.
 """
 import collections, os, sys
 
-from table_vectors import Draws, Table, fields_of, latest_first, rows_met, shuffled, some_waits, store, words
+from table_vectors import Draws, Table, asked, fields_of, latest_first, rows_met, shuffled, some_waits, store, words
 
 CRATES = os.path.join(os.path.dirname(os.path.abspath(__file__)), "..", "crates")
 LONGEST = 20480
@@ -924,24 +925,23 @@ def make():
 
 
 def main():
-    if sys.argv[1:] == ["--print"]:
+    word = asked(__doc__, "--check", "--list", "--print", "--planted")
+    if word == "--print":
         sys.stdout.write(text(printed(sys.stdin.buffer.read())))
         return
     files, alone = make(), programs()
-    if sys.argv[1:] == ["--list"]:
+    if word == "--list":
         for name, (label, data, lines) in [*enumerate(cases, 1), *alone.items()]:
             print("%s, %d bytes, %s:" % (name, len(data), label))
             for line in lines:
                 print("    " + line)
         return
-    if sys.argv[1:] == ["--planted"]:
+    if word == "--planted":
         sys.exit(not try_mistakes())
-    if sys.argv[1:] not in ([], ["--check"]):
-        sys.exit(__doc__)
-    store(os.path.join(CRATES, "check_cases"), files, sys.argv[1:] == ["--check"])
+    store(os.path.join(CRATES, "check_cases"), files, word == "--check")
     print("%d cases, %d bytes in, %d bytes out" % (len(cases), len(files["stdin"]), len(files["stdout"])))
     for name, (label, data, lines) in alone.items():
-        store(os.path.join(CRATES, name), {"stdin": data, "stdout": text(lines).encode()}, sys.argv[1:] == ["--check"])
+        store(os.path.join(CRATES, name), {"stdin": data, "stdout": text(lines).encode()}, word == "--check")
         print("%s: %d bytes in, %d lines out" % (name, len(data), len(lines)))
 
 

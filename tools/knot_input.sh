@@ -6,6 +6,12 @@
 # START is the start process, EDITION the rulebook's edition, 1 or 2, and N the number of processes. The first list has the waits, the
 # second the picks, in order. Each wait is put at the front of its two chains, as the writer of tables does. Numbers are 0 to 65535; whether
 # they make a right input the check program says.
+case ${1-} in
+-h | --help)
+    sed -n '2,/^[^#]/ s/^# \{0,1\}//p' "$0"
+    exit
+    ;;
+esac
 if [ $# -lt 4 ] || [ $# -gt 5 ]; then
     echo "usage: $0 START EDITION N 'FROM-TO ..' ['FROM-TO ..'] > input" >&2
     exit 2

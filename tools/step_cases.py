@@ -4,16 +4,17 @@
   tools/step_cases.py           write both files
   tools/step_cases.py --check   write nothing; exit 1 unless both files are what would be written
   tools/step_cases.py --list    print each case with its label and its line
+  tools/step_cases.py --help    print this
 
 What is printed comes from the step of tools/check_cases.py, which is written from 01 ("Steps") and 02 (N3) and not from the crates, and from
 the three refusals below, written from 01 ("Refused because of the state") and 02 (N3). Of each case but those drawn at random the line, or
 the number of the refusal, is written by hand too; the script stops if they do not agree. The format of a case is in the top comment of
 crates/step_cases/src/main.rt. The cases drawn at random have a fixed seed, so every run makes the same files.
 """
-import copy, os, struct, sys
+import copy, os, struct
 
 from check_cases import Process, other_step, small
-from table_vectors import Draws, store
+from table_vectors import Draws, asked, store
 
 HERE = os.path.join(os.path.dirname(os.path.abspath(__file__)), "..", "crates", "step_cases")
 FIELDS = ("succeeding", "preceding", "subordinate", "cs", "num", "father", "second")
@@ -330,14 +331,13 @@ def make():
 
 
 def main():
+    word = asked(__doc__, "--check", "--list")
     files = make()
-    if sys.argv[1:] == ["--list"]:
+    if word == "--list":
         for number, (label, data, line) in enumerate(cases, 1):
             print("%d %s: %s" % (number, label, line))
         return
-    if sys.argv[1:] not in ([], ["--check"]):
-        sys.exit(__doc__)
-    store(HERE, files, sys.argv[1:] == ["--check"])
+    store(HERE, files, word == "--check")
     print("%d cases, %d bytes in, %d bytes out" % (len(cases), len(files["stdin"]), len(files["stdout"])))
 
 

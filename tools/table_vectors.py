@@ -4,6 +4,7 @@
   tools/table_vectors.py           write both files
   tools/table_vectors.py --check   write nothing; exit 1 unless both files are what would be written
   tools/table_vectors.py --list    print each case with its label and its lines
+  tools/table_vectors.py --help    print this
 
 What is printed comes from the reader, the writer and the walks below, which are written from 01 ("Wait table" and "Refused because of the
 input") and not from the crates. A reader here finds every row that the bytes meet, and the lowest is the answer; a writer here
@@ -612,17 +613,27 @@ def store(folder, files, only_check):
                 f.write(data)
 
 
+def asked(doc, *words):
+    """The word that the script was given, None if there was none. --help prints what the script says of itself; any word but these stops it."""
+    given = sys.argv[1:]
+    if given in (["-h"], ["--help"]):
+        print(doc.strip())
+        sys.exit()
+    if len(given) > 1 or any(word not in words for word in given):
+        sys.exit(doc.strip())
+    return given[0] if given else None
+
+
 def main():
+    word = asked(__doc__, "--check", "--list")
     files = make()
-    if sys.argv[1:] == ["--list"]:
+    if word == "--list":
         for number, (label, kind, data, lines) in enumerate(cases, 1):
             print("%d %s, %d bytes, %s:" % (number, kind, len(data), label))
             for line in lines:
                 print("    " + line)
         return
-    if sys.argv[1:] not in ([], ["--check"]):
-        sys.exit(__doc__)
-    store(HERE, files, sys.argv[1:] == ["--check"])
+    store(HERE, files, word == "--check")
     print("%d cases, %d bytes in, %d bytes out" % (len(cases), len(files["stdin"]), len(files["stdout"])))
 
 
