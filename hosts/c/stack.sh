@@ -45,7 +45,7 @@ command -v gcc > /dev/null || { echo "stack.sh: gcc is missing (Debian: gcc libc
 [ -x target/bin/knot_check ] || { echo "stack.sh: no target/bin/knot_check: rt check knot_check makes it" >&2; exit 1; }
 
 mkdir -p target/stack-runs
-gcc -std=c99 -O2 -Iinclude hosts/c/stack.c target/staticlib/libpickledune.a -pthread -o target/stack-runs/stack
+gcc -std=c99 -O2 -Wall -Wextra -Werror -Iinclude hosts/c/stack.c target/staticlib/libpickledune.a -pthread -o target/stack-runs/stack
 target/stack-runs/stack "$runs"
 
 # Sets held to how many of so many runs hold with so many KiB.

@@ -1,0 +1,236 @@
+#!/bin/sh
+# Builds what hosts use and runs all tests of hosts: the C example, the stack, the installed files, the Rust side, and the comparison.
+#
+#   hosts/test.sh
+#
+# It names what is missing, with the Debian package that has it, before it begins; what is optional is named and left out. Then it prints a line
+# for each test with its time, and last 'N host tests passed' with status 0. A test that fails prints its output, at most the last 60 lines (all of it
+# is in target/host-test); the last line then names those that failed, and the status is 1. From a fresh clone it takes some minutes, most of them
+# for proofs. What it makes stands in target/.
+#
+# Needed: rt (the Rattle kit), gcc and g++ with the run-time of their sanitizers, pkg-config, cargo (Rust 1.88 or later).
+# Optional: cargo's fmt and clippy, python3 (the tools that are in Python).
+set -u
+cd "$(dirname "$0")/.." || exit 1
+
+case ${1-} in
+-h | --help)
+    sed -n '2,/^[^#]/ s/^# \{0,1\}//p' hosts/test.sh
+    exit
+    ;;
+esac
+[ $# -eq 0 ] || { echo "usage: hosts/test.sh" >&2; exit 2; }
+
+here=$(pwd)
+work=$here/target/host-test
+rm -rf "$work"
+mkdir -p "$work" || exit 1
+CARGO_TARGET_DIR=$here/target/host-rust
+TERM=dumb
+export CARGO_TARGET_DIR TERM
+
+# ---- what is missing
+
+missing=0
+miss() {
+    echo "missing: $1 ($2)"
+    missing=$((missing + 1))
+}
+
+there() {
+    command -v "$1" > /dev/null
+}
+
+# Whether a program with gcc's sanitizers can be linked and run.
+sanitizers() {
+    echo 'int main(void) { return 0; }' > "$work/empty.c"
+    gcc -fsanitize=address,undefined "$work/empty.c" -o "$work/empty" 2> /dev/null && "$work/empty" 2> /dev/null
+}
+
+# cargo's version, as 1.88 is 188
+cargo_version() {
+    cargo --version 2> /dev/null | awk '{ split($2, part, "."); print part[1] * 100 + part[2] }'
+}
+
+there rt || miss rt "the Rattle kit, with its command rt on the path"
+if there gcc; then
+    sanitizers || miss "the run-time of gcc's sanitizers, address and undefined" "Debian: libgcc-$(gcc -dumpversion)-dev, which gcc brings along"
+else
+    miss gcc "Debian: gcc libc6-dev"
+fi
+there g++ || miss g++ "Debian: g++"
+there pkg-config || miss pkg-config "Debian: pkg-config"
+if there cargo; then
+    [ "$(cargo_version)" -ge 188 ] 2> /dev/null || miss "cargo 1.88 or later" "this is $(cargo --version 2>&1); rustup has it, https://rustup.rs"
+else
+    miss cargo "Rust 1.88 or later, by rustup, https://rustup.rs, or Debian's cargo where that is as new"
+fi
+if [ "$missing" -ne 0 ]; then
+    echo "$missing missing; no host test was run"
+    exit 1
+fi
+if cargo fmt --version > /dev/null 2>&1; then fmt=yes; else fmt=; echo "left out, since it is missing: cargo fmt (rustup component add rustfmt)"; fi
+if cargo clippy --version > /dev/null 2>&1; then clippy=yes; else clippy=; echo "left out, since it is missing: cargo clippy (rustup component add clippy)"; fi
+if there python3; then python=yes; else python=; echo "left out, since it is missing: python3 (Debian: python3)"; fi
+
+# ---- running a test
+
+passed=0
+failed=0
+names=
+
+now() {
+    cut -d ' ' -f 1 /proc/uptime
+}
+
+# run NAME COMMAND ..: the command, whose output is printed if it fails.
+run() {
+    name=$1
+    shift
+    begun=$(now)
+    output=$work/output-$((passed + failed + 1))
+    if "$@" > "$output" 2>&1; then
+        passed=$((passed + 1))
+        word=passed
+    else
+        failed=$((failed + 1))
+        names="$names${names:+, }$name"
+        word=FAILED
+    fi
+    echo "$begun $(now)" | awk -v word="$word" -v name="$name" '{ printf "%s  %s (%.1f s)\n", word, name, $2 - $1 }'
+    if [ "$word" = FAILED ]; then
+        tail -n 60 "$output" | sed 's/^/    /'
+        return 1
+    fi
+}
+
+finish() {
+    if [ "$failed" -eq 0 ]; then
+        echo "$passed host tests passed"
+        exit 0
+    fi
+    echo "$failed of $((passed + failed)) host tests failed: $names"
+    exit 1
+}
+
+# ---- what is built
+
+run "the check program is proved and built" rt check knot_check || finish
+run "the archive is proved and built" rt staticlib pickledune || finish
+
+# ---- C
+
+archive=target/staticlib/libpickledune.a
+
+# What the example prints: the lines of the check program for the same check, and those of two shuffled checks.
+{
+    cat crates/knot_check/stdout
+    echo "seed 2463534242 made 16 fathers 0 3 1"
+    echo "seed 2026 made 16 fathers 0 1 2"
+} > "$work/example.stdout"
+
+# Runs the program named and compares what it prints.
+prints_example() {
+    "$1" > "$work/printed" && diff "$work/example.stdout" "$work/printed"
+}
+
+c_example() {
+    gcc -std=c99 -Wall -Wextra -pedantic -Werror -Iinclude hosts/c/example.c "$archive" -o "$work/example-c" && prints_example "$work/example-c"
+}
+
+sanitized_example() {
+    gcc -std=c99 -g -O1 -Wall -Wextra -pedantic -Werror -fsanitize=address,undefined -fno-sanitize-recover=all -Iinclude hosts/c/example.c "$archive" \
+        -o "$work/example-sanitized" && prints_example "$work/example-sanitized"
+}
+
+cpp_example() {
+    g++ -Wall -Wextra -pedantic -Werror -Iinclude -x c++ hosts/c/example.c -x none "$archive" -o "$work/example-cpp" && prints_example "$work/example-cpp"
+}
+
+# Each call on the largest table, and the program on the largest check.
+stack() {
+    hosts/c/stack.sh --runs 5 1024 > "$work/stack" && cat "$work/stack" && grep -q 'with 1024 KiB: 5 of 5 runs held' "$work/stack"
+}
+
+run "the C example, warnings as errors" c_example
+run "the C example with the sanitizers address and undefined" sanitized_example
+run "the C example as C++" cpp_example
+run "the stack of each call and of the program, and a stack that is too small" stack
+
+# ---- installed
+
+# The example from the installed files alone, as pkg-config names them, and the installed program.
+installed() {
+    PKG_CONFIG_PATH=$work/prefix/lib/pkgconfig
+    export PKG_CONFIG_PATH
+    tools/install.sh "$work/prefix" &&
+        flags=$(pkg-config --cflags --libs pickledune) &&
+        (cd "$work" && gcc -std=c99 -Wall -Wextra -pedantic -Werror "$here/hosts/c/example.c" $flags -o example-installed) &&
+        prints_example "$work/example-installed" &&
+        pkg-config --modversion pickledune &&
+        grep "^#define PICKLEDUNE_VERSION_TEXT \"$(pkg-config --modversion pickledune)\"\$" "$work/prefix/include/pickledune.h" &&
+        "$work/prefix/bin/knot_check" < crates/knot_check/stdin | diff crates/knot_check/stdout -
+}
+
+# What install.sh refuses: no PREFIX, and a clone in which nothing was built, where the line names what builds it.
+not_installed() {
+    mkdir -p "$work/unbuilt/tools" && cp tools/install.sh "$work/unbuilt/tools" || return 1
+    if tools/install.sh || "$work/unbuilt/tools/install.sh" "$work/nowhere" 2> "$work/said"; then
+        echo "install.sh did not refuse"
+        return 1
+    fi
+    grep 'rt staticlib pickledune' "$work/said" && [ ! -e "$work/nowhere" ]
+}
+
+run "installed, and used by pkg-config" installed
+run "what install.sh refuses" not_installed
+
+# ---- tools
+
+# Each answers --help with status 0 and names itself.
+helps() {
+    for tool in hosts/test.sh hosts/c/stack.sh hosts/fuzz/run.sh tools/*.sh ${python:+tools/*.py}; do
+        if ! "$tool" --help > "$work/help" || ! grep -q "^  $tool" "$work/help"; then
+            echo "$tool does not answer --help"
+            return 1
+        fi
+    done
+}
+
+run "every tool answers --help" helps
+
+# ---- Rust
+
+rust() {
+    command=$1
+    shift
+    cargo "$command" --offline --manifest-path hosts/rust/Cargo.toml "$@"
+}
+
+# The last line is 'no difference in N calls'.
+comparison() {
+    "$CARGO_TARGET_DIR/release/compare" --program target/bin/knot_check > "$work/compared"
+    status=$?
+    tail -n 20 "$work/compared"
+    [ "$status" -eq 0 ] && tail -n 1 "$work/compared" | grep -q '^no difference in [0-9]* calls$'
+}
+
+# The programs of the Rust side over the plain Rust in the archive's place. They are built apart, since they compare nothing.
+standin() {
+    CARGO_TARGET_DIR=$here/target/host-standin cargo test --release --offline --manifest-path hosts/rust/Cargo.toml --workspace --exclude pickledune \
+        --features standin
+}
+
+run "the Rust side is built" rust build --release
+run "the Rust tests" rust test --release
+for example in hosts/rust/pickledune/examples/*.rs; do
+    [ -f "$example" ] || continue
+    example=$(basename "$example" .rs)
+    run "the wrapper's example $example" rust run --release --package pickledune --example "$example"
+done
+[ -z "$fmt" ] || run "cargo fmt" cargo fmt --manifest-path hosts/rust/Cargo.toml --all --check
+[ -z "$clippy" ] || run "cargo clippy, warnings as errors" rust clippy --release --all-targets -- -D warnings
+run "the Rust side without the archive" standin
+run "the comparison, call by call and with the program" comparison
+
+finish
