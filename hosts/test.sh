@@ -8,8 +8,8 @@
 # is in target/host-test); the last line then names those that failed, and the status is 1. From a fresh clone it takes some minutes, most of them
 # for proofs. What it makes stands in target/.
 #
-# Needed: rt (the Rattle kit), gcc and g++ with the run-time of their sanitizers, pkg-config, cargo (Rust 1.88 or later).
-# Optional: cargo's fmt and clippy, python3 (the tools that are in Python).
+# Needed: rt (the Rattle kit), gcc and g++ with the run-time of their sanitizers, pkg-config, cargo (of the version that hosts/rust/Cargo.toml
+# names, or later). Optional: cargo's fmt and clippy, python3 for the tools in Python, clang-14 for a short fuzzing.
 set -u
 cd "$(dirname "$0")/.." || exit 1
 
@@ -26,8 +26,9 @@ work=$here/target/host-test
 rm -rf "$work"
 mkdir -p "$work" || exit 1
 CARGO_TARGET_DIR=$here/target/host-rust
+PYTHONDONTWRITEBYTECODE=1
 TERM=dumb
-export CARGO_TARGET_DIR TERM
+export CARGO_TARGET_DIR PYTHONDONTWRITEBYTECODE TERM
 
 # ---- what is missing
 
@@ -47,9 +48,15 @@ sanitizers() {
     gcc -fsanitize=address,undefined "$work/empty.c" -o "$work/empty" 2> /dev/null && "$work/empty" 2> /dev/null
 }
 
-# cargo's version, as 1.88 is 188
-cargo_version() {
-    cargo --version 2> /dev/null | awk '{ split($2, part, "."); print part[1] * 100 + part[2] }'
+# Whether clang-14 can link a program for libFuzzer.
+fuzzer() {
+    echo 'int LLVMFuzzerTestOneInput(const unsigned char *data, unsigned long size) { return data && size ? 0 : 0; }' > "$work/fuzzed.c"
+    clang-14 -fsanitize=fuzzer,undefined "$work/fuzzed.c" -o "$work/fuzzed" 2> /dev/null
+}
+
+# Whether a version, as 1.95.0, is another, as 1.88, or later.
+as_new() {
+    echo "$1 $2" | awk '{ split($1, a, "."); split($2, b, "."); exit !(a[1] > b[1] || a[1] == b[1] && a[2] >= b[2]) }'
 }
 
 there rt || miss rt "the Rattle kit, with its command rt on the path"
@@ -60,18 +67,33 @@ else
 fi
 there g++ || miss g++ "Debian: g++"
 there pkg-config || miss pkg-config "Debian: pkg-config"
+rust=$(sed -n 's/^rust-version = "\(.*\)"$/\1/p' hosts/rust/Cargo.toml)
 if there cargo; then
-    [ "$(cargo_version)" -ge 188 ] 2> /dev/null || miss "cargo 1.88 or later" "this is $(cargo --version 2>&1); rustup has it, https://rustup.rs"
+    as_new "$(cargo --version | cut -d ' ' -f 2)" "$rust" || miss "cargo $rust or later" "this is $(cargo --version); rustup has it, https://rustup.rs"
 else
-    miss cargo "Rust 1.88 or later, by rustup, https://rustup.rs, or Debian's cargo where that is as new"
+    miss cargo "Rust $rust or later, by rustup, https://rustup.rs, or Debian's cargo where that is as new"
 fi
 if [ "$missing" -ne 0 ]; then
     echo "$missing missing; no host test was run"
     exit 1
 fi
-if cargo fmt --version > /dev/null 2>&1; then fmt=yes; else fmt=; echo "left out, since it is missing: cargo fmt (rustup component add rustfmt)"; fi
-if cargo clippy --version > /dev/null 2>&1; then clippy=yes; else clippy=; echo "left out, since it is missing: cargo clippy (rustup component add clippy)"; fi
-if there python3; then python=yes; else python=; echo "left out, since it is missing: python3 (Debian: python3)"; fi
+
+# optional NAME HOW COMMAND ..: whether it is there; if not, it is named.
+optional() {
+    what=$1
+    how=$2
+    shift 2
+    "$@" > /dev/null 2>&1 || { echo "left out, since it is missing: $what ($how)"; return 1; }
+}
+
+fmt=
+clippy=
+python=
+fuzz=
+optional "cargo fmt" "rustup component add rustfmt" cargo fmt --version && fmt=yes
+optional "cargo clippy" "rustup component add clippy" cargo clippy --version && clippy=yes
+optional python3 "Debian: python3" python3 --version && python=yes
+optional "clang-14 and its libFuzzer" "Debian: clang-14 libclang-rt-14-dev" fuzzer && fuzz=yes
 
 # ---- running a test
 
@@ -94,7 +116,7 @@ run() {
         word=passed
     else
         failed=$((failed + 1))
-        names="$names${names:+, }$name"
+        names="$names${names:+; }$name"
         word=FAILED
     fi
     echo "$begun $(now)" | awk -v word="$word" -v name="$name" '{ printf "%s  %s (%.1f s)\n", word, name, $2 - $1 }'
@@ -184,6 +206,7 @@ not_installed() {
 
 run "installed, and used by pkg-config" installed
 run "what install.sh refuses" not_installed
+[ -z "$fuzz" ] || run "fuzzing for ten seconds" hosts/fuzz/run.sh 10
 
 # ---- tools
 
@@ -204,7 +227,7 @@ run "every tool answers --help" helps
 rust() {
     command=$1
     shift
-    cargo "$command" --offline --manifest-path hosts/rust/Cargo.toml "$@"
+    cargo "$command" --offline --locked --manifest-path hosts/rust/Cargo.toml "$@"
 }
 
 # The last line is 'no difference in N calls'.
@@ -217,8 +240,7 @@ comparison() {
 
 # The programs of the Rust side over the plain Rust in the archive's place. They are built apart, since they compare nothing.
 standin() {
-    CARGO_TARGET_DIR=$here/target/host-standin cargo test --release --offline --manifest-path hosts/rust/Cargo.toml --workspace --exclude pickledune \
-        --features standin
+    (CARGO_TARGET_DIR=$here/target/host-standin && rust test --release --workspace --exclude pickledune --features standin)
 }
 
 run "the Rust side is built" rust build --release
