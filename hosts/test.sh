@@ -181,7 +181,8 @@ run "the stack of each call and of the program, and a stack that is too small" s
 
 # ---- installed
 
-# The example from the installed files alone, as pkg-config names them, and the installed program.
+# The example from the installed files alone, as pkg-config names them, and the installed program. The version that pkg-config tells is the
+# header's number, which the example compares with the archive's.
 installed() {
     PKG_CONFIG_PATH=$work/prefix/lib/pkgconfig
     export PKG_CONFIG_PATH
@@ -189,8 +190,9 @@ installed() {
         flags=$(pkg-config --cflags --libs pickledune) &&
         (cd "$work" && gcc -std=c99 -Wall -Wextra -pedantic -Werror "$here/hosts/c/example.c" $flags -o example-installed) &&
         prints_example "$work/example-installed" &&
-        pkg-config --modversion pickledune &&
-        grep "^#define PICKLEDUNE_VERSION_TEXT \"$(pkg-config --modversion pickledune)\"\$" "$work/prefix/include/pickledune.h" &&
+        version=$(pkg-config --modversion pickledune | awk -F . '{ print 10000 * $1 + 100 * $2 + $3 }') &&
+        echo "pkg-config tells version $version" &&
+        grep "^#define PICKLEDUNE_VERSION $version\$" "$work/prefix/include/pickledune.h" &&
         "$work/prefix/bin/knot_check" < crates/knot_check/stdin | diff crates/knot_check/stdout -
 }
 

@@ -12,15 +12,12 @@
  *   if (pickledune_version() != PICKLEDUNE_VERSION || pickledune_layout() != PICKLEDUNE_LAYOUT)
  *       header and archive are not of one version: compile the host again with the header of its archive
  *
- * Stored areas. Word PICKLEDUNE_LAYOUT_WORD of a run area, its first, is the version of the area's layout. A start stores it with every
- * area, no call changes it, and a call that is lent an area with any other number there answers 21 and changes nothing. A host that
- * keeps areas between runs of its program, or gets them from another, reads this word before it trusts the rest:
+ * Stored areas. Word PICKLEDUNE_LAYOUT_WORD of a run area, its first, is the version of the area's layout (docs/LAYOUT.md). A start stores
+ * it with every area, no later call changes it, and a call that is lent an area with any other number there answers 21 and changes nothing.
+ * A host that keeps areas, or gets them from another program, reads this word before it trusts the rest:
  *
  *   if (words == 0 || area[PICKLEDUNE_LAYOUT_WORD] != (int32_t)pickledune_layout())
  *       no area of this archive's layout: start the check again, from its table
- *
- * The words are signed numbers of 32 bits, kept as the machine has them: a host that brings them to a machine with another order of bytes
- * turns the bytes of each word around.
  *
  * The second numbers (02, N3). Beside the sum cs each process has a second sum, and beside its count each acknowledgement a second count,
  * of processes reachable from the start that wait for nobody. At the end the start's second sum is their number, itself included if it
@@ -71,7 +68,7 @@ extern "C" {
 /** The version of this header: 10000 times the first number of PICKLEDUNE_VERSION_TEXT, 100 times the second, and the third. */
 #define PICKLEDUNE_VERSION 10000
 
-/** The same in words. */
+/** The same as a text, with its three numbers. */
 #define PICKLEDUNE_VERSION_TEXT "1.0.0"
 
 /** The layout of run areas that this header knows. 1 was the layout before second sums (02, N3). */
