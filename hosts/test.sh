@@ -8,8 +8,8 @@
 # is in target/host-test); the last line then names those that failed, and the status is 1. From a fresh clone it takes some minutes, most of them
 # for proofs. What it makes stands in target/.
 #
-# Needed: rt (the Rattle kit), gcc and g++ with the run-time of their sanitizers, pkg-config, cargo (of the version that hosts/rust/Cargo.toml
-# names, or later). Optional: cargo's fmt and clippy, python3 for the tools in Python, clang-14 for a short fuzzing.
+# Needed: rt (the Rattle kit), gcc and g++ with the run-time of their sanitizers, pkg-config, cargo (as new as the packages of hosts/rust ask
+# for). Optional: cargo's fmt and clippy, python3 for the tools in Python, clang-14 for a short fuzzing.
 set -u
 cd "$(dirname "$0")/.." || exit 1
 
@@ -67,7 +67,8 @@ else
 fi
 there g++ || miss g++ "Debian: g++"
 there pkg-config || miss pkg-config "Debian: pkg-config"
-rust=$(sed -n 's/^rust-version = "\(.*\)"$/\1/p' hosts/rust/Cargo.toml)
+# The latest version that a package of the Rust side asks for.
+rust=$(cat hosts/rust/Cargo.toml hosts/rust/*/Cargo.toml | sed -n 's/^rust-version = "\(.*\)"$/\1/p' | sort -t . -k 1,1n -k 2,2n | tail -n 1)
 if there cargo; then
     as_new "$(cargo --version | cut -d ' ' -f 2)" "$rust" || miss "cargo $rust or later" "this is $(cargo --version); rustup has it, https://rustup.rs"
 else
