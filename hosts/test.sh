@@ -42,10 +42,10 @@ there() {
     command -v "$1" > /dev/null
 }
 
-# Whether a program with gcc's sanitizers can be linked and run.
-sanitizers() {
-    echo 'int main(void) { return 0; }' > "$work/empty.c"
-    gcc -fsanitize=address,undefined "$work/empty.c" -o "$work/empty" 2> /dev/null && "$work/empty" 2> /dev/null
+# Whether a program in C can be made with these flags, and run.
+makes() {
+    printf '#include <stdio.h>\nint main(void) { return puts("") < 0; }\n' > "$work/small.c"
+    gcc "$@" "$work/small.c" -o "$work/small" 2> /dev/null && "$work/small" > /dev/null 2>&1
 }
 
 # Whether clang-14 can link a program for libFuzzer.
@@ -60,10 +60,12 @@ as_new() {
 }
 
 there rt || miss rt "the Rattle kit, with its command rt on the path"
-if there gcc; then
-    sanitizers || miss "the run-time of gcc's sanitizers, address and undefined" "Debian: libgcc-$(gcc -dumpversion)-dev, which gcc brings along"
-else
+if ! there gcc; then
     miss gcc "Debian: gcc libc6-dev"
+elif ! makes; then
+    miss "the C library's headers and files to link" "Debian: libc6-dev"
+elif ! makes -fsanitize=address,undefined; then
+    miss "the run-time of gcc's sanitizers, address and undefined" "Debian: libgcc-$(gcc -dumpversion)-dev, which gcc brings along"
 fi
 there g++ || miss g++ "Debian: g++"
 there pkg-config || miss pkg-config "Debian: pkg-config"
