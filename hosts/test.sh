@@ -215,17 +215,21 @@ run "what install.sh refuses" not_installed
 
 # ---- tools
 
-# Each answers --help with status 0 and names itself.
+# helps PROGRAM NAME: it answers --help with status 0, and with a line that begins with its name.
 helps() {
+    if ! "$1" --help > "$work/help" || ! grep -q "^  $2" "$work/help"; then
+        echo "$2 does not answer --help"
+        return 1
+    fi
+}
+
+tools_help() {
     for tool in hosts/test.sh hosts/c/stack.sh hosts/fuzz/run.sh tools/*.sh ${python:+tools/*.py}; do
-        if ! "$tool" --help > "$work/help" || ! grep -q "^  $tool" "$work/help"; then
-            echo "$tool does not answer --help"
-            return 1
-        fi
+        helps "$tool" "$tool" || return 1
     done
 }
 
-run "every tool answers --help" helps
+run "every tool answers --help" tools_help
 
 # ---- Rust
 
@@ -233,6 +237,12 @@ rust() {
     command=$1
     shift
     cargo "$command" --offline --locked --manifest-path hosts/rust/Cargo.toml "$@"
+}
+
+programs_help() {
+    for program in compare bench plain_check; do
+        helps "$CARGO_TARGET_DIR/release/$program" "$program" || return 1
+    done
 }
 
 # The last line is 'no difference in N calls'.
@@ -249,6 +259,7 @@ standin() {
 }
 
 run "the Rust side is built" rust build --release
+run "every Rust program answers --help" programs_help
 run "the Rust tests" rust test --release
 for example in hosts/rust/pickledune/examples/*.rs; do
     [ -f "$example" ] || continue
