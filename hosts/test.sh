@@ -1,5 +1,6 @@
 #!/bin/sh
-# Builds what hosts use and runs all tests of hosts: the C example, the stack, the installed files, the Rust side, and the comparison.
+# Builds what hosts use and runs all tests of hosts: the program where reads and writes fail, the C example, the stack, the installed files, the
+# Rust side, and the comparison.
 #
 #   hosts/test.sh
 #
@@ -142,6 +143,28 @@ finish() {
 
 run "the check program is proved and built" rt check knot_check || finish
 run "the archive is proved and built" rt staticlib pickledune || finish
+
+# ---- the program
+
+# It prints nothing and says so on standard error if a read fails: here of a folder, and of a standard input that is closed.
+unread() {
+    target/bin/knot_check < crates > "$work/unread" 2> "$work/said" && target/bin/knot_check <&- >> "$work/unread" 2>> "$work/said" &&
+        [ ! -s "$work/unread" ] && [ "$(grep -c '^knot_check: reading standard input failed$' "$work/said")" -eq 2 ]
+}
+
+# It says so on standard error if a write fails: here to a device that is always full.
+unwritten() {
+    target/bin/knot_check < crates/knot_check/stdin > /dev/full 2> "$work/said" && grep '^knot_check: writing standard output failed$' "$work/said"
+}
+
+# An input that comes in pieces is read whole.
+pieces() {
+    { dd bs=3 count=4; sleep 0.2; dd bs=7; } < crates/knot_check/stdin 2> /dev/null | target/bin/knot_check | diff crates/knot_check/stdout -
+}
+
+run "the program says that a read failed, and prints no run" unread
+run "the program says that a write failed" unwritten
+run "the program reads an input that comes in pieces" pieces
 
 # ---- C
 
