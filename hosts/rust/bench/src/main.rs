@@ -194,17 +194,18 @@ fn main() -> ExitCode {
     let (growth, rest) = rows.split_at(4 * SIZES.len());
     let (on_others, rest) = rest.split_at(others.len());
     let (shuffled, rest) = rest.split_at(inputs.len());
-    let growth = growth.as_chunks::<4>().0;
+    let growth: Vec<[Row; 4]> =
+        growth.chunks_exact(4).filter_map(|rows| rows.try_into().ok()).collect();
     let on_largest = &shuffled[SIZES.len() - 1..SIZES.len()];
     print_rows(&[&growth[SIZES.len() - 1], on_largest, rest].concat());
-    print_growth(growth);
+    print_growth(&growth);
     let whole = growth.iter().map(|rows| rows[3]).chain(on_others.iter().copied());
     let whole = by_shape(&inputs, whole);
     print_shapes(&whole, |n| if n == 128 { 1.5 } else { 2.0 });
     print_deliveries(&whole);
     print_shapes(&by_shape(&inputs, shuffled.iter().copied()), |_| 2.0);
     if let Some(path) = std::env::args_os().nth(1) {
-        if let Err(error) = std::fs::write(&path, plot::draw(growth)) {
+        if let Err(error) = std::fs::write(&path, plot::draw(&growth)) {
             eprintln!("bench: {}: {error}", path.to_string_lossy());
             return ExitCode::FAILURE;
         }

@@ -1,5 +1,6 @@
 //! The words of a run area (docs/LAYOUT.md) and the test that any words are well formed.
 
+use crate::parts::Parts;
 use crate::steps::{is_small, Counts, Message, Record};
 use crate::tables::{check, Sizes, Table, Waits, Words};
 use crate::{Refusal, MOST_DELIVERIES};
@@ -16,6 +17,7 @@ pub(crate) const HEADING: usize = 14;
 
 /// Flags, cs, num, father, the second sum, a free word.
 pub(crate) type RecordWords = [i32; 6];
+pub(crate) type Records<S> = Parts<S, 6>;
 /// Four messages, oldest first, then four free words. Arc k has links 2(k − 1), from its from to
 /// its to, and 2(k − 1) + 1, which is the link back if there is no arc back.
 pub(crate) type Link = [i32; 8];
@@ -122,8 +124,9 @@ pub(crate) fn edition_in(heading: &[i32]) -> Option<Edition> {
 pub(crate) struct Area<'a> {
     pub(crate) heading: &'a [i32],
     pub(crate) table: Words<'a>,
-    pub(crate) records: &'a [RecordWords],
-    links: &'a [Link],
+    pub(crate) records: Records<&'a [i32]>,
+    /// The two links of each arc.
+    links: Parts<&'a [i32], 16>,
 }
 
 impl<'a> Area<'a> {
@@ -135,8 +138,8 @@ impl<'a> Area<'a> {
         Area {
             heading,
             table: Words::new(table, sizes.n),
-            records: records.as_chunks().0,
-            links: links.as_chunks().0,
+            records: Parts::of(records),
+            links: Parts::of(links),
         }
     }
 
@@ -152,7 +155,8 @@ impl<'a> Area<'a> {
         if !area.heading_right() {
             return None;
         }
-        let waits = check(&area.table).ok()?;
+        let mut waits = Waits::none();
+        check(&area.table, &mut waits).ok()?;
         (area.records_right(&waits) && area.links_right(&waits)).then_some((area, waits))
     }
 
@@ -166,7 +170,7 @@ impl<'a> Area<'a> {
 
     fn records_right(&self, waits: &Waits) -> bool {
         let n = self.records.len();
-        (1..).zip(self.records).all(|(process, &[flags, cs, num, father, second, free])| {
+        (1..).zip(self.records.iter()).all(|(process, &[flags, cs, num, father, second, free])| {
             let father = father as u32 as usize;
             (0..=7).contains(&flags)
                 && is_small(cs)
@@ -178,13 +182,13 @@ impl<'a> Area<'a> {
     }
 
     fn links_right(&self, waits: &Waits) -> bool {
-        let pairs = self.links.as_chunks::<2>().0;
-        pairs.iter().zip(self.table.arcs()).all(|(pair, arc)| {
+        self.links.iter().zip(self.table.arcs()).all(|(pair, arc)| {
             // Most links are empty at most moments.
-            if all_zero(pair.as_flattened()) {
+            if all_zero(pair) {
                 return true;
             }
-            let [first, second] = pair;
+            let links: Parts<&[i32], 8> = Parts::of(pair);
+            let (first, second) = (&links[0], &links[1]);
             // A loop is its own arc back.
             let second_used = !waits.waits(arc.to(), arc.from());
             link_right(first) && if second_used { link_right(second) } else { all_zero(second) }

@@ -8,6 +8,7 @@
 #![forbid(unsafe_code)]
 
 mod areas;
+mod parts;
 mod program;
 mod runs;
 mod shuffled;

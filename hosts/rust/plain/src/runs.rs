@@ -2,13 +2,15 @@
 
 use crate::areas::{
     code_of, edition_in, first_link, load, message_of, record_of, second_link, without,
-    words_needed, words_of, Area, Edition, Link, RecordWords, CHECK, DELIVERIES, EDITION, HEADING,
+    words_needed, words_of, Area, Edition, Records, CHECK, DELIVERIES, EDITION, HEADING,
     KNOT_CHECK, MOST_WAITING, START,
 };
+use crate::parts::Parts;
 use crate::shuffled::{Counted, State};
 use crate::steps::{advance, advance_start, own_count, Message, Probe, Record, Sent};
 use crate::tables::{accept, Arc, Chain, Sizes, Table, Waits, Words};
 use crate::{Refusal, MOST_DELIVERIES, MOST_PROCESSES};
+use std::ops::Deref;
 
 /// How a running on stopped.
 #[derive(Clone, Copy, Debug, PartialEq, Eq)]
@@ -169,8 +171,8 @@ impl<'a> Beginning<'a> {
 pub(crate) struct Run<'a> {
     heading: &'a mut [i32],
     table: Words<'a>,
-    records: &'a mut [RecordWords],
-    links: &'a mut [Link],
+    records: Records<&'a mut [i32]>,
+    links: Parts<&'a mut [i32], 8>,
     waits: Waits,
 }
 
@@ -183,8 +185,8 @@ impl<'a> Run<'a> {
         Run {
             heading,
             table: Words::new(table, sizes.n),
-            records: records.as_chunks_mut().0,
-            links: links.as_chunks_mut().0,
+            records: Parts::of(records),
+            links: Parts::of(links),
             waits,
         }
     }
@@ -202,8 +204,8 @@ impl<'a> Run<'a> {
         words[CHECK] = KNOT_CHECK;
         words[START] = start as i32;
         words[EDITION] = edition as i32;
-        for (word, &field) in words[HEADING..].iter_mut().zip(table.as_chunks().0) {
-            *word = i32::from(u16::from_le_bytes(field));
+        for (word, field) in words[HEADING..].iter_mut().zip(Parts::of(table).iter()) {
+            *word = i32::from(u16::from_le_bytes(*field));
         }
         let mut run = Run::new(words, sizes, waits);
         let mut num = run.broadcast(&mut Searched, start, Probe::Suc);
@@ -405,7 +407,7 @@ impl<'a> Run<'a> {
     }
 
     pub(crate) fn report(&self) -> Result<Report, Refusal> {
-        report_of(self.heading, self.records, &self.waits)
+        report_of(self.heading, &self.records, &self.waits)
     }
 }
 
@@ -417,7 +419,11 @@ fn chain_of(probe: Probe) -> Chain {
     }
 }
 
-fn report_of(heading: &[i32], records: &[RecordWords], waits: &Waits) -> Result<Report, Refusal> {
+fn report_of(
+    heading: &[i32],
+    records: &Records<impl Deref<Target = [i32]>>,
+    waits: &Waits,
+) -> Result<Report, Refusal> {
     let start = heading[START] as usize;
     let Record { cs, num, second, .. } = record_of(&records[start - 1]);
     if num != 0 {
@@ -473,12 +479,14 @@ pub fn run_shuffled(area: &mut [i32], k: u32, seed: u32) -> (Stopped, u32) {
 /// The report of a run that is over: 21, 26.
 pub fn report(area: &[i32]) -> Result<Report, Refusal> {
     let (area, waits) = Area::test(area)?;
-    report_of(area.heading, area.records, &waits)
+    report_of(area.heading, &area.records, &waits)
 }
 
 /// The record of one process: 21, 25.
 pub fn read_record(area: &[i32], process: usize) -> Result<Record, Refusal> {
     let (area, _) = Area::test(area)?;
-    let place = process.checked_sub(1).ok_or(Refusal::NoLink)?;
-    area.records.get(place).map(record_of).ok_or(Refusal::NoLink)
+    if !(1..=area.records.len()).contains(&process) {
+        return Err(Refusal::NoLink);
+    }
+    Ok(record_of(&area.records[process - 1]))
 }

@@ -1,5 +1,6 @@
 //! Wait tables: 01's layout, its checks 1 to 7, the writer and the walk along one chain.
 
+use crate::parts::Parts;
 use crate::{Refusal, MOST_ARCS, MOST_PROCESSES};
 
 /// N and M of a table.
@@ -74,27 +75,27 @@ pub(crate) trait Table {
 
 #[derive(Clone, Copy)]
 pub(crate) struct Bytes<'a> {
-    processes: &'a [[u8; 4]],
-    arcs: &'a [[u8; 8]],
+    processes: Parts<&'a [u8], 4>,
+    arcs: Parts<&'a [u8], 8>,
 }
 
 #[derive(Clone, Copy)]
 pub(crate) struct Words<'a> {
-    processes: &'a [[i32; 2]],
-    arcs: &'a [[i32; 4]],
+    processes: Parts<&'a [i32], 2>,
+    arcs: Parts<&'a [i32], 4>,
 }
 
 impl<'a> Bytes<'a> {
     pub(crate) fn new(table: &'a [u8], n: usize) -> Bytes<'a> {
         let (processes, arcs) = table[4..].split_at(4 * n);
-        Bytes { processes: processes.as_chunks().0, arcs: arcs.as_chunks().0 }
+        Bytes { processes: Parts::of(processes), arcs: Parts::of(arcs) }
     }
 }
 
 impl<'a> Words<'a> {
     pub(crate) fn new(table: &'a [i32], n: usize) -> Words<'a> {
         let (processes, arcs) = table[2..].split_at(2 * n);
-        Words { processes: processes.as_chunks().0, arcs: arcs.as_chunks().0 }
+        Words { processes: Parts::of(processes), arcs: Parts::of(arcs) }
     }
 }
 
@@ -152,7 +153,7 @@ impl Table for Words<'_> {
 pub(crate) struct Waits([u128; MOST_PROCESSES]);
 
 impl Waits {
-    fn none() -> Waits {
+    pub(crate) fn none() -> Waits {
         Waits([0; MOST_PROCESSES])
     }
 
@@ -182,8 +183,8 @@ impl Waits {
     }
 }
 
-/// Checks 4 to 7 in order.
-pub(crate) fn check(table: &impl Table) -> Result<Waits, Refusal> {
+/// Checks 4 to 7 in order, and notes the waits, of which there are none before.
+pub(crate) fn check(table: &impl Table, waits: &mut Waits) -> Result<(), Refusal> {
     let sizes = table.sizes();
     let (n, m) = (sizes.n as u32, sizes.m as u32);
     let mut ends_right = true;
@@ -203,13 +204,12 @@ pub(crate) fn check(table: &impl Table) -> Result<Waits, Refusal> {
     }
     check_chains(table, Chain::Out)?;
     check_chains(table, Chain::In)?;
-    let mut waits = Waits::none();
     let mut all_new = true;
     for arc in table.arcs() {
         all_new &= waits.add(arc.from(), arc.to());
     }
     if all_new {
-        Ok(waits)
+        Ok(())
     } else {
         Err(Refusal::Alike)
     }
@@ -222,11 +222,14 @@ fn check_chains(table: &impl Table, chain: Chain) -> Result<(), Refusal> {
     let Sizes { n, m } = table.sizes();
     let mut met = 0;
     for process in 1..=n {
-        for (_, arc) in table.chain(chain, process) {
+        let mut place = table.first(chain, process);
+        while place != 0 {
+            let arc = table.arc(place);
             if met == m || arc.ends[chain as usize] as usize != process {
                 return Err(Refusal::Chains);
             }
             met += 1;
+            place = arc.nexts[chain as usize] as usize;
         }
     }
     if met == m {
@@ -249,7 +252,8 @@ pub(crate) fn accept(table: &[u8]) -> Result<(Bytes<'_>, Waits), Refusal> {
         return Err(Refusal::Length);
     }
     let bytes = Bytes::new(table, sizes.n);
-    let waits = check(&bytes)?;
+    let mut waits = Waits::none();
+    check(&bytes, &mut waits)?;
     Ok((bytes, waits))
 }
 
@@ -261,10 +265,10 @@ pub fn read_table(table: &[u8]) -> Result<Sizes, Refusal> {
 /// Writes the table of N processes and a list of from, to pairs to the front of `out`, and
 /// gives its length in bytes.
 pub fn write_table(n: usize, list: &[u16], out: &mut [u8]) -> Result<usize, Refusal> {
-    let (pairs, rest) = list.as_chunks::<2>();
-    if !rest.is_empty() {
+    if list.len() % 2 != 0 {
         return Err(Refusal::OddList);
     }
+    let pairs: Parts<_, 2> = Parts::of(list);
     let sizes = Sizes::in_range(n, pairs.len()).ok_or(Refusal::Sizes)?;
     if !list.iter().all(|&end| (1..=n).contains(&usize::from(end))) {
         return Err(Refusal::Ends);
