@@ -155,8 +155,7 @@ impl<'a> Area<'a> {
         if !area.heading_right() {
             return None;
         }
-        let mut waits = Waits::none();
-        check(&area.table, &mut waits).ok()?;
+        let waits = check(&area.table).ok()?;
         (area.records_right(&waits) && area.links_right(&waits)).then_some((area, waits))
     }
 

@@ -6,6 +6,7 @@
 //! untouched. Each runs in time linear in what it is lent, on fixed arrays.
 
 #![forbid(unsafe_code)]
+#![deny(missing_docs)]
 
 mod areas;
 mod parts;

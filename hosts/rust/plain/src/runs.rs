@@ -15,16 +15,22 @@ use std::ops::Deref;
 /// How a running on stopped.
 #[derive(Clone, Copy, Debug, PartialEq, Eq)]
 pub enum Stopped {
+    /// The run is over.
     Over,
+    /// All deliveries that were asked for are made, and the run is not over.
     Spent,
+    /// Refused: 21 or 37 before the first delivery, 24 or 22 at one.
     Refused(Refusal),
 }
 
+/// What is said of a run that is over.
 #[derive(Clone, Copy, Debug, PartialEq, Eq)]
 pub struct Report {
+    /// How many deliveries the run took.
     pub deliveries: u32,
     /// The verdict: a knot, or none. "Verdicts are judged by the edition named at start" (02, N4).
     pub knot: bool,
+    /// How many processes reachable from the start do not reach it: its cs.
     pub outside: i32,
     /// 02, N1: "escape is the lowest-numbered process with subordinate 1, and 0 only where there is
     /// none".
@@ -34,11 +40,14 @@ pub struct Report {
     pub returned: bool,
 }
 
-/// One delivery: who sent what to whom.
+/// One delivery.
 #[derive(Clone, Copy, Debug, PartialEq, Eq)]
 pub struct Delivered {
+    /// Who sent it.
     pub from: usize,
+    /// To whom.
     pub to: usize,
+    /// What was sent.
     pub message: Message,
 }
 
@@ -268,7 +277,8 @@ impl<'a> Run<'a> {
         if self.heading[DELIVERIES] == MOST_DELIVERIES {
             return Err(Refusal::Range);
         }
-        let message = message_of(self.links[link][place - 1]);
+        let before = self.links[link];
+        let message = message_of(before[place - 1]);
         let mut record = record_of(&self.records[to - 1]);
         let sent = if to == self.start() {
             let reply = advance_start(&mut record, message, from as u32)?;
@@ -279,7 +289,6 @@ impl<'a> Run<'a> {
         };
         let reply_link =
             sent.reply.map(|reply| links.find(&self.table, &self.waits, to, reply.to as usize));
-        let before = self.links[link];
         self.links[link] = without(&before, place);
         if !self.has_room(links, to, sent.probes, reply_link) {
             self.links[link] = before;

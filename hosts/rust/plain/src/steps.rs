@@ -5,7 +5,9 @@ use crate::{Refusal, MOST_PROCESSES};
 /// A probe's kind.
 #[derive(Clone, Copy, Debug, PartialEq, Eq)]
 pub enum Probe {
+    /// From a process to one that it waits for.
     Suc,
+    /// From a process to one that waits for it.
     Pre,
 }
 
@@ -13,25 +15,37 @@ pub enum Probe {
 /// that wait for nobody" (02, N3).
 #[derive(Clone, Copy, Debug, Default, PartialEq, Eq)]
 pub struct Counts {
+    /// The count.
     pub count: i32,
+    /// The second count.
     pub second: i32,
 }
 
+/// What waits on a link.
 #[derive(Clone, Copy, Debug, PartialEq, Eq)]
 pub enum Message {
+    /// A suc probe.
     Suc,
+    /// A pre probe.
     Pre,
+    /// An acknowledgement.
     Ack(Counts),
 }
 
 /// The values of one process. A host may lend any numbers; 21 says which are out of range.
 #[derive(Clone, Copy, Debug, Default, PartialEq, Eq)]
 pub struct Record {
+    /// 1 once a suc probe has come, else 0.
     pub succeeding: u32,
+    /// 1 once a pre probe has come, else 0.
     pub preceding: u32,
+    /// 1 if succeeding was 1 and preceding 0 when the last probe had come, else 0.
     pub subordinate: u32,
+    /// The sum of the counts that it has not passed on.
     pub cs: i32,
+    /// How many acknowledgements it waits for.
     pub num: u32,
+    /// The sender of the last probe that came while num was 0; 0 if none came.
     pub father: u32,
     /// The second sum (02, N3).
     pub second: i32,
@@ -40,14 +54,18 @@ pub struct Record {
 /// An acknowledgement to send.
 #[derive(Clone, Copy, Debug, PartialEq, Eq)]
 pub struct Reply {
+    /// To whom.
     pub to: u32,
+    /// What it carries.
     pub counts: Counts,
 }
 
-/// What a step sends: the probes to broadcast and the one acknowledgement.
+/// What a step sends.
 #[derive(Clone, Copy, Debug, Default, PartialEq, Eq)]
 pub struct Sent {
+    /// The probes to broadcast, if any: suc to all successors, or pre to all predecessors.
     pub probes: Option<Probe>,
+    /// The one acknowledgement, if there is one.
     pub reply: Option<Reply>,
 }
 

@@ -6,14 +6,18 @@ use crate::{Refusal, MOST_ARCS, MOST_PROCESSES};
 /// N and M of a table.
 #[derive(Clone, Copy, Debug, PartialEq, Eq)]
 pub struct Sizes {
+    /// How many processes.
     pub n: usize,
+    /// How many arcs.
     pub m: usize,
 }
 
 /// Which of its two chains of a process.
 #[derive(Clone, Copy, Debug, PartialEq, Eq)]
 pub enum Chain {
+    /// The arcs that leave it.
     Out = 0,
+    /// The arcs that come to it.
     In = 1,
 }
 
@@ -153,7 +157,7 @@ impl Table for Words<'_> {
 pub(crate) struct Waits([u128; MOST_PROCESSES]);
 
 impl Waits {
-    pub(crate) fn none() -> Waits {
+    fn none() -> Waits {
         Waits([0; MOST_PROCESSES])
     }
 
@@ -183,8 +187,8 @@ impl Waits {
     }
 }
 
-/// Checks 4 to 7 in order, and notes the waits, of which there are none before.
-pub(crate) fn check(table: &impl Table, waits: &mut Waits) -> Result<(), Refusal> {
+/// Checks 4 to 7 in order.
+pub(crate) fn check(table: &impl Table) -> Result<Waits, Refusal> {
     let sizes = table.sizes();
     let (n, m) = (sizes.n as u32, sizes.m as u32);
     let mut ends_right = true;
@@ -204,12 +208,13 @@ pub(crate) fn check(table: &impl Table, waits: &mut Waits) -> Result<(), Refusal
     }
     check_chains(table, Chain::Out)?;
     check_chains(table, Chain::In)?;
+    let mut waits = Waits::none();
     let mut all_new = true;
     for arc in table.arcs() {
         all_new &= waits.add(arc.from(), arc.to());
     }
     if all_new {
-        Ok(())
+        Ok(waits)
     } else {
         Err(Refusal::Alike)
     }
@@ -252,9 +257,7 @@ pub(crate) fn accept(table: &[u8]) -> Result<(Bytes<'_>, Waits), Refusal> {
         return Err(Refusal::Length);
     }
     let bytes = Bytes::new(table, sizes.n);
-    let mut waits = Waits::none();
-    check(&bytes, &mut waits)?;
-    Ok((bytes, waits))
+    check(&bytes).map(|waits| (bytes, waits))
 }
 
 /// Reads a table: its N and M.
