@@ -1,12 +1,7 @@
-//! Times the proved library against the plain Rust in one run, on the same input.
-//!
-//!     bench [PLOT.svg]
-//!
-//! Every time is the median of repetitions in which the two take turns. All calls are timed on the
-//! waits in which each process waits for the next four, and a whole check by one running on, and by
-//! one that is shuffled, also on waits of other shapes, with the bounds that it is to keep. With
-//! KNOT_CHECK set to the built check program, that program is timed from process start to exit
-//! against `plain_check`, which stands beside this one (or at PLAIN_CHECK).
+//! Times the proved library against the plain Rust in one run, on the same input. Every time is the
+//! median of repetitions in which the two take turns. All calls are timed on the waits in which each
+//! process waits for the next four, and a whole check by one running on, and by one that is shuffled,
+//! also on waits of other shapes, with the bounds that it is to keep. `HELP` says how it is called.
 
 mod plot;
 mod programs;
@@ -17,10 +12,40 @@ mod timing;
 use calls::{Answer, Calls, Plain, Proved, STANDIN};
 use rows::{print_deliveries, print_growth, print_rows, print_shapes, Row, Shaped, Size};
 use shapes::{Shape, SHAPES};
+use std::ffi::OsString;
 use std::hint::black_box;
 use std::process::ExitCode;
 use std::time::Instant;
 use timing::{time_all, Timed};
+
+const HELP: &str = "\
+Times the proved library against the plain Rust on the same input.
+
+  bench [PLOT.svg]
+
+Prints tables in markdown, and writes the plot of growth to the file named, if one is. With
+KNOT_CHECK set to the built check program, that program is timed too, from process start to exit,
+against plain_check, which stands beside this program or where PLAIN_CHECK says.
+";
+
+/// What the arguments ask for.
+#[derive(Debug, PartialEq)]
+enum Asked<'a> {
+    Help,
+    Times { plot: Option<&'a OsString> },
+}
+
+fn asked(words: &[OsString]) -> Result<Asked<'_>, String> {
+    match words {
+        [] => Ok(Asked::Times { plot: None }),
+        [word] if word == "-h" || word == "--help" => Ok(Asked::Help),
+        [word] if !word.to_string_lossy().starts_with('-') => Ok(Asked::Times { plot: Some(word) }),
+        [word] | [_, word, ..] => {
+            let word = word.to_string_lossy();
+            Err(format!("unknown argument {word}; bench --help says which there are"))
+        }
+    }
+}
 
 /// N and M doubled three times, up to the largest table.
 const SIZES: [usize; 4] = [16, 32, 64, 128];
@@ -170,6 +195,21 @@ fn by_shape(inputs: &[Input], rows: impl Iterator<Item = Row>) -> Vec<Shaped> {
 }
 
 fn main() -> ExitCode {
+    let words: Vec<OsString> = std::env::args_os().skip(1).collect();
+    match asked(&words) {
+        Ok(Asked::Times { plot }) => bench(plot),
+        Ok(Asked::Help) => {
+            print!("{HELP}");
+            ExitCode::SUCCESS
+        }
+        Err(message) => {
+            eprintln!("bench: {message}");
+            ExitCode::from(2)
+        }
+    }
+}
+
+fn bench(plot: Option<&OsString>) -> ExitCode {
     if STANDIN {
         println!("STAND-IN: the plain Rust is timed against itself, not the proved library\n");
     }
@@ -204,11 +244,21 @@ fn main() -> ExitCode {
     print_shapes(&whole, |n| if n == 128 { 1.5 } else { 2.0 });
     print_deliveries(&whole);
     print_shapes(&by_shape(&inputs, shuffled.iter().copied()), |_| 2.0);
-    if let Some(path) = std::env::args_os().nth(1) {
-        if let Err(error) = std::fs::write(&path, plot::draw(&growth)) {
+    if let Some(path) = plot {
+        if let Err(error) = std::fs::write(path, plot::draw(&growth)) {
             eprintln!("bench: {}: {error}", path.to_string_lossy());
             return ExitCode::FAILURE;
         }
     }
     ExitCode::SUCCESS
+}
+
+#[test]
+fn arguments_are_known_or_named() {
+    let words: Vec<OsString> = ["a.svg", "b.svg", "--help", "--plot"].map(OsString::from).into();
+    assert_eq!(asked(&[]), Ok(Asked::Times { plot: None }));
+    assert_eq!(asked(&words[..1]), Ok(Asked::Times { plot: Some(&words[0]) }));
+    assert_eq!(asked(&words[2..3]), Ok(Asked::Help));
+    assert!(asked(&words[..2]).unwrap_err().contains("unknown argument b.svg"));
+    assert!(asked(&words[3..]).unwrap_err().contains("unknown argument --plot"));
 }

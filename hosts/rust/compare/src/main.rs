@@ -1,10 +1,5 @@
-//! Compares the proved library with the plain Rust, call by call, on more than a million calls
-//! drawn from a seeded generator.
-//!
-//!     compare [--seed NUMBER] [--family NAME] [--program PATH]
-//!
-//! The last line is `no difference in N calls`; a first difference ends the comparison with
-//! status 1 and is printed with all that is needed to make its call again.
+//! Compares the proved library with the plain Rust, call by call, on more than two million calls
+//! drawn from a seeded generator. `HELP` says how it is called.
 
 mod driver;
 mod families;
@@ -27,32 +22,63 @@ use std::path::PathBuf;
 use std::process::ExitCode;
 use std::time::Instant;
 
+const HELP: &str = "\
+Compares the proved library with the plain Rust, call by call.
+
+  compare [--seed NUMBER] [--family NAME] [--program PATH]
+
+  --seed NUMBER    draws the calls from another seed than 1982
+  --family NAME    makes the calls of one family only
+  --program PATH   compares the built check program, knot_check, too
+
+The last line is 'no difference in N calls', and the status 0. A first difference ends the
+comparison with status 1 and is printed with all that is needed to make its call again. An
+argument that is wrong is named with status 2. The families are:
+";
+
 struct Options {
     seed: u64,
     family: Option<String>,
     program: Option<PathBuf>,
 }
 
-fn options() -> Result<Options, String> {
+/// The options, or `None` if help is asked for.
+fn options(mut words: impl Iterator<Item = String>) -> Result<Option<Options>, String> {
     let mut options = Options { seed: 1982, family: None, program: None };
-    let mut words = std::env::args().skip(1);
     while let Some(word) = words.next() {
-        let value = words.next().ok_or_else(|| format!("{word} wants a value"))?;
+        let mut value = || words.next().ok_or_else(|| format!("{word} wants a value"));
         match word.as_str() {
-            "--seed" => options.seed = value.parse().map_err(|_| format!("no seed: {value}"))?,
-            "--family" => options.family = Some(known_family(value)?),
-            "--program" => options.program = Some(value.into()),
-            _ => return Err(format!("unknown option {word}")),
+            "-h" | "--help" => return Ok(None),
+            "--seed" => options.seed = seed(&value()?)?,
+            "--family" => options.family = Some(known_family(value()?)?),
+            "--program" => options.program = Some(value()?.into()),
+            _ => {
+                return Err(format!("unknown argument {word}; compare --help says which there are"))
+            }
         }
     }
-    Ok(options)
+    Ok(Some(options))
+}
+
+fn seed(value: &str) -> Result<u64, String> {
+    value.parse().map_err(|_| format!("no seed: {value}"))
+}
+
+fn family_names() -> Vec<&'static str> {
+    families::families::<Proved>().into_iter().map(|(name, ..)| name).collect()
 }
 
 fn known_family(name: String) -> Result<String, String> {
-    let names = families::families::<Proved>().map(|(name, ..)| name);
-    match names.contains(&name.as_str()) {
+    match family_names().contains(&name.as_str()) {
         true => Ok(name),
-        false => Err(format!("no family {name}; there are: {}", names.join("; "))),
+        false => Err(format!("no family {name}; there are: {}", family_names().join("; "))),
+    }
+}
+
+fn print_help() {
+    print!("{HELP}");
+    for name in family_names() {
+        println!("  {name}");
     }
 }
 
@@ -89,8 +115,12 @@ fn print_answers<L: Calls>(driver: &Driver<L>) {
 }
 
 fn main() -> ExitCode {
-    let options = match options() {
-        Ok(options) => options,
+    let options = match options(std::env::args().skip(1)) {
+        Ok(Some(options)) => options,
+        Ok(None) => {
+            print_help();
+            return ExitCode::SUCCESS;
+        }
         Err(message) => {
             eprintln!("compare: {message}");
             return ExitCode::from(2);
@@ -117,4 +147,17 @@ fn main() -> ExitCode {
     print_answers(&driver);
     println!("no difference in {} calls", driver.calls());
     ExitCode::SUCCESS
+}
+
+#[test]
+fn arguments_are_known_or_named() {
+    let given = |words: &str| options(words.split_whitespace().map(String::from));
+    let refused = |words: &str| given(words).err().expect("it is refused");
+    assert!(given("--seed 7 --help").unwrap().is_none());
+    let options = given("--program a/b --seed 7").unwrap().unwrap();
+    assert_eq!((options.seed, options.program), (7, Some("a/b".into())));
+    assert!(refused("--sed 7").contains("unknown argument --sed"));
+    assert!(refused("--seed").contains("--seed wants a value"));
+    assert!(refused("--seed x").contains("no seed: x"));
+    assert!(refused("--family x").contains("no family x; there are: valid tables"));
 }
