@@ -1,5 +1,5 @@
-//! Links the archive `libpickledune.a`, which `rt staticlib pickledune` writes, from the directory that `PICKLEDUNE_LIB_DIR` names, or
-//! else from `target/staticlib` at the root of the repository.
+//! Links the archive `libpickledune.a`, which `rt staticlib pickledune` writes, from the directory
+//! that `PICKLEDUNE_LIB_DIR` names, or else from `target/staticlib` at the root of the repository.
 use std::env;
 use std::path::PathBuf;
 
@@ -9,11 +9,13 @@ fn main() {
         Some(named) => PathBuf::from(named),
         None => package.join("../../../target/staticlib"),
     };
+    let archive = directory.join("libpickledune.a");
+    if !archive.exists() {
+        let missing = archive.display();
+        println!("cargo:warning={missing} is missing: rt staticlib pickledune writes it");
+    }
     println!("cargo:rerun-if-env-changed=PICKLEDUNE_LIB_DIR");
-    println!(
-        "cargo:rerun-if-changed={}",
-        directory.join("libpickledune.a").display()
-    );
+    println!("cargo:rerun-if-changed={}", archive.display());
     println!("cargo:rustc-link-search=native={}", directory.display());
     println!("cargo:rustc-link-lib=static=pickledune");
 }

@@ -1,4 +1,5 @@
-//! The C interface of the proved library, as the package `pickledune` declares it, and the trait over it.
+//! The C interface of the proved library, as the package `pickledune` declares it, and the trait over
+//! it.
 //!
 //! Every value that a call gives is written to a `Slot`, which holds neither 0 nor any likely
 //! value before the call and has guard bytes behind the value. So a value that a call forgets
@@ -7,6 +8,8 @@
 
 use crate::{Answer, Calls, LentRecord, Received};
 
+// The versions are for hosts.
+#[allow(dead_code)]
 #[path = "../../pickledune/src/declared.rs"]
 mod declared;
 use declared::*;

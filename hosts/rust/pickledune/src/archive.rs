@@ -1,5 +1,6 @@
-//! The calls of the archive, and all that is unsafe here: each slice goes as a pointer and a number of elements, and each `&mut` as a
-//! pointer. References give what the archive asks: valid, aligned, distinct pointers, used only during the call.
+//! The calls of the archive, and all that is unsafe here: each slice goes as a pointer and a number of
+//! elements, and each `&mut` as a pointer. References give what the archive asks: valid, aligned,
+//! distinct pointers, used only during the call.
 use crate::declared::*;
 use crate::{Process, Reply};
 
@@ -9,8 +10,17 @@ pub const SUC: u32 = 1;
 pub const PRE: u32 = 2;
 pub const ACK: u32 = 3;
 
-// SAFETY, for each call below: the pointers come from references and slices that live through the call, and the borrow checker keeps
-// every `&mut` among them apart from the others. The archive asks nothing of the values behind them.
+// SAFETY, for each call below: the pointers come from references and slices that live through the
+// call, and the borrow checker keeps every `&mut` among them apart from the others. The archive asks
+// nothing of the values behind them.
+
+pub fn version() -> u32 {
+    unsafe { pickledune_version() }
+}
+
+pub fn layout() -> u32 {
+    unsafe { pickledune_layout() }
+}
 
 pub fn read_table(table: &[u8], n: &mut usize, m: &mut usize) -> u32 {
     unsafe { pickledune_read_table(table.as_ptr(), table.len(), n, m) }
@@ -18,14 +28,7 @@ pub fn read_table(table: &[u8], n: &mut usize, m: &mut usize) -> u32 {
 
 pub fn write_table(n: usize, list: &[u16], out: &mut [u8], length: &mut usize) -> u32 {
     unsafe {
-        pickledune_write_table(
-            n,
-            list.as_ptr(),
-            list.len(),
-            out.as_mut_ptr(),
-            out.len(),
-            length,
-        )
+        pickledune_write_table(n, list.as_ptr(), list.len(), out.as_mut_ptr(), out.len(), length)
     }
 }
 
@@ -39,14 +42,7 @@ pub fn next(table: &[u8], chain: u32, arc: usize) -> usize {
 
 pub fn start(table: &[u8], start: usize, edition: usize, area: &mut [i32]) -> u32 {
     unsafe {
-        pickledune_start(
-            table.as_ptr(),
-            table.len(),
-            start,
-            edition,
-            area.as_mut_ptr(),
-            area.len(),
-        )
+        pickledune_start(table.as_ptr(), table.len(), start, edition, area.as_mut_ptr(), area.len())
     }
 }
 
@@ -59,18 +55,7 @@ pub fn pick(
     count: &mut i32,
     second: &mut i32,
 ) -> u32 {
-    unsafe {
-        pickledune_pick(
-            area.as_mut_ptr(),
-            area.len(),
-            from,
-            to,
-            place,
-            kind,
-            count,
-            second,
-        )
-    }
+    unsafe { pickledune_pick(area.as_mut_ptr(), area.len(), from, to, place, kind, count, second) }
 }
 
 pub fn run_on(area: &mut [i32], k: u32, over: &mut u32, made: &mut u32) -> u32 {
@@ -90,28 +75,12 @@ pub fn report(
     returned: &mut u32,
 ) -> u32 {
     unsafe {
-        pickledune_report(
-            area.as_ptr(),
-            area.len(),
-            deliveries,
-            knot,
-            outside,
-            escape,
-            returned,
-        )
+        pickledune_report(area.as_ptr(), area.len(), deliveries, knot, outside, escape, returned)
     }
 }
 
 pub fn read_record(area: &[i32], process: usize, record: &mut Process) -> u32 {
-    let Process {
-        succeeding,
-        preceding,
-        subordinate,
-        cs,
-        num,
-        father,
-        second,
-    } = record;
+    let Process { succeeding, preceding, subordinate, cs, num, father, second } = record;
     unsafe {
         pickledune_read_record(
             area.as_ptr(),
@@ -140,15 +109,7 @@ pub fn step(
     probes: &mut u32,
     reply: &mut Reply,
 ) -> u32 {
-    let Process {
-        succeeding,
-        preceding,
-        subordinate,
-        cs,
-        num,
-        father,
-        second,
-    } = record;
+    let Process { succeeding, preceding, subordinate, cs, num, father, second } = record;
     unsafe {
         pickledune_step(
             succeeding,

@@ -1,5 +1,8 @@
-//! The C interface of the archive as `include/pickledune.h` declares it, once for all that stands beside this package too.
+//! The C interface of the archive as `include/pickledune.h` declares it, once for all that stands
+//! beside this package too.
 extern "C" {
+    pub fn pickledune_version() -> u32;
+    pub fn pickledune_layout() -> u32;
     pub fn pickledune_read_table(
         table: *const u8,
         table_bytes: usize,

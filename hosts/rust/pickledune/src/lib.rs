@@ -1,11 +1,14 @@
 //! The knot check: whether a process, such as a payment, is stuck in a knot of waits.
 //!
-//! A thin safe wrapper over the archive `libpickledune.a`, whose calls are proved to meet their contracts on any input. `include/pickledune.h`
-//! says what each of them does; here each takes slices and gives an enum or a struct. No call keeps what it is lent, allocates, or has
-//! state of its own. A refusal gives its number and leaves what was lent as it was; running on keeps the deliveries made before it.
+//! A thin safe wrapper over the archive `libpickledune.a`, whose calls are proved to meet their
+//! contracts on any input. `include/pickledune.h` says what each of them does; here each takes slices
+//! and gives an enum or a struct. No call keeps what it is lent, allocates, or has state of its own.
+//! A refusal leaves what was lent as it was; running on keeps the deliveries made before it. The
+//! numbers in a call's comment are those of its [`Refusal`]s, in the order in which they are met.
 //!
-//! Beside the sum cs each process has a second sum, and beside its count each acknowledgement a second count, of processes reachable from
-//! the start that wait for nobody (02, N3). At the end the start's second sum is their number, and the mark goes by it.
+//! Beside the sum cs each process has a second sum, and beside its count each acknowledgement a second
+//! count, of processes reachable from the start that wait for nobody (02, N3). At the end the start's
+//! second sum is their number, and the mark goes by it.
 //!
 //! ```
 //! use pickledune::{Mark, Ran, Verdict};
@@ -19,11 +22,17 @@
 //! assert_eq!((report.verdict, report.mark), (Verdict::Free, Mark::Held)); // 2 waits for nobody
 //! # Ok::<(), pickledune::Refusal>(())
 //! ```
-use std::error::Error;
-use std::fmt;
+//!
+//! Calls on different areas may run at the same time, in any threads: `examples/side_by_side.rs`.
+#![deny(missing_docs)]
 
 mod archive;
 mod declared;
+mod refusals;
+mod versions;
+
+pub use refusals::Refusal;
+pub use versions::{layout, layout_of, version, LAYOUT, LAYOUT_WORD, VERSION, VERSION_TEXT};
 
 /// Processes are numbered 1 to at most this.
 pub const MAX_PROCESSES: usize = 128;
@@ -40,59 +49,71 @@ pub const fn area_words(n: usize, m: usize) -> usize {
     8 * n + 20 * m + 16
 }
 
-/// The number of a refusal; `include/pickledune.h` has the two tables of them.
-#[derive(Clone, Copy, Debug, PartialEq, Eq, Hash)]
-pub struct Refusal(pub u32);
-
-impl fmt::Display for Refusal {
-    fn fmt(&self, f: &mut fmt::Formatter<'_>) -> fmt::Result {
-        write!(f, "refused {}", self.0)
-    }
-}
-
-impl Error for Refusal {}
-
-/// The two chains of a process: the arcs that leave it, and the arcs that come to it.
+/// The two chains of a process.
 #[derive(Clone, Copy, Debug, PartialEq, Eq, Hash)]
 pub enum Chain {
+    /// The arcs that leave it.
     Out,
+    /// The arcs that come to it.
     In,
 }
 
-/// The processes and arcs of a table.
+/// The sizes of a table.
 #[derive(Clone, Copy, Debug, PartialEq, Eq, Hash)]
 pub struct Sizes {
+    /// N, how many processes.
     pub processes: usize,
+    /// M, how many arcs.
     pub arcs: usize,
 }
 
-/// A suc probe, a pre probe, or an acknowledgement with its count and its second count (−128 to 128 each).
+/// What waits on a link.
 #[derive(Clone, Copy, Debug, PartialEq, Eq, Hash)]
 pub enum Message {
+    /// A suc probe.
     Suc,
+    /// A pre probe.
     Pre,
-    Ack { count: i32, second: i32 },
+    /// An acknowledgement.
+    Ack {
+        /// Its count, −128 to 128.
+        count: i32,
+        /// Its second count, −128 to 128.
+        second: i32,
+    },
 }
 
-/// The answer of running on, also shuffled: over or spent with the number of deliveries made, or a refusal with the deliveries made before it.
+/// The answer of running on, also shuffled.
 #[derive(Clone, Copy, Debug, PartialEq, Eq, Hash)]
 pub enum Ran {
+    /// The run is over, after so many deliveries by this call.
     Over(u32),
+    /// The call made all its deliveries, so many, and the run is not over.
     Spent(u32),
-    Refused { refusal: Refusal, made: u32 },
+    /// A refusal.
+    Refused {
+        /// Which one.
+        refusal: Refusal,
+        /// The deliveries made before it, which the area keeps.
+        made: u32,
+    },
 }
 
-/// Whether the start is in a knot by the run's edition; 01 calls `Free` "none".
+/// Whether the start is in a knot, by the run's edition.
 #[derive(Clone, Copy, Debug, PartialEq, Eq, Hash)]
 pub enum Verdict {
+    /// It is in a knot.
     Knot,
+    /// It is in none; 01 calls this "none".
     Free,
 }
 
-/// `Returned` exactly if every process reachable from the start, itself included, waits for somebody (02, N3), whatever the verdict.
+/// What becomes of the start's payment, whatever the verdict (02, N3).
 #[derive(Clone, Copy, Debug, PartialEq, Eq, Hash)]
 pub enum Mark {
+    /// Every process reachable from the start, itself included, waits for somebody.
     Returned,
+    /// One of them waits for nobody.
     Held,
 }
 
@@ -101,105 +122,116 @@ pub enum Mark {
 pub struct Report {
     /// The deliveries that the run took.
     pub deliveries: u32,
+    /// Whether the start is in a knot.
     pub verdict: Verdict,
-    /// How many processes that the start waits for, at any remove, do not wait for it (0 also if it waits for nobody).
+    /// How many processes that the start waits for, at any remove, do not wait for it (0 also if it
+    /// waits for nobody).
     pub outside: i32,
-    /// The lowest-numbered of those (the lowest-numbered process with subordinate 1), if there is any (02, N1).
+    /// The lowest-numbered of those (the lowest-numbered process with subordinate 1), if there is any
+    /// (02, N1).
     pub escape: Option<u32>,
+    /// Whether the payment is returned or held.
     pub mark: Mark,
 }
 
-/// One process's record: three flags (0 or 1), cs (−128 to 128), num (0 to 256), father (0 or a process), and the second sum (−128 to
-/// 128).
+/// One process's record.
 #[derive(Clone, Copy, Debug, Default, PartialEq, Eq, Hash)]
 pub struct Process {
+    /// 1 once a suc probe has come, and in the start's record: the start waits for this process, at
+    /// any remove; else 0.
     pub succeeding: u32,
+    /// 1 once a pre probe has come, and in the start's record: this process waits for the start, at
+    /// any remove; else 0.
     pub preceding: u32,
+    /// 1 if succeeding was 1 and preceding 0 when the last probe had come; else 0, and in the start's
+    /// record.
     pub subordinate: u32,
+    /// The sum of the counts that it has not passed on, −128 to 128.
     pub cs: i32,
+    /// How many acknowledgements it waits for, 0 to 256.
     pub num: u32,
+    /// The sender of the last probe that came while num was 0, which is acknowledged when num is 0
+    /// again; 0 if none came.
     pub father: u32,
+    /// The sum of the second counts that it has not passed on, −128 to 128 (02, N3).
     pub second: i32,
 }
 
-/// The probes that a step broadcasts: none, suc to all successors, or pre to all predecessors.
+/// The probes that a step broadcasts.
 #[derive(Clone, Copy, Debug, PartialEq, Eq, Hash)]
 pub enum Probes {
+    /// None.
     Nothing,
+    /// A suc probe to each successor.
     Sucs,
+    /// A pre probe to each predecessor.
     Pres,
 }
 
-/// An acknowledgement to send, with its count and its second count.
+/// An acknowledgement to send.
 #[derive(Clone, Copy, Debug, PartialEq, Eq, Hash)]
 pub struct Reply {
+    /// To whom.
     pub process: u32,
+    /// Its count.
     pub count: i32,
+    /// Its second count.
     pub second: i32,
 }
 
 /// What a step sends.
 #[derive(Clone, Copy, Debug, PartialEq, Eq, Hash)]
 pub struct Sent {
+    /// The probes.
     pub probes: Probes,
+    /// The acknowledgement, if there is one.
     pub reply: Option<Reply>,
 }
 
-/// Reads a wait table: 1, 2, 3, 4, 5, 6, 7.
+/// Reads a wait table. 1, 2, 3, 4, 5, 6, 7.
 pub fn read_table(table: &[u8]) -> Result<Sizes, Refusal> {
-    let mut sizes = Sizes {
-        processes: 0,
-        arcs: 0,
-    };
-    accepted(archive::read_table(
-        table,
-        &mut sizes.processes,
-        &mut sizes.arcs,
-    ))?;
+    let mut sizes = Sizes { processes: 0, arcs: 0 };
+    accepted(archive::read_table(table, &mut sizes.processes, &mut sizes.arcs))?;
     Ok(sizes)
 }
 
-/// Writes the table of `n` processes at the front of `out` and gives its length in bytes; `list` holds a from and a to for each arc, in
-/// turn. Bytes past the table keep their values. 10, 2, 4, 7, 11.
+/// Writes the table of `n` processes at the front of `out` and gives its length in bytes; `list`
+/// holds a from and a to for each arc, in turn. Bytes past the table keep their values.
+/// 10, 2, 4, 7, 11.
 pub fn write_table(n: usize, list: &[u16], out: &mut [u8]) -> Result<usize, Refusal> {
     let mut length = 0;
     accepted(archive::write_table(n, list, out, &mut length))?;
     Ok(length)
 }
 
-/// Opens a walk along one chain of a process: the chain's first arc, or `None` if it has none. 1, 2, 3, 4, 5, 6, 7, 8.
+/// Opens a walk along one chain of a process: the chain's first arc, or `None` if it has none.
+/// 1, 2, 3, 4, 5, 6, 7, 8.
 pub fn open(table: &[u8], chain: Chain, process: usize) -> Result<Option<usize>, Refusal> {
     let mut arc = 0;
     accepted(archive::open(table, chain_number(chain), process, &mut arc))?;
     Ok(some(arc))
 }
 
-/// A step of a walk: the arc after `arc` on the chain, or `None` at the end; from an arc that is 0, over M or past the bytes the end too.
+/// A step of a walk: the arc after `arc` on the chain, or `None` at the end; from an arc that is 0,
+/// over M or past the bytes the end too. It refuses nothing.
 pub fn next(table: &[u8], chain: Chain, arc: usize) -> Option<usize> {
     some(archive::next(table, chain_number(chain), arc))
 }
 
-/// Starts a check at process `start` under edition 1 or 2 of the rulebook (02, N4), which the area then holds. It needs [`area_words`]
-/// words, and may hold anything before. 1, 2, 3, 4, 5, 6, 7, 8, 30, 9.
+/// Starts a check at process `start` under edition 1 or 2 of the rulebook (02, N4), which the area
+/// then holds. It needs [`area_words`] words, and may hold anything before.
+/// 1, 2, 3, 4, 5, 6, 7, 8, 30, 9.
 pub fn start(table: &[u8], start: usize, edition: usize, area: &mut [i32]) -> Result<(), Refusal> {
     accepted(archive::start(table, start, edition, area))
 }
 
-/// Delivers the message at `place` of the link from one process to another, 1 for the oldest, and gives it; the others keep their order.
-/// 21, 25, 23, 24, 31, 22.
+/// Delivers the message at `place` of the link from one process to another, 1 for the oldest, and
+/// gives it; the others keep their order. 21, 25, 23, 24, 31, 22.
 pub fn pick(area: &mut [i32], from: usize, to: usize, place: usize) -> Result<Message, Refusal> {
     let mut kind = 0;
     let mut count = 0;
     let mut second = 0;
-    accepted(archive::pick(
-        area,
-        from,
-        to,
-        place,
-        &mut kind,
-        &mut count,
-        &mut second,
-    ))?;
+    accepted(archive::pick(area, from, to, place, &mut kind, &mut count, &mut second))?;
     Ok(match kind {
         archive::SUC => Message::Suc,
         archive::PRE => Message::Pre,
@@ -207,8 +239,9 @@ pub fn pick(area: &mut [i32], from: usize, to: usize, place: usize) -> Result<Me
     })
 }
 
-/// Makes up to `k` deliveries, each of the oldest message on the link with a message that has the lowest receiver and then the lowest
-/// sender (02, N11). A run that a start began is over after at most 2048. 21 before the first delivery; 24, 22 at a delivery.
+/// Makes up to `k` deliveries, each of the oldest message on the link with a message that has the
+/// lowest receiver and then the lowest sender (02, N11). A run that a start began is over after at
+/// most 2048. 21 before the first delivery; 24, 22 at a delivery.
 pub fn run_on(area: &mut [i32], k: u32) -> Ran {
     let mut over = 0;
     let mut made = 0;
@@ -216,11 +249,13 @@ pub fn run_on(area: &mut [i32], k: u32) -> Ran {
     ran(number, over, made)
 }
 
-/// Runs on in an order that `seed` gives and that anyone can repeat (02, N13): the same area with the same `k` and seed gives the same
-/// answer and the same words on every machine. Before each delivery the state, which begins as the seed, is moved on (Marsaglia's
-/// xorshift32); modulo the number of links with a message, counted from 0 in the order of [`run_on`], it picks the link, whose oldest
-/// message goes. Each call begins from its own seed, so that two calls of one delivery from one seed are not one call of two. A check
-/// ends as it does by any other deliveries. 21, 37 (the seed is 0) before the first delivery; 24, 22 at a delivery.
+/// Runs on in an order that `seed` gives and that anyone can repeat (02, N13): the same area with the
+/// same `k` and seed gives the same answer and the same words on every machine. Before each delivery
+/// the state, which begins as the seed, is moved on (Marsaglia's xorshift32); modulo the number of
+/// links with a message, counted from 0 in the order of [`run_on`], it picks the link, whose oldest
+/// message goes. Each call begins from its own seed, so that two calls of one delivery from one seed
+/// are not one call of two. A check ends as it does by any other deliveries. 21, 37 before the first
+/// delivery; 24, 22 at a delivery.
 ///
 /// ```
 /// use pickledune::{Ran, Refusal};
@@ -261,18 +296,10 @@ pub fn report(area: &[i32]) -> Result<Report, Refusal> {
     ))?;
     Ok(Report {
         deliveries,
-        verdict: if knot == 1 {
-            Verdict::Knot
-        } else {
-            Verdict::Free
-        },
+        verdict: if knot == 1 { Verdict::Knot } else { Verdict::Free },
         outside,
         escape: if escape == 0 { None } else { Some(escape) },
-        mark: if returned == 1 {
-            Mark::Returned
-        } else {
-            Mark::Held
-        },
+        mark: if returned == 1 { Mark::Returned } else { Mark::Held },
     })
 }
 
@@ -283,8 +310,9 @@ pub fn read_record(area: &[i32], process: usize) -> Result<Process, Refusal> {
     Ok(record)
 }
 
-/// The step of one process other than the start, by itself, on a record that the host keeps; a refusal leaves the record as it was. The
-/// degrees are the numbers of the process's successors and predecessors. 21, 25, 22.
+/// The step of one process other than the start, by itself, on a record that the host keeps; a
+/// refusal leaves the record as it was. The degrees are the numbers of the process's successors and
+/// predecessors. 21, 25, 22.
 pub fn step(
     record: &mut Process,
     message: Message,
@@ -298,11 +326,7 @@ pub fn step(
         Message::Ack { count, second } => (archive::ACK, count, second),
     };
     let mut probes = 0;
-    let mut reply = Reply {
-        process: 0,
-        count: 0,
-        second: 0,
-    };
+    let mut reply = Reply { process: 0, count: 0, second: 0 };
     accepted(archive::step(
         record,
         kind,
@@ -320,11 +344,7 @@ pub fn step(
             archive::PRE => Probes::Pres,
             _ => Probes::Nothing,
         },
-        reply: if reply.process == 0 {
-            None
-        } else {
-            Some(reply)
-        },
+        reply: if reply.process == 0 { None } else { Some(reply) },
     })
 }
 
@@ -332,7 +352,7 @@ fn accepted(number: u32) -> Result<(), Refusal> {
     if number == 0 {
         Ok(())
     } else {
-        Err(Refusal(number))
+        Err(Refusal::numbered(number))
     }
 }
 

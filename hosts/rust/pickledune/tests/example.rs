@@ -9,10 +9,7 @@ const TABLE: [u8; 20] = [2, 0, 1, 0, 1, 0, 0, 0, 0, 0, 1, 0, 1, 0, 2, 0, 0, 0, 0
 
 fn written(n: usize, list: &[u16]) -> Vec<u8> {
     let mut table = vec![0; table_bytes(n, list.len() / 2)];
-    assert_eq!(
-        pickledune::write_table(n, list, &mut table),
-        Ok(table.len())
-    );
+    assert_eq!(pickledune::write_table(n, list, &mut table), Ok(table.len()));
     table
 }
 
@@ -29,15 +26,7 @@ fn started(table: &[u8], start: usize) -> Vec<i32> {
 
 fn process(flags: [u32; 3], cs: i32, num: u32, father: u32, second: i32) -> Process {
     let [succeeding, preceding, subordinate] = flags;
-    Process {
-        succeeding,
-        preceding,
-        subordinate,
-        cs,
-        num,
-        father,
-        second,
-    }
+    Process { succeeding, preceding, subordinate, cs, num, father, second }
 }
 
 fn ack(count: i32, second: i32) -> Message {
@@ -47,25 +36,13 @@ fn ack(count: i32, second: i32) -> Message {
 #[test]
 fn the_example() {
     assert_eq!(written(2, &[1, 2]), TABLE);
-    assert_eq!(
-        pickledune::read_table(&TABLE),
-        Ok(Sizes {
-            processes: 2,
-            arcs: 1
-        })
-    );
+    assert_eq!(pickledune::read_table(&TABLE), Ok(Sizes { processes: 2, arcs: 1 }));
 
     let mut area = started(&TABLE, 1);
     assert_eq!(pickledune::pick(&mut area, 1, 2, 1), Ok(Message::Suc));
     assert_eq!(pickledune::pick(&mut area, 2, 1, 1), Ok(ack(1, 1)));
-    assert_eq!(
-        pickledune::read_record(&area, 1),
-        Ok(process([1, 1, 0], 1, 0, 0, 1))
-    );
-    assert_eq!(
-        pickledune::read_record(&area, 2),
-        Ok(process([1, 0, 1], 0, 0, 1, 0))
-    );
+    assert_eq!(pickledune::read_record(&area, 1), Ok(process([1, 1, 0], 1, 0, 0, 1)));
+    assert_eq!(pickledune::read_record(&area, 2), Ok(process([1, 0, 1], 0, 0, 1, 0)));
     let report = Report {
         deliveries: 2,
         verdict: Verdict::Free,
@@ -80,24 +57,23 @@ fn the_example() {
 #[test]
 fn a_pick_by_place() {
     let table = written(2, &[1, 2, 2, 1]);
-    for (places, messages) in [
-        ([1, 1], [Message::Suc, Message::Pre]),
-        ([2, 1], [Message::Pre, Message::Suc]),
-    ] {
+    for (places, messages) in
+        [([1, 1], [Message::Suc, Message::Pre]), ([2, 1], [Message::Pre, Message::Suc])]
+    {
         let mut area = started(&table, 1);
         for place in [0, 3, 4, 5, 257, usize::MAX] {
             let before = area.clone();
-            assert_eq!(pickledune::pick(&mut area, 1, 2, place), Err(Refusal(31)));
+            assert_eq!(pickledune::pick(&mut area, 1, 2, place), Err(Refusal::Place));
             assert_eq!(area, before);
         }
         for (place, message) in places.into_iter().zip(messages) {
             assert_eq!(pickledune::pick(&mut area, 1, 2, place), Ok(message));
         }
-        assert_eq!(pickledune::pick(&mut area, 1, 2, 0), Err(Refusal(24)));
+        assert_eq!(pickledune::pick(&mut area, 1, 2, 0), Err(Refusal::NoMessage));
         // D is 8, and two deliveries are picks.
         assert_eq!(pickledune::run_on(&mut area, 2048), Ran::Over(6));
         assert_eq!(pickledune::report(&area).unwrap().verdict, Verdict::Knot);
-        assert_eq!(pickledune::pick(&mut area, 1, 2, 0), Err(Refusal(23)));
+        assert_eq!(pickledune::pick(&mut area, 1, 2, 0), Err(Refusal::Over));
     }
 }
 
@@ -134,10 +110,9 @@ fn running_on_takes_the_lowest_receiver_and_then_the_lowest_sender() {
 /// 2497366906, 2064144800 and one more; two links have a message until one of them is the last.
 #[test]
 fn a_shuffled_run_takes_the_link_that_the_state_picks() {
-    for (seed, links) in [
-        (1, [(3, 2), (2, 3), (3, 1), (1, 3)]),
-        (2463534242, [(3, 2), (3, 1), (1, 3), (2, 3)]),
-    ] {
+    for (seed, links) in
+        [(1, [(3, 2), (2, 3), (3, 1), (1, 3)]), (2463534242, [(3, 2), (3, 1), (1, 3), (2, 3)])]
+    {
         let mut picked = started(&written(3, &[3, 1, 3, 2]), 3);
         for (k, (from, to)) in (1..).zip(links) {
             assert!(pickledune::pick(&mut picked, from, to, 1).is_ok());
@@ -158,10 +133,7 @@ fn a_shuffled_run_ends_as_any_other() {
         assert_eq!(run(&mut area), Ran::Over(16));
         let records = [1, 2, 3].map(|process| pickledune::read_record(&area, process).unwrap());
         let fathers = records.map(|record| record.father);
-        let others = records.map(|record| Process {
-            father: 0,
-            ..record
-        });
+        let others = records.map(|record| Process { father: 0, ..record });
         (pickledune::report(&area).unwrap(), others, fathers)
     };
     let (report, others, fathers) = ended(&|area| pickledune::run_on(area, 2048));
@@ -175,18 +147,18 @@ fn a_shuffled_run_ends_as_any_other() {
 /// 02, N13: 37 comes after 21, and before all else.
 #[test]
 fn seed_0() {
-    let refused = |number| Ran::Refused {
-        refusal: Refusal(number),
-        made: 0,
-    };
+    let refused = |refusal| Ran::Refused { refusal, made: 0 };
     let mut area = started(&TABLE, 1);
     // At the start, between its two deliveries, and when the run is over.
     for ran in [Ran::Spent(1), Ran::Over(1), Ran::Over(0)] {
         let before = area.clone();
         for k in [0, 1, u32::MAX] {
-            assert_eq!(pickledune::run_shuffled(&mut area, k, 0), refused(37));
+            assert_eq!(pickledune::run_shuffled(&mut area, k, 0), refused(Refusal::Seed));
             assert_eq!(area, before);
-            assert_eq!(pickledune::run_shuffled(&mut area[1..], k, 0), refused(21));
+            assert_eq!(
+                pickledune::run_shuffled(&mut area[1..], k, 0),
+                refused(Refusal::NotWellFormed)
+            );
             assert_eq!(area, before);
         }
         assert_eq!(pickledune::run_shuffled(&mut area, 1, 1), ran);
@@ -238,22 +210,20 @@ fn the_known_verdicts() {
 fn second_numbers_out_of_range() {
     let area = started(&TABLE, 1);
     // The second sum of 1 and of 2, and the first message from 2 to 1.
-    for (place, words) in [
-        (28, [-129, 129]),
-        (34, [-129, 129]),
-        (44, [127 + 512 * 256, 256 + 512 * 385]),
-    ] {
+    for (place, words) in
+        [(28, [-129, 129]), (34, [-129, 129]), (44, [127 + 512 * 256, 256 + 512 * 385])]
+    {
         for word in words {
             let mut area = area.clone();
             area[place] = word;
-            assert_eq!(pickledune::read_record(&area, 1), Err(Refusal(21)));
-            assert_eq!(pickledune::pick(&mut area, 1, 2, 1), Err(Refusal(21)));
+            assert_eq!(pickledune::read_record(&area, 1), Err(Refusal::NotWellFormed));
+            assert_eq!(pickledune::pick(&mut area, 1, 2, 1), Err(Refusal::NotWellFormed));
         }
     }
     // In range, but 2 waits for nobody and would make it 129.
     let mut area = area;
     area[34] = 128;
-    assert_eq!(pickledune::pick(&mut area, 1, 2, 1), Err(Refusal(22)));
+    assert_eq!(pickledune::pick(&mut area, 1, 2, 1), Err(Refusal::OutOfRange));
 }
 
 /// 02, N4: 30 comes after 8 and before 9; an area that holds another edition gives 21.
@@ -262,22 +232,13 @@ fn other_editions() {
     let mut area = started(&TABLE, 1);
     let before = area.clone();
     for edition in [0, 3, 65_535, usize::MAX] {
-        assert_eq!(
-            pickledune::start(&TABLE, 3, edition, &mut area),
-            Err(Refusal(8))
-        );
-        assert_eq!(
-            pickledune::start(&TABLE, 1, edition, &mut area),
-            Err(Refusal(30))
-        );
-        assert_eq!(
-            pickledune::start(&TABLE, 1, edition, &mut area[1..]),
-            Err(Refusal(30))
-        );
+        assert_eq!(pickledune::start(&TABLE, 3, edition, &mut area), Err(Refusal::Process));
+        assert_eq!(pickledune::start(&TABLE, 1, edition, &mut area), Err(Refusal::Edition));
+        assert_eq!(pickledune::start(&TABLE, 1, edition, &mut area[1..]), Err(Refusal::Edition));
     }
     assert_eq!(area, before);
     area[3] = 0;
-    assert_eq!(pickledune::report(&area), Err(Refusal(21)));
+    assert_eq!(pickledune::report(&area), Err(Refusal::NotWellFormed));
 }
 
 /// 02, N1: 5 waits for the four others; 1 waits for 5 in turn, and 2, 3 and 4 for nobody. The lowest of these three is named, whichever is
@@ -319,14 +280,7 @@ fn one_step() {
     let mut record = Process::default();
     let sent = pickledune::step(&mut record, Message::Suc, 0, 1, 1).unwrap();
     assert_eq!(sent.probes, Probes::Sucs);
-    assert_eq!(
-        sent.reply,
-        Some(Reply {
-            process: 1,
-            count: 1,
-            second: 1
-        })
-    );
+    assert_eq!(sent.reply, Some(Reply { process: 1, count: 1, second: 1 }));
     assert_eq!(record, process([1, 0, 1], 0, 0, 1, 0));
 
     // It waits for nobody, which it has counted.
@@ -337,91 +291,54 @@ fn one_step() {
 
     let sent = pickledune::step(&mut record, ack(3, -2), 0, 1, 1).unwrap();
     assert_eq!(sent.probes, Probes::Nothing);
-    assert_eq!(
-        sent.reply,
-        Some(Reply {
-            process: 1,
-            count: 2,
-            second: -2
-        })
-    );
+    assert_eq!(sent.reply, Some(Reply { process: 1, count: 2, second: -2 }));
     assert_eq!(record, process([1, 1, 0], 0, 0, 1, 0));
 }
 
 #[test]
 fn refusals_change_nothing() {
     let mut out = [7u8; 20];
-    assert_eq!(pickledune::read_table(&[]), Err(Refusal(1)));
-    assert_eq!(
-        pickledune::write_table(2, &[1, 2, 1], &mut out),
-        Err(Refusal(10))
-    );
-    assert_eq!(
-        pickledune::write_table(2, &[1, 3], &mut out),
-        Err(Refusal(4))
-    );
-    assert_eq!(
-        pickledune::write_table(2, &[1, 2], &mut out[..19]),
-        Err(Refusal(11))
-    );
+    assert_eq!(pickledune::read_table(&[]), Err(Refusal::TableShort));
+    assert_eq!(pickledune::write_table(2, &[1, 2, 1], &mut out), Err(Refusal::ListOdd));
+    assert_eq!(pickledune::write_table(2, &[1, 3], &mut out), Err(Refusal::Ends));
+    assert_eq!(pickledune::write_table(2, &[1, 2], &mut out[..19]), Err(Refusal::OutputShort));
     assert_eq!(out, [7; 20]);
-    assert_eq!(pickledune::open(&TABLE, Chain::Out, 3), Err(Refusal(8)));
+    assert_eq!(pickledune::open(&TABLE, Chain::Out, 3), Err(Refusal::Process));
     assert_eq!(pickledune::next(&TABLE, Chain::Out, 2), None);
 
     let mut words = [5i32; area_words(2, 1)];
-    assert_eq!(
-        pickledune::start(&TABLE, 1, 1, &mut words[1..]),
-        Err(Refusal(9))
-    );
-    assert_eq!(pickledune::pick(&mut words, 1, 2, 1), Err(Refusal(21)));
+    assert_eq!(pickledune::start(&TABLE, 1, 1, &mut words[1..]), Err(Refusal::AreaShort));
+    assert_eq!(pickledune::pick(&mut words, 1, 2, 1), Err(Refusal::NotWellFormed));
     assert_eq!(
         pickledune::run_on(&mut words, 1),
-        Ran::Refused {
-            refusal: Refusal(21),
-            made: 0
-        }
+        Ran::Refused { refusal: Refusal::NotWellFormed, made: 0 }
     );
     assert_eq!(
         pickledune::run_shuffled(&mut words, 1, 1),
-        Ran::Refused {
-            refusal: Refusal(21),
-            made: 0
-        }
+        Ran::Refused { refusal: Refusal::NotWellFormed, made: 0 }
     );
-    assert_eq!(pickledune::report(&words), Err(Refusal(21)));
-    assert_eq!(pickledune::read_record(&words, 1), Err(Refusal(21)));
+    assert_eq!(pickledune::report(&words), Err(Refusal::NotWellFormed));
+    assert_eq!(pickledune::read_record(&words, 1), Err(Refusal::NotWellFormed));
     assert_eq!(words, [5; area_words(2, 1)]);
 
     let mut area = started(&TABLE, 1);
     let before = area.clone();
-    assert_eq!(pickledune::pick(&mut area, 1, 1, 1), Err(Refusal(25)));
-    assert_eq!(pickledune::pick(&mut area, 2, 1, 1), Err(Refusal(24)));
-    assert_eq!(pickledune::pick(&mut area, 1, 2, 2), Err(Refusal(31)));
-    assert_eq!(pickledune::report(&area), Err(Refusal(26)));
-    assert_eq!(pickledune::read_record(&area, 3), Err(Refusal(25)));
+    assert_eq!(pickledune::pick(&mut area, 1, 1, 1), Err(Refusal::NoLink));
+    assert_eq!(pickledune::pick(&mut area, 2, 1, 1), Err(Refusal::NoMessage));
+    assert_eq!(pickledune::pick(&mut area, 1, 2, 2), Err(Refusal::Place));
+    assert_eq!(pickledune::report(&area), Err(Refusal::NotOver));
+    assert_eq!(pickledune::read_record(&area, 3), Err(Refusal::NoLink));
     assert_eq!(area, before);
     pickledune::run_on(&mut area, 2);
-    assert_eq!(pickledune::pick(&mut area, 1, 2, 1), Err(Refusal(23)));
+    assert_eq!(pickledune::pick(&mut area, 1, 2, 1), Err(Refusal::Over));
 
     let mut record = process([2, 0, 0], 0, 0, 0, 0);
-    assert_eq!(
-        pickledune::step(&mut record, Message::Suc, 0, 0, 1),
-        Err(Refusal(21))
-    );
+    assert_eq!(pickledune::step(&mut record, Message::Suc, 0, 0, 1), Err(Refusal::NotWellFormed));
     record.succeeding = 0;
-    assert_eq!(
-        pickledune::step(&mut record, Message::Suc, 0, 0, 0),
-        Err(Refusal(25))
-    );
-    assert_eq!(
-        pickledune::step(&mut record, ack(1, 0), 0, 0, 1),
-        Err(Refusal(22))
-    );
+    assert_eq!(pickledune::step(&mut record, Message::Suc, 0, 0, 0), Err(Refusal::NoLink));
+    assert_eq!(pickledune::step(&mut record, ack(1, 0), 0, 0, 1), Err(Refusal::OutOfRange));
     for message in [ack(129, 0), ack(0, 129), ack(0, -129)] {
-        assert_eq!(
-            pickledune::step(&mut record, message, 0, 0, 1),
-            Err(Refusal(21))
-        );
+        assert_eq!(pickledune::step(&mut record, message, 0, 0, 1), Err(Refusal::NotWellFormed));
     }
     assert_eq!(record, Process::default());
 }
