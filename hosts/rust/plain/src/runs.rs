@@ -289,14 +289,15 @@ impl<'a> Run<'a> {
         };
         let reply_link =
             sent.reply.map(|reply| links.find(&self.table, &self.waits, to, reply.to as usize));
-        self.links[link] = without(&before, place);
+        let after = without(&before, place);
+        self.links[link] = after;
         if !self.has_room(links, to, sent.probes, reply_link) {
             self.links[link] = before;
             return Err(Refusal::Range);
         }
         self.heading[DELIVERIES] += 1;
         self.records[to - 1] = words_of(&record);
-        if self.links[link][0] == 0 {
+        if after[0] == 0 {
             links.note_emptied(from, to);
         }
         if let (Some(reply), Some(link)) = (sent.reply, reply_link) {

@@ -90,9 +90,9 @@ pub(crate) struct Words<'a> {
 }
 
 impl<'a> Bytes<'a> {
-    pub(crate) fn new(table: &'a [u8], n: usize) -> Bytes<'a> {
+    pub(crate) fn new(table: &'a [u8], Sizes { n, m }: Sizes) -> Bytes<'a> {
         let (processes, arcs) = table[4..].split_at(4 * n);
-        Bytes { processes: Parts::of(processes), arcs: Parts::of(arcs) }
+        Bytes { processes: Parts::of(processes), arcs: Parts::of(&arcs[..8 * m]) }
     }
 }
 
@@ -229,6 +229,10 @@ fn check_chains(table: &impl Table, chain: Chain) -> Result<(), Refusal> {
     for process in 1..=n {
         let mut place = table.first(chain, process);
         while place != 0 {
+            // Never after check 5; but with this test the arc is read without another one.
+            if place > m {
+                return Err(Refusal::Chains);
+            }
             let arc = table.arc(place);
             if met == m || arc.ends[chain as usize] as usize != process {
                 return Err(Refusal::Chains);
@@ -256,7 +260,7 @@ pub(crate) fn accept(table: &[u8]) -> Result<(Bytes<'_>, Waits), Refusal> {
     if table.len() != 2 * sizes.fields() {
         return Err(Refusal::Length);
     }
-    let bytes = Bytes::new(table, sizes.n);
+    let bytes = Bytes::new(table, sizes);
     check(&bytes).map(|waits| (bytes, waits))
 }
 
