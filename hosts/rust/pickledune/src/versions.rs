@@ -38,7 +38,7 @@ pub fn layout() -> u32 {
 ///
 /// let mut table = [0u8; pickledune::table_bytes(2, 1)];
 /// pickledune::write_table(2, &[1, 2], &mut table)?;
-/// // What the host stored last week, with the archive from before second sums.
+/// // The host stored this area with an archive from before second sums.
 /// let mut stored = vec![1, 1, 0, 1];
 /// if pickledune::layout_of(&stored) != Some(pickledune::layout()) {
 ///     stored = vec![0; pickledune::area_words(2, 1)];
