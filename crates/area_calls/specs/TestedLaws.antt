@@ -23,7 +23,7 @@ use Rattle.areas.specs.Area.{numberAt, fieldsIn, runIn, areaRight}
 use Rattle.areas.specs.RunInLaws.{fieldsIn-n, fieldsIn-m}
 use Rattle.areas.specs.Squares.{Square}
 use Rattle.area_tests.specs.Testing.{sizesOf}
-use Rattle.area_tests.proofs.Whole.{replicate-zero}
+use Rattle.base.specs.CountLaws.{replicate-zero}
 use Rattle.lenses.specs.Ready.{Ready}
 use Rattle.lenses.specs.ReadyLaws.{right-storable, ready-n}
 use Rattle.tables.specs.WaitsLaws.{neighbours-swap, neighbours-ends}

@@ -2,14 +2,14 @@
 --   copied-none      == bytes that are all 0 hold no field yet
 --   copied-more      == one field more, low byte first
 --   copied-fields    == bytes that hold all the fields are those of the area's table
---   fieldTest-low, fieldTest-high, fieldTest-both   == a field is no number, is over 16 bits, or passes
+--   fieldTest-word, fieldTest-small   == the test of a field is that of its word; a field that passes has 16 bits
 -- Assumes nothing.
 use Prim.Native.Nat.{ℕ, _+_, _*_, _/_, _%_, _≤_, _<_}
-use mathlib.Core.Bool.{Bool, true, false}
+use mathlib.Core.Bool.{true}
 use mathlib.Core.List.{List}
-use mathlib.Core.Path.{_≡_, _∙_, fun-ext}
+use mathlib.Core.Path.{_≡_, refl, _∙_, fun-ext}
 use native.Mathlib.Omega.{arith}
-use borrow.Author.Tests.{lt-ltb, le-ltb, ltb-true, ltb-false, le-leb, lt-leb}
+use borrow.Author.Tests.{lt-ltb, le-ltb, ltb-true, ltb-false}
 use lib.Dec.{ltb}
 use lib.IntN.{ℤ, pos}
 use lib.ListN.{length, getD, set, length-set}
@@ -20,9 +20,10 @@ use Rattle.base.specs.Checks.{Tested, passed, failed, Same, same, apart}
 use Rattle.tables.specs.Table.{fieldOf, fieldTotal}
 use Rattle.areas.specs.Places.{fieldPlace}
 use Rattle.areas.specs.Contained.{cut}
-use Rattle.areas.specs.Area.{fieldTotalOf, numberAt, fieldsIn, sameWord}
+use Rattle.areas.specs.Area.{fieldTotalOf, numberAt, fieldsIn}
 use Rattle.areas.specs.RunInLaws.{fieldsIn-n, fieldsIn-m}
-use Rattle.area_tests.specs.AreaTests.{fieldTest}
+use Rattle.area_tests.specs.AreaTests.{fieldWord, fieldTest}
+use Rattle.area_tests.specs.RegionLaws.{fieldTest-P}
 use Rattle.area_tests.specs.Testing.{CopiedTo}
 
 -- ---- the bytes
@@ -76,16 +77,9 @@ copied-fields w bs c e l =
 
 -- ---- the test of a field
 
-module _ (w : List ℤ) (j x : ℕ) (e : x ≡ numberAt w (fieldPlace j)) (b : Bool)
-    (q : b ≡ sameWord (getD w (fieldPlace j) (pos 0)) (pos (numberAt w (fieldPlace j)))) where
-  pub fieldTest-low : b ≡ false → fieldTest w j ≡ false
-  unfolding fieldTest
-  fieldTest-low h = rw (← q, h)
+pub fieldTest-word : (w : List ℤ) (j : ℕ) → fieldWord (getD w (fieldPlace j) (pos 0)) ≡ fieldTest w j
+unfolding fieldTest
+fieldTest-word w j = refl
 
-  pub fieldTest-high : b ≡ true → 65535 < x → fieldTest w j ≡ false
-  unfolding fieldTest
-  fieldTest-high h g = rw (← q, h, ← e) (lt-leb x 65535 g)
-
-  pub fieldTest-both : b ≡ true → x ≤ 65535 → fieldTest w j ≡ true
-  unfolding fieldTest
-  fieldTest-both h g = rw (← q, h, ← e) (le-leb x 65535 g)
+pub fieldTest-small : (w : List ℤ) (j x : ℕ) → x ≡ numberAt w (fieldPlace j) → fieldTest w j ≡ true → x ≤ 65535
+fieldTest-small w j x e h = omega (arith, e, fieldTest-P w j .0 h .1)

@@ -7,7 +7,7 @@
 --   flags-parts                   == the flags' word is the flags packed again exactly if it is a number of at most 7
 --   fatherRight-none, fatherRight-over, fatherRight-joined   == father 0, father over N, and any other by the square
 --   RecordParts, recordTest-parts == a record
---   arcTest-no, arcTest-back, arcTest-free   == an arc's two links
+--   arcTest-empty, arcTest-no, arcTest-back, arcTest-free   == an arc's two links
 --   AreaParts, areaTests-parts    == an area
 -- Assumes nothing.
 use Prim.Native.Nat.{ℕ, _+_, _-_, _*_, _/_, _%_, _≤_, _<_}
@@ -18,6 +18,7 @@ use native.Mathlib.Omega.{arith}
 use borrow.Author.Tests.{eq-eqb, ne-eqb}
 use lib.IntN.{ℤ, pos}
 use lib.ListN.{getD}
+use Rattle.base.specs.Choice.{choose}
 use Rattle.base.specs.ChoiceLaws.{tested}
 use Rattle.base.specs.Checks.{Tested, passed, failed}
 use Rattle.base.specs.Sums.{allTo}
@@ -29,7 +30,7 @@ use Rattle.tables.specs.WaitsLaws.{waitsOf-sound, neighbours-ends}
 use Rattle.steps.specs.declared.Process.{Process}
 use Rattle.steps.specs.Step.{inRange}
 use Rattle.checks.specs.Run.{mostDeliveries, fatherRight}
-use Rattle.areas.specs.Places.{startPlace, countPlace, headSize, fieldPlace, flagsPlace, numPlace, fatherPlace, recordSize, linkSize}
+use Rattle.areas.specs.Places.{startPlace, countPlace, headSize, fieldPlace, flagsPlace, numPlace, fatherPlace, recordSize, linkSize, arcSize}
 use Rattle.areas.specs.Used.{linkSlots}
 use Rattle.areas.specs.Used.{checkPlace, headUsed, recordUsed}
 use Rattle.areas.specs.Area.{fieldTotalOf, recordPlace, linkPlace, arcOf, knotCheck, flagsOf, hasBack, numberAt, fieldsIn, recordAt, sameWord}
@@ -39,6 +40,8 @@ use Rattle.areas.specs.TellsLaws.{tells-map, tells-le, tells-eq, tells-id, tell
 use Rattle.areas.specs.WordTestLaws.{sameWord-P, counts-of}
 use Rattle.areas.specs.SquareLaws.{joinedBy-is}
 use Rattle.area_tests.specs.AreaTests.{sizesTest, fieldTest, counts, areFree, editionTest, headTest, recordTest, linkTest, arcTest, areaTests}
+use Rattle.area_tests.specs.RegionLaws.{tells-areFree}
+use Rattle.area_tests.specs.LinkTestLaws.{linkTest-empty}
 
 pub tells-no : {b : Bool} {P : Type 0} → Tells b P → (P → ⊥) → b ≡ false
 tells-no {b} h never = at (tested b)
@@ -178,7 +181,27 @@ recordTest-parts w p k x ek ex = rw (ex, ek) (recordTest-at w p)
 
 -- ---- an arc
 
+either : (b x y : Bool) → x ≡ true → y ≡ true → choose b x y ≡ true
+either true x y p q = p
+either false x y p q = q
+
 module _ (w : List ℤ) (k i : ℕ) (e : i ≡ linkPlace (fieldsIn w) k) where
+  pub arcTest-empty : areFree w i (i + arcSize) ≡ true → arcTest w k ≡ true
+  unfolding arcTest
+  arcTest-empty h =
+      rw (← e, linkTest-empty linkSlots linkSize w i (omega arith) (λ j u. zeros j (omega arith)))
+      (either (hasBack (fieldsIn w) k) (linkTest linkSlots linkSize w (i + linkSize)) (areFree w (i + linkSize) (i + linkSize + linkSize))
+      (linkTest-empty linkSlots linkSize w (i + linkSize) (omega arith) second)
+      (tells-areFree w (i + linkSize) (i + linkSize + linkSize) .1 (λ j u. second j (omega arith))))
+    where
+      zeros : (j : ℕ) → j < arcSize → getD w (i + j) (pos 0) ≡ pos 0
+      zeros j u = tells-areFree w i (i + arcSize) .0 h j (omega arith)
+
+      second : (j : ℕ) → j < linkSize → getD w (i + linkSize + j) (pos 0) ≡ pos 0
+      second j u =
+          let q : i + linkSize + j ≡ i + (linkSize + j) = omega arith in
+          rw q (zeros (linkSize + j) (omega arith))
+
   pub arcTest-no : linkTest linkSlots linkSize w i ≡ false → arcTest w k ≡ false
   unfolding arcTest
   arcTest-no h = rw (← e, h)

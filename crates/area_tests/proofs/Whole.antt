@@ -5,15 +5,14 @@
 --   counted                   == as many fields as the code counts
 --   wrong                     == a way out that fails a part of the test
 --   accepted                  == the way out that passes all parts
---   replicate-zero            == an array of zeros holds 0 everywhere
 -- Assumes nothing.
-use Prim.Native.Nat.{ℕ, zero, suc, _≤_}
+use Prim.Native.Nat.{ℕ, _≤_}
 use mathlib.Core.Bool.{Bool, true, false, false≢true}
 use mathlib.Core.List.{List}
 use mathlib.Core.Path.{_≡_, refl, sym, _∙_}
 use native.Mathlib.Omega.{arith}
 use lib.IntN.{ℤ}
-use lib.ListN.{length, getD, replicate}
+use lib.ListN.{length}
 use Rattle.tables.specs.Table.{nOf, mOf, mostProcesses, mostArcs, fieldTotal}
 use Rattle.area_tests.specs.declared.testing.Sizes.{Sizes}
 use Rattle.areas.specs.Places.{fieldPlace, areaLength}
@@ -72,8 +71,3 @@ pub wrong : {Q : Type 0} (w : List ℤ) → (AreaParts w → ⊥) → (Sizes.Wro
 wrong w never =
     let f = sym (areaTests-P w) ∙ tells-no (areaTests-parts w) never in
     (rw f, λ e. absurd (false≢true (sym f ∙ e)))
-
-pub replicate-zero : (n k : ℕ) → _≡_ {A = ℕ} (getD (replicate n 0) k 0) 0
-replicate-zero zero k = refl
-replicate-zero (suc n) zero = refl
-replicate-zero (suc n) (suc k) = replicate-zero n k

@@ -1,7 +1,7 @@
 -- The test of an area, region by region, in the order that the code follows. areaTests-P says that it is `areaRight`.
 --   mostBytes         == the bytes of the largest table
 --   sizesTest w       == enough words for N and M, which are in range, and for all that they need
---   fieldTest w j     == field j is a number of 16 bits
+--   fieldWord z, fieldTest w j   == a word, and that of field j, is a number of 16 bits
 --   headTest w        == which check, the start, the count, and zeros
 --   recordTest w p    == the record of p: values in range, father 0 or a neighbour, zeros in the free words
 --   counts w k, isFree w k, areFree w i e   == word k is a number of 0 or more; it is 0; the words from i up to e are 0
@@ -15,7 +15,7 @@ use mathlib.Core.Bool.{Bool, _&&_}
 use mathlib.Core.List.{List}
 use lib.Dec.{eqb, leb}
 use lib.ListN.{length, getD}
-use lib.IntN.{ℤ, pos}
+use lib.IntN.{ℤ, pos, natAbs}
 use Rattle.base.specs.Choice.{choose}
 use Rattle.base.specs.Sums.{allTo}
 use Rattle.tables.specs.Table.{nOf, mOf, mostProcesses, mostArcs, fieldTotal, isProcess}
@@ -39,8 +39,12 @@ sizesTest w =
     leb (fieldPlace 2) (length w) && leb 1 (numberAt w (fieldPlace 0)) && leb (numberAt w (fieldPlace 0)) mostProcesses &&
     leb (numberAt w (fieldPlace 1)) mostArcs && leb (areaLength (numberAt w (fieldPlace 0)) (numberAt w (fieldPlace 1))) (length w)
 
+-- a word is a number of 16 bits
+abbrev pub fieldWord : ℤ → Bool
+fieldWord z = sameWord z (pos (natAbs z)) && leb (natAbs z) 65535
+
 unfoldable pub fieldTest : List ℤ → ℕ → Bool
-fieldTest w j = sameWord (getD w (fieldPlace j) (pos 0)) (pos (numberAt w (fieldPlace j))) && leb (numberAt w (fieldPlace j)) 65535
+fieldTest w j = fieldWord (getD w (fieldPlace j) (pos 0))
 
 -- a word is a number of 0 or more
 abbrev pub counts : List ℤ → ℕ → Bool

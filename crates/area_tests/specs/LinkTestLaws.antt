@@ -1,12 +1,13 @@
 -- The test of a link in the two parts that code makes.
 --   linkTest-parts        == the test of a link: messages up to the first 0, and zeros from there on
+--   linkTest-empty        == a link of zeros passes
 -- Assumes nothing.
-use Prim.Native.Nat.{ℕ, _+_, _-_, _≤_, _<_}
+use Prim.Native.Nat.{ℕ, zero, suc, _+_, _-_, _≤_, _<_}
 use mathlib.Core.Bool.{Bool, true, _&&_}
-use mathlib.Core.List.{List}
-use mathlib.Core.Path.{_≡_, sym, ap, _∙_}
+use mathlib.Core.List.{List, []}
+use mathlib.Core.Path.{_≡_, refl, sym, ap, _∙_}
 use native.Mathlib.Omega.{arith}
-use lib.IntN.{ℤ, pos}
+use lib.IntN.{ℤ, pos, natAbs}
 use lib.ListN.{length, getD}
 use Rattle.base.specs.ChoiceLaws.{below?}
 use Rattle.base.specs.Checks.{Below, below, beyond}
@@ -20,7 +21,7 @@ use Rattle.areas.specs.Tells.{Tells}
 use Rattle.areas.specs.TellsLaws.{tells-map, tells-id, tells-both, tells-below, tells-same}
 use Rattle.areas.specs.CodeLaws.{slotWord-past}
 use Rattle.areas.specs.WordTestLaws.{sameWord-P}
-use Rattle.areas.specs.LinkLaws.{messagesAt-length, messagesAt-at, slotWord-at, countsSmall-at, countsSmall-of}
+use Rattle.areas.specs.LinkLaws.{messagesAt-stop, messagesAt-length, messagesAt-at, slotWord-at, countsSmall-at, countsSmall-of}
 use Rattle.area_tests.specs.AreaTests.{isFree, messageWord, linkTest}
 use Rattle.area_tests.specs.RegionLaws.{linkTest-P}
 
@@ -95,3 +96,14 @@ module _ (s z : ℕ) (w : List ℤ) (i : ℕ) (fits : s ≤ z) where
 
   pub linkTest-parts : linkTest s z w i ≡ (messages && zeros)
   linkTest-parts = tells-same (linkTest s z w i) (messages && zeros) test-P parts-P
+
+messagesAt-none : (w : List ℤ) (i s : ℕ) → (1 ≤ s → getD w i (pos 0) ≡ pos 0) → messagesAt w i s ≡ []
+unfolding messagesAt
+messagesAt-none w i zero h = refl
+messagesAt-none w i (suc s) h = messagesAt-stop w i s (ap natAbs (h (omega arith)))
+
+pub linkTest-empty : (s z : ℕ) (w : List ℤ) (i : ℕ) → s ≤ z → ((j : ℕ) → j < z → getD w (i + j) (pos 0) ≡ pos 0) → linkTest s z w i ≡ true
+linkTest-empty s z w i fits h =
+    let first : i + 0 ≡ i = omega arith in
+    let none : messagesAt w i s ≡ [] = messagesAt-none w i s (λ some. rw first at (h 0 (omega arith))) in
+    linkTest-P s z w i .1 (rw none (countsSmall-of [] (λ j u. absurd (omega arith))), λ j u. h j u ∙ rw none (sym (slotWord-past [] j (omega arith))))

@@ -55,7 +55,7 @@ tells-counts w k = sameWord-P (word w k) (pos (numberAt w k))
 tells-free : (w : List ℤ) (k : ℕ) → Tells (isFree w k) (word w k ≡ pos 0)
 tells-free w k = sameWord-P (word w k) (pos 0)
 
-tells-areFree : (w : List ℤ) (i e : ℕ) → Tells (areFree w i e) ((j : ℕ) → j < e - i → word w (i + j) ≡ pos 0)
+pub tells-areFree : (w : List ℤ) (i e : ℕ) → Tells (areFree w i e) ((j : ℕ) → j < e - i → word w (i + j) ≡ pos 0)
 tells-areFree w i e = tells-below (e - i) (λ j. isFree w (i + j)) (λ j. word w (i + j) ≡ pos 0) (λ j. tells-free w (i + j))
 
 -- ---- a field

@@ -15,7 +15,7 @@ ghost use Rattle.tables.specs.Pairs.{squareSize};
 ghost use Rattle.areas.specs.Places.{fieldPlace};
 ghost use Rattle.areas.specs.Area.{numberAt, fieldsIn, areaRight};
 ghost use Rattle.areas.specs.Squares.{Square};
-ghost use Rattle.area_tests.specs.AreaTests.{mostBytes, sizesTest, fieldTest, editionTest, headTest, recordTest, arcTest};
+ghost use Rattle.area_tests.specs.AreaTests.{mostBytes, sizesTest, fieldWord, fieldTest, editionTest, headTest, recordTest, arcTest};
 ghost use Rattle.area_tests.specs.Testing.{sizesOf, CopiedTo};
 
 // N and M of an area, or that it is not well formed.
@@ -48,7 +48,18 @@ fn sizes_of(area: &[i32]) -> Sizes
     Sizes::Right { n, m }
 }
 
-// Copies the fields of the table into bytes, which are 0 before; says whether each is a number of 16 bits.
+// A word is a field: a number of 16 bits.
+fn is_field(word: i32) -> bool
+    ensures { λ r. ⌜ r ≡ fieldWord word ⌝ }
+{
+    if !word_tests::is_number(word) {
+        return false;
+    }
+    words::number(word) <= 65535
+}
+
+// Copies the fields of the table into bytes, which are 0 before; says whether each is a number of 16 bits. All of them are copied, so that
+// several are at once.
 fn fields_to_bytes(area: &[i32], count: usize, table: &mut [u8; places::MOST_BYTES]) -> bool
     requires { ⌜ fieldPlace count ≤ length (now area) ⌝ }
     requires { ⌜ count ≤ fieldTotal mostProcesses mostArcs ⌝ }
@@ -58,20 +69,16 @@ fn fields_to_bytes(area: &[i32], count: usize, table: &mut [u8; places::MOST_BYT
     ensures { λ r. ⌜ (r ≡ true → CopiedTo (now (area .entry)) count (now (table .exit))) ⌝ }
     ensures { λ _. ⌜ length (now (table .exit)) ≡ mostBytes ⌝ }
 {
+    let mut right = true;
     for j in 0..count {
         let word = area[places::field_place(j)];
-        if !word_tests::is_number(word) {
-            return false;
-        }
+        right = right & is_field(word);
         let x = words::number(word);
-        if x > 65535 {
-            return false;
-        }
         let at = 2 * j;
         table[at] = (x % 256) as u8;
         table[at + 1] = (x / 256 % 256) as u8;
     }
-    true
+    right
 }
 
 // The edition is 1 or 2 (02, N4).
@@ -174,7 +181,7 @@ fn are_records(area: &[i32], square: &[u16; tables::SQUARE_SIZE], n: usize, m: u
     true
 }
 
-// The two links of arc k; zeros where it has no link back.
+// The two links of arc k; zeros where it has no link back. Most arcs have no message on either.
 fn is_arc(
     area: &[i32],
     table: &[u8; places::MOST_BYTES],
@@ -192,6 +199,9 @@ fn is_arc(
     ensures { λ r. ⌜ r ≡ arcTest (now (area .entry)) k ⌝ }
 {
     let i = places::link_start(n, m, k);
+    if word_tests::is_free(area, i, i + places::ARC_SIZE) {
+        return true;
+    }
     if !word_tests::is_link(area, i, places::LINK_SLOTS, places::LINK_SIZE) {
         return false;
     }

@@ -33,17 +33,16 @@ fn is_message(word: i32) -> bool
     steps::is_count_small(words::message_of(word))
 }
 
-// The words from `from` up to `to` are 0.
+// The words from `from` up to `to` are 0. All of them are looked at, so that several are at once.
 pub fn is_free(area: &[i32], from: usize, to: usize) -> bool
     requires { ⌜ (from ≤ to) × (to ≤ length (now area)) ⌝ }
     ensures { λ r. ⌜ r ≡ allTo (to - from) (λ j. isFree (now (area .entry)) (from + (j - 1))) ⌝ }
 {
+    let mut free = true;
     for k in from..to {
-        if area[k] != 0 {
-            return false;
-        }
+        free = free & is_same(area[k], 0);
     }
-    true
+    free
 }
 
 // The first l words of the link at word i are messages with counts in range.

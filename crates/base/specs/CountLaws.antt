@@ -1,12 +1,13 @@
--- Laws of counting in a list.
+-- Laws of lists, most of them of counting in one.
 --   occ-of, occ-found, occ-twice, occ-once    == what is counted stands in the list, and where
 --   sumOver-occ, sumOver-length, occ-length   == a sum over a list is a sum over 1 to m, each number as often as it occurs
+--   replicate-zero   == a list of zeros holds 0 everywhere
 -- Assumes nothing.
 use Prim.Native.Nat.{ℕ, zero, suc, _+_, _*_, _≤_}
 use mathlib.Core.List.{List, [], _∷_}
 use mathlib.Core.Path.{_≡_, refl, sym, ap, _∙_, subst}
 use lib.Dec.{eqb}
-use lib.ListN.{length, getD}
+use lib.ListN.{length, getD, replicate}
 use native.Mathlib.Nat.{zero-mul, mul-one, add-mul}
 use native.Mathlib.Omega.{arith}
 use Rattle.base.specs.Choice.{bit}
@@ -90,3 +91,10 @@ sumOver-length (x ∷ xs) = omega (arith, sumOver-length xs)
 pub occ-length : (m : ℕ) (ks : List ℕ) → InRange ks m → sumTo m (λ k. occ k ks) ≡ length ks
 occ-length m ks h =
     sumTo-cong m (λ k. occ k ks) (λ k. occ k ks * 1) (λ k l u. sym (mul-one (occ k ks))) ∙ sym (sumOver-occ m ks (λ k. 1) h) ∙ sumOver-length ks
+
+-- ---- a list of zeros
+
+pub replicate-zero : (n k : ℕ) → _≡_ {A = ℕ} (getD (replicate n 0) k 0) 0
+replicate-zero zero k = refl
+replicate-zero (suc n) zero = refl
+replicate-zero (suc n) (suc k) = replicate-zero n k

@@ -2,6 +2,7 @@
 -- number that fails and after the last.
 --   allTo-none, allTo-more, allTo-stop, allTo-last   == each of 1 to n passes
 --   allTo-next    == one more turn, with k the number of turns so far
+--   allTo-also    == the same for a loop that goes on past a number that fails
 --   allTo-not     == each fails exactly if not some passes
 --   anyTo-none, anyTo-next   == some of 1 to n passes, with k the number of turns so far
 --   lowestTo-none, lowestTo-more   == the lowest of 1 to n that passes
@@ -35,6 +36,9 @@ anyTo-suc n p = refl
 
 pub allTo-next : (k : ℕ) (p : ℕ → Bool) → allTo k p ≡ true → p (k + 1) ≡ true → allTo (k + 1) p ≡ true
 allTo-next k p e here = rw add-one (allTo-suc k p ∙ and-both (allTo k p) (p (suc k)) e (rw add-one at here))
+
+pub allTo-also : (k : ℕ) (p : ℕ → Bool) → allTo (k + 1) p ≡ (allTo k p && p (k + 1))
+allTo-also k p = rw add-one (allTo-suc k p)
 
 pub allTo-more : (k : ℕ) (p : ℕ → Bool) → 1 ≤ k → allTo (k - 1) p ≡ true → p k ≡ true → allTo (k + 1 - 1) p ≡ true
 allTo-more k p l e here =

@@ -2,7 +2,7 @@
 --   endsRight-from, endsRight-to, endsRight-both       == check 4: the arc's from is no process, its to is none, or both are
 --   firstsRight-out, firstsRight-in, firstsRight-both  == check 5: a first is over M, or neither is
 --   nextsRight-out, nextsRight-in, nextsRight-both     == check 5: a next is over M, or neither is
---   ends-low                == what check 4 tells of each arc
+--   ends-in                 == what check 4 tells of each arc
 --   first-low, next-low     == what check 5 tells of each process, and of each arc
 -- Assumes nothing.
 use Prim.Native.Nat.{ℕ, _≤_, _<_}
@@ -16,6 +16,7 @@ use Rattle.tables.specs.declared.Arc.{Arc}
 use Rattle.tables.specs.declared.Chain.{Chain}
 use Rattle.tables.specs.declared.Chain.the-variants.{Out, In}
 use Rattle.tables.specs.Table.{Fields, nOf, mOf, IsProcess, isProcess, first, arcAt, next}
+use Rattle.tables.specs.Layout.{Ends}
 use Rattle.tables.specs.TableLaws.{isProcess-P}
 use Rattle.tables.specs.Reading.{endsRight, firstsRight, nextsRight}
 use Rattle.table_reader.specs.Inner.{Linked}
@@ -40,14 +41,14 @@ module _ (t : Fields) (n k : ℕ) (a : Arc) (en : n ≡ nOf t) (ea : a ≡ arcAt
   endsRight-both b d eb h ed g = ends-parts ∙ rw (← eb, not-false b h, ← ed, not-false d g)
 
 -- what check 4 tells of an arc
-pub ends-low : (t : Fields) (k : ℕ) → endsRight t k ≡ true → (arcAt t k .from ≤ nOf t) × (arcAt t k .to ≤ nOf t)
+pub ends-in : (t : Fields) (k : ℕ) → endsRight t k ≡ true → Ends t k
 unfolding endsRight
-ends-low t k e =
+ends-in t k e =
     let n = nOf t in
-    let a = arcAt t k in
-    let from = isProcess-P n (a .from) .0 (and-left (isProcess n (a .from)) (isProcess n (a .to)) e) in
-    let to = isProcess-P n (a .to) .0 (and-right (isProcess n (a .from)) (isProcess n (a .to)) e) in
-    (from .1, to .1)
+    let a = arcAt t k in (
+      isProcess-P n (a .from) .0 (and-left (isProcess n (a .from)) (isProcess n (a .to)) e),
+      isProcess-P n (a .to) .0 (and-right (isProcess n (a .from)) (isProcess n (a .to)) e),
+    )
 
 -- ---- check 5
 

@@ -2,7 +2,7 @@
 pub mod Steps
 pub mod Checks
 pub mod Chains
-pub mod Unlike
+pub mod Clashes
 pub mod Numbers
 pub mod Answers
 pub mod Opening

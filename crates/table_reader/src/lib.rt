@@ -15,7 +15,7 @@ ghost use Rattle.base.specs.Sums.{allTo};
 ghost use Rattle.tables.specs.Table.{fieldOf, nOf, mOf, tableLength, IsProcess, first, arcAt, near, next};
 ghost use Rattle.tables.specs.Reading.{endsRight, firstsRight, nextsRight, walked, chainsRight, unlikeBefore, fieldsNumber, readingOf};
 ghost use Rattle.tables.specs.Walking.{openedOf, nextOf};
-ghost use Rattle.table_reader.specs.Inner.{HoldsTable, Linked, arcsLeftOf};
+ghost use Rattle.table_reader.specs.Inner.{HoldsTable, Linked, Chained, LastMet, ChainTold, arcsLeftOf};
 
 // Field j, "16 bits, unsigned, low byte first".
 pub fn field(s: &[u8], j: usize) -> usize
@@ -182,22 +182,40 @@ fn chains_right(s: &[u8], n: usize, m: usize, c: Chain) -> bool
     arcs == 0
 }
 
-// Check 7: no arc has the ends of one before it. A square of all pairs of ends holds those that were met.
-fn arcs_unlike(s: &[u8], n: usize, m: usize) -> bool
+// Check 7 for the out-chain of p: no two of its arcs lead to one process. `last` has for each process the last chain that led to it.
+fn chain_unlike(s: &[u8], n: usize, p: usize, last: &mut [usize; tables::SIDE]) -> bool
     requires { ⌜ HoldsTable (now s) n ⌝ }
-    requires { ⌜ m ≡ mOf (fieldOf (now s)) ⌝ }
-    requires { ⌜ allTo m (endsRight (fieldOf (now s))) ≡ true ⌝ }
-    ensures { λ r. ⌜ r ≡ allTo m (unlikeBefore (fieldOf (now (s .entry)))) ⌝ }
+    requires { ⌜ Chained (fieldOf (now s)) ⌝ }
+    requires { ⌜ IsProcess n p ⌝ }
+    requires { ⌜ LastMet p (now last) ⌝ }
+    ensures { λ r. ⌜ ChainTold (fieldOf (now (s .entry))) p r ⌝ }
+    ensures { λ r. ⌜ (r ≡ true → LastMet (p + 1) (now (last .exit))) ⌝ }
 {
-    let mut met = [false; tables::SQUARE_SIZE];
-    let end = m + 1;
-    for k in 1..end {
+    let mut k = first_of(s, Chain::Out, p);
+    while k != 0 {
         let a = arc_at(s, n, k);
-        let cell = a.from * tables::SIDE + a.to;
-        if met[cell] {
+        let to = a.to;
+        if last[to] == p {
             return false;
         }
-        met[cell] = true;
+        last[to] = p;
+        k = next_of(Chain::Out, a);
+    }
+    true
+}
+
+// Check 7: no arc has the ends of one before it. By check 6 the arcs of one process are those of its out-chain.
+fn arcs_unlike(s: &[u8], n: usize) -> bool
+    requires { ⌜ HoldsTable (now s) n ⌝ }
+    requires { ⌜ Chained (fieldOf (now s)) ⌝ }
+    ensures { λ r. ⌜ r ≡ allTo (mOf (fieldOf (now (s .entry)))) (unlikeBefore (fieldOf (now (s .entry)))) ⌝ }
+{
+    let mut last = [0usize; tables::SIDE];
+    let end = n + 1;
+    for p in 1..end {
+        if !chain_unlike(s, n, p, &mut last) {
+            return false;
+        }
     }
     true
 }
@@ -223,7 +241,7 @@ pub fn fields_number(s: &[u8], n: usize, m: usize) -> u32
     if !chains_right(s, n, m, Chain::In) {
         return 6;
     }
-    if !arcs_unlike(s, n, m) {
+    if !arcs_unlike(s, n) {
         return 7;
     }
     0

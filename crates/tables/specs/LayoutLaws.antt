@@ -1,11 +1,12 @@
 -- Reading by tests says what the layout says: the number is 0 exactly if the layout is met, and else the number of the first row met.
 --   sizesRight-P     == check 2 finds nothing exactly if N and M are in range
+--   unlike-all, unlike-clash   == check 7 finds nothing where no two arcs agree in both ends, and something where two do
 --   fieldsNumber-P   == checks 4 to 7 find nothing exactly if the fields are right
 --   accepted-P       == "Reading a table checks 1 to 7 in order": no check finds anything exactly if the bytes meet the layout
 --   refused-P        == a number is given exactly if its row is met and no row before it is
 -- Assumes nothing.
 use Prim.Native.Nat.{ℕ, zero, suc, _-_, _≤_, _<_}
-use mathlib.Core.Bool.{Bool, true, not, _&&_, false≢true}
+use mathlib.Core.Bool.{Bool, true, false, not, _&&_, false≢true}
 use mathlib.Core.List.{List, []}
 use mathlib.Core.Logic.{_⊎_, inl, inr, ⊎-elim, ⊎-map, _↔_}
 use mathlib.Core.Path.{_≡_, refl, sym, ap, _∙_}
@@ -128,6 +129,20 @@ check-unlikes bs t =
         at (holds _ e) o = e
         at (fails _ d) (holds _ l) = absurd (h k rk j (rj .0, omega arith) a)
         at (fails _ d) (fails _ l) = absurd (h j rj k (rk .0, omega arith) (sym (a .0), sym (a .1)))
+
+pub unlike-all : (t : Fields) → AllUnlike t → allTo (mOf t) (unlikeBefore t) ≡ true
+unlike-all t h = at (check-unlikes [] t)
+  where
+    at : Check (allTo (mOf t) (unlikeBefore t)) (AllUnlike t) (RowOf 7 [] t) → allTo (mOf t) (unlikeBefore t) ≡ true
+    at (holds e _) = e
+    at (fails _ w) = absurd (w .5 (h (w .0) (w .1) (w .2) (w .3) (w .4)))
+
+pub unlike-clash : (t : Fields) (j k : ℕ) → IsArc t j → IsArc t k → Alike t j k → (j ≡ k → ⊥) → allTo (mOf t) (unlikeBefore t) ≡ false
+unlike-clash t j k rj rk a d = at (check-unlikes [] t)
+  where
+    at : Check (allTo (mOf t) (unlikeBefore t)) (AllUnlike t) (RowOf 7 [] t) → allTo (mOf t) (unlikeBefore t) ≡ false
+    at (holds _ h) = absurd (d (h j k rj rk a))
+    at (fails e _) = e
 
 -- ---- the first row met
 

@@ -1,60 +1,74 @@
--- `table_reader::arcs_unlike` meets its contract: before arc k a cell is set exactly if an arc before it has its ends, and no
--- arc before it has the ends of an earlier one. Assumes nothing.
-use Prim.Native.Nat.{_-_, _≤_}
-use mathlib.Core.Bool.{true, not}
-use mathlib.Core.Path.{_≡_, sym, ap, _∙_}
+-- `table_reader::arcs_unlike` meets its contract: before process p no two arcs of a process before it agree in both ends, and only chains before
+-- that of p are noted. Assumes nothing.
+use Prim.Native.Nat.{ℕ, _+_, _-_, _≤_, _<_}
+use mathlib.Core.Bool.{Bool}
+use mathlib.Core.Path.{_≡_, sym, subst}
+use borrow.Author.Tests.{not-true, not-false}
 use native.Mathlib.Omega.{arith}
 use denote.Ref.{now}
-use Rattle.base.specs.Sums.{allTo}
-use Rattle.base.specs.SumLaws.{allTo-at}
-use Rattle.base.specs.PrefixLaws.{allTo-none, allTo-more, allTo-stop, allTo-last}
-use Rattle.tables.specs.declared.Arc.{Arc}
-use Rattle.tables.specs.Table.{fieldOf, mostProcesses, arcAt}
-use Rattle.tables.specs.Reading.{endsRight, unlikeBefore}
-use Rattle.table_reader.proofs.Checks.{ends-low}
-use Rattle.tables.specs.PairLaws.{seen-none}
-use Rattle.table_reader.proofs.Unlike.{SeenArcs, seenArcs-next, unlikeBefore-cell}
+use lib.ListN.{replicate, length-replicate}
+use Rattle.base.specs.ChoiceLaws.{same?}
+use Rattle.base.specs.Checks.{Same, same, apart}
+use Rattle.base.specs.CountLaws.{replicate-zero}
+use Rattle.tables.specs.Table.{Fields, fieldOf}
+use Rattle.tables.specs.Pairs.{squareSide}
+use Rattle.table_reader.specs.Inner.{LastMet, Distinct, ChainTold}
+use Rattle.table_reader.proofs.Clashes.{told-all, told-clash}
 use Rattle.table_reader.proofs.arcs_unlike.Statement.{statement}
 use Rattle.table_reader.proofs.arcs_unlike.Tie as tie
 
+-- no two arcs of a process before p agree in both ends
+abbrev DistinctBefore : Fields → ℕ → Type 0
+DistinctBefore t p = (q : ℕ) → 1 ≤ q → q < p → Distinct t q
+
 abbrev Inv-loop : tie.InvT-loop
-Inv-loop s n m met₀ end k₀ met k =
-    (1 ≤ k) × (k ≤ end) × SeenArcs (fieldOf s) k met × (allTo (k - 1) (unlikeBefore (fieldOf s)) ≡ true)
+Inv-loop s n last₀ end p₀ last p = (1 ≤ p) × (p ≤ end) × LastMet p last × DistinctBefore (fieldOf s) p
 
 abbrev μ-loop : tie.MeasureT-loop
-μ-loop s n m met₀ end k₀ met k = end - k
+μ-loop s n last₀ end p₀ last p = end - p
 
--- the ends of the arc that was looked up are within the square
-small : (c : tie.After-arc-at Inv-loop μ-loop) → (c .arc-at .result .from ≤ mostProcesses) × (c .arc-at .result .to ≤ mostProcesses)
-small c =
-    let d = c .before .before .before .before in
-    let t = fieldOf (now (d .args .s)) in
-    let k = c .before .before .loop .k in
-    let low = ends-low t k (allTo-at (d .args .m) (endsRight t) (d .pre .1 .1) k (omega arith) (omega arith)) in
-    let from : c .arc-at .result .from ≡ arcAt t k .from = ap (λ (a : Arc). a .from) (c .arc-at .ensures) in
-    let to : c .arc-at .result .to ≡ arcAt t k .to = ap (λ (a : Arc). a .to) (c .arc-at .ensures) in
-    (omega (arith, low .0), omega (arith, low .1))
+none-met : LastMet 1 (replicate squareSide 0)
+none-met = record { long = length-replicate {A = ℕ} squareSide 0; low = λ b. omega (arith, replicate-zero squareSide b) }
+
+loop-holds : tie.Need-loop-holds Inv-loop μ-loop
+loop-holds c = (omega arith, omega arith, none-met, λ q l u. absurd (omega arith))
+
+chain-unlike-requires : tie.Need-chain-unlike-requires Inv-loop μ-loop
+chain-unlike-requires c κs =
+    let a = c .before .before .before .before in
+    (a .pre .0, (a .pre .1, ((omega arith, omega arith), c .before .before .loop .inv .2)))
+
+-- what the walk along one chain says
+told : (t : Fields) (p : ℕ) {b r : Bool} → b ≡ r → ChainTold t p b → ChainTold t p r
+told t p e h = subst (ChainTold t p) e h
 
 returns : tie.Need-returns Inv-loop μ-loop
 returns c =
-    let d = c .before .before .before in
-    let ends = small d in
-    sym (allTo-stop _ _ _ (omega arith) (omega arith)
-    (unlikeBefore-cell _ _ _ _ (ends .0) (ends .1) (omega arith) (d .arc-at .ensures) (d .before .before .loop .inv .2) ∙ ap not (c .if1 .taken)))
+    let d = c .before in
+    let t = fieldOf (now (d .before .before .before .before .before .args .s)) in
+    sym (told-clash t (told t (d .before .before .before .loop .p) (not-true (d .chain-unlike .result) (c .if1 .taken)) (d .chain-unlike .ensures .0)))
+
+more : (t : Fields) {p : ℕ} → DistinctBefore t p → Distinct t p → DistinctBefore t (p + 1)
+more t {p} h d q l u = at (same? p q)
+  where
+    at : Same p q → Distinct t q
+    at (same e _) = rw (← e) d
+    at (apart e _) = h q l (omega arith)
 
 loop-again : tie.Need-loop-again Inv-loop μ-loop
 loop-again c =
-    let d = c .before .before .before in
-    let ends = small d in (
-      omega arith,
-      omega arith,
-      seenArcs-next _ _ _ _ (ends .0) (ends .1) (omega arith) (d .arc-at .ensures) (d .before .before .loop .inv .2),
-      allTo-more _ _ (omega arith) (d .before .before .loop .inv .3)
-          (unlikeBefore-cell _ _ _ _ (ends .0) (ends .1) (omega arith) (d .arc-at .ensures) (d .before .before .loop .inv .2) ∙ ap not (c .if1 .left)),
-    )
+    let d = c .before in
+    let t = fieldOf (now (d .before .before .before .before .before .args .s)) in
+    let loop = d .before .before .before .loop in
+    let yes = not-false (d .chain-unlike .result) (c .if1 .left) in
+    (omega arith, omega arith, d .chain-unlike .ensures .1 yes, more t (loop .inv .3) (told t (loop .p) yes (d .chain-unlike .ensures .0)))
 
 returns-2 : tie.Need-returns-2 Inv-loop μ-loop
-returns-2 c = sym (allTo-last _ _ _ (omega arith) (c .before .loop .inv .3))
+returns-2 c =
+    let a = c .before .before .before in
+    let n = a .pre .0 in
+    sym (told-all (fieldOf (now (a .args .s))) (omega (arith, n .processes, n .few)) (a .pre .1)
+    (λ p r. c .before .loop .inv .3 p (r .0) (omega (arith, r .1, n .processes))))
 
 pub arcs-unlike-spec : {M : Type 1} → statement M
 arcs-unlike-spec =
@@ -63,13 +77,9 @@ arcs-unlike-spec =
     Inv-loop
     μ-loop
     (λ c. omega arith)
-    (λ c. (omega arith, omega arith, seen-none _ _, allTo-none _))
-    (λ c κs. omega arith)
-    (λ c. omega (arith, small (c .before) .0))
-    (λ c. omega (arith, small (c .before .before) .0, small (c .before .before) .1))
-    (λ c. omega (arith, small (c .before .before) .0, small (c .before .before) .1))
+    loop-holds
+    chain-unlike-requires
     returns
-    (λ c. omega (arith, small (c .before .before .before) .0, small (c .before .before .before) .1))
     (λ c. omega arith)
     (λ c. omega arith)
     loop-again

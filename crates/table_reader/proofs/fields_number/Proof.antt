@@ -1,6 +1,6 @@
 -- `table_reader::fields_number` meets its contract: each way out is a law of Numbers, by the tests that led there.
 -- Assumes nothing.
-use mathlib.Core.Bool.{true}
+use mathlib.Core.Bool.{Bool, true}
 use mathlib.Core.Path.{_≡_, ap, sym, _∙_}
 use borrow.Author.Needs.{needs}
 use denote.Ref.{now}
@@ -8,8 +8,8 @@ use Prim.Native.Nat.{ℕ}
 use Rattle.base.specs.Sums.{allTo}
 use Rattle.base.specs.ChoiceLaws.{value-yes, value-not}
 use Rattle.tables.specs.declared.Chain.the-variants.{Out}
-use Rattle.tables.specs.Table.{fieldOf}
-use Rattle.tables.specs.Reading.{endsRight, firstsRight, nextsRight, chainsRight}
+use Rattle.tables.specs.Table.{Fields, fieldOf, mOf}
+use Rattle.tables.specs.Reading.{endsRight, firstsRight, nextsRight, chainsRight, unlikeBefore}
 use Rattle.table_reader.specs.Inner.{Linked}
 use Rattle.table_reader.proofs.Numbers.{fieldsNumber-ends, fieldsNumber-firsts, fieldsNumber-nexts, fieldsNumber-out, fieldsNumber-in}
 use Rattle.table_reader.proofs.Numbers.{fieldsNumber-alike, fieldsNumber-none}
@@ -90,9 +90,16 @@ returns-5 c =
 
 arcs-unlike-requires : tie.Need-arcs-unlike-requires
 arcs-unlike-requires c κs =
-    let a = c .before .before .before .before .before .before .before .before in
+    let f = c .before .before in
+    let e = f .before .before in
+    let a = e .before .before .before .before in
     let d = a .before .before .before in
-    (d .pre .0, (d .pre .1, ends a))
+    let t = fieldOf (now (d .args .s)) in
+    (d .pre .0, record { ends = ap (λ (m : ℕ). allTo m (endsRight t)) (sym (d .pre .1)) ∙ ends a; linked = linked e; outs = outs f })
+
+-- check 7, by the code's M
+by-m : (t : Fields) {m : ℕ} {b : Bool} → m ≡ mOf t → allTo (mOf t) (unlikeBefore t) ≡ b → allTo m (unlikeBefore t) ≡ b
+by-m t e h = ap (λ (m : ℕ). allTo m (unlikeBefore t)) e ∙ h
 
 returns-6 : tie.Need-returns-6
 returns-6 c =
@@ -104,7 +111,7 @@ returns-6 c =
     let d = a .before .before .before in
     fieldsNumber-alike _ _ _ (d .pre .0 .processes) (d .pre .1) (ends a) (firsts b) (nexts e) (outs f)
     (value-yes (g .before .chains-right2 .ensures) (g .if5 .left))
-    (value-not (c .before .arcs-unlike .ensures) (c .if6 .taken))
+    (by-m _ (d .pre .1) (value-not (c .before .arcs-unlike .ensures) (c .if6 .taken)))
 
 returns-7 : tie.Need-returns-7
 returns-7 c =
@@ -116,7 +123,7 @@ returns-7 c =
     let d = a .before .before .before in
     fieldsNumber-none _ _ _ (d .pre .0 .processes) (d .pre .1) (ends a) (firsts b) (nexts e) (outs f)
     (value-yes (g .before .chains-right2 .ensures) (g .if5 .left))
-    (value-yes (c .before .arcs-unlike .ensures) (c .if6 .left))
+    (by-m _ (d .pre .1) (value-yes (c .before .arcs-unlike .ensures) (c .if6 .left)))
 
 pub fields-number-spec : {M : Type 1} → statement M
 fields-number-spec =

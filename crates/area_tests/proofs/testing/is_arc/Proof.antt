@@ -1,4 +1,4 @@
--- `area_tests::testing::is_arc` meets its contract: the first link, and then the second where no arc leads back, or zeros.
+-- `area_tests::testing::is_arc` meets its contract: zeros alone; or the first link, and then the second where no arc leads back, or zeros.
 -- Assumes nothing.
 use Prim.Native.Nat.{ℕ, _+_, _≤_}
 use mathlib.Core.Bool.{true}
@@ -13,7 +13,7 @@ use Rattle.areas.specs.Used.{linkSlots}
 use Rattle.areas.specs.Area.{linkPlace, arcOf, fieldsIn}
 use Rattle.area_tests.specs.AreaTests.{linkTest}
 use Rattle.area_tests.specs.AreaTestsLaws.{sizesTest-P}
-use Rattle.area_tests.proofs.Ways.{arcTest-no, arcTest-back, arcTest-free}
+use Rattle.area_tests.proofs.Ways.{arcTest-empty, arcTest-no, arcTest-back, arcTest-free}
 use Rattle.area_tests.proofs.testing.is_arc.Statement.{statement}
 use Rattle.area_tests.proofs.testing.is_arc.Tie as tie
 
@@ -45,18 +45,24 @@ returns : tie.Need-returns
 returns c =
     let i = c .before .before in
     let a = i .before .args in
-    sym (arcTest-no (a .area .now) (a .k) (word i) (word-is i) (value-not (c .before .is-link .ensures) (c .if1 .taken)))
+    sym (arcTest-empty (a .area .now) (a .k) (word i) (word-is i) (sym (c .before .is-free .ensures) ∙ c .if1 .taken))
+
+returns-2 : tie.Need-returns-2
+returns-2 c =
+    let i = c .before .before .before .before in
+    let a = i .before .args in
+    sym (arcTest-no (a .area .now) (a .k) (word i) (word-is i) (value-not (c .before .is-link .ensures) (c .if2 .taken)))
 
 arc-at-requires : tie.Need-arc-at-requires
 arc-at-requires c κs =
-    let a = c .before .before .before .before in
+    let a = c .before .before .before .before .before .before in
     let t = ap (λ (f : ℕ → ℕ). f 0) (a .pre .1 .0) in
     let s = a .pre .1 .1 .1 .0 .sizes in
     (a .pre .1 .1 .1 .1 .0 .0 ∙ sym t, (a .pre .1 .1 .1 .1 .1 .0, omega (arith, c .arc-at-arg .given .0)))
 
 -- the call as it began, and its table
 abbrev start : tie.After-arc-at → tie.Start
-start c = c .before .before .before .before .before
+start c = c .before .before .before .before .before .before .before
 
 abbrev table : tie.After-arc-at → Fields
 table c = fieldsIn (start c .args .area .now)
@@ -89,35 +95,39 @@ back c =
     ∙ ap (λ (x : Arc). arcOf (table d) (x .to) (x .from)) (arc-is d)
 
 -- the first link passed
-first : (c : tie.Else1) → linkTest linkSlots linkSize (c .before .before .before .args .area .now) (word (c .before .before)) ≡ true
-first c = value-yes (c .before .is-link .ensures) (c .if1 .left)
-
-returns-2 : tie.Need-returns-2
-returns-2 c =
-    let d = c .before .before in
-    let i = d .before .before .before .before .before in
-    let a = i .before .args in
-    arcTest-back (a .area .now) (a .k) (word i) (word-is i) (first (d .before .before .before)) (sym (back d) ∙ c .before .if2 .taken) (c .is-link2 .ensures)
+first : (c : tie.Else2)
+    → linkTest linkSlots linkSize (c .before .before .before .before .before .args .area .now) (word (c .before .before .before .before)) ≡ true
+first c = value-yes (c .before .is-link .ensures) (c .if2 .left)
 
 returns-3 : tie.Need-returns-3
 returns-3 c =
     let d = c .before .before in
-    let i = d .before .before .before .before .before in
+    let i = d .before .before .before .before .before .before .before in
     let a = i .before .args in
-    arcTest-free (a .area .now) (a .k) (word i) (word-is i) (first (d .before .before .before)) (λ e. c .before .if2 .left (back d ∙ e)) (c .is-free .ensures)
+    arcTest-back (a .area .now) (a .k) (word i) (word-is i) (first (d .before .before .before)) (sym (back d) ∙ c .before .if3 .taken) (c .is-link2 .ensures)
+
+returns-4 : tie.Need-returns-4
+returns-4 c =
+    let d = c .before .before in
+    let i = d .before .before .before .before .before .before .before in
+    let a = i .before .args in
+    arcTest-free (a .area .now) (a .k) (word i) (word-is i) (first (d .before .before .before)) (λ e. c .before .if3 .left (back d ∙ e)) (c .is-free2 .ensures)
 
 pub is-arc-spec : {M : Type 1} → statement M
 is-arc-spec =
     tie.close
     (tie.spec
     link-start-requires
+    (λ c. omega (arith, within c))
     (λ c κs. (omega arith, omega (arith, within c)))
     returns
-    arc-at-requires
-    (λ c. omega (arith, within (c .before .before .before .before)))
-    (λ c κs. ends c)
-    (λ c κs. (omega arith, omega (arith, within (c .before .before .before .before .before .before))))
+    (λ c κs. (omega arith, omega (arith, within (c .before .before))))
     returns-2
+    arc-at-requires
     (λ c. omega (arith, within (c .before .before .before .before .before .before)))
-    (λ c κs. omega (arith, within (c .before .before .before .before .before .before)))
-    returns-3)
+    (λ c κs. ends c)
+    (λ c κs. (omega arith, omega (arith, within (c .before .before .before .before .before .before .before .before))))
+    returns-3
+    (λ c. omega (arith, within (c .before .before .before .before .before .before .before .before)))
+    (λ c κs. omega (arith, within (c .before .before .before .before .before .before .before .before)))
+    returns-4)

@@ -10,6 +10,7 @@ use native.Mathlib.Omega.{arith}
 use borrow.Author.Needs.{needs}
 use borrow.Author.Tests.{not-false}
 use Rattle.base.specs.ChoiceLaws.{value-yes}
+use Rattle.base.specs.CountLaws.{replicate-zero}
 use Rattle.base.specs.Sums.{allTo}
 use Rattle.tables.specs.Table.{Fields, fieldOf, nOf, mOf}
 use Rattle.tables.specs.Reading.{fieldsNumber}
@@ -23,7 +24,7 @@ use Rattle.area_tests.specs.AreaTests.{mostBytes, fieldTest, recordTest,
 use Rattle.area_tests.specs.AreaTestsLaws.{sizesTest-P}
 use Rattle.area_tests.proofs.Loading.{copied-fields}
 use Rattle.area_tests.proofs.Ways.{failing}
-use Rattle.area_tests.proofs.Whole.{Sized, sized-of, sized-not, bounds, counted, accepted, wrong, replicate-zero}
+use Rattle.area_tests.proofs.Whole.{Sized, sized-of, sized-not, bounds, counted, accepted, wrong}
 use Rattle.area_tests.proofs.testing.test.Statement.{statement}
 use Rattle.area_tests.proofs.testing.test.Tie as tie
 
