@@ -1,5 +1,5 @@
--- Pairs of ends in a square that has a cell for each pair of numbers from 0 to the largest N: how check 7 is made in linear time, on the
--- arcs that are read and on the pairs that are written.
+-- Pairs of ends in a square that has a cell for each pair of numbers from 0 to the largest N: how check 7 is made in linear time on the pairs
+-- that are written. (On arcs that are read it goes along the chains, by table_reader.)
 --   squareSide, squareSize   == how many rows the square has, and cells in each; how many cells it has (in code SIDE, SQUARE_SIZE)
 --   Seen from to k cells   == a cell is set exactly if one of the first k pairs, from and to, is its row and its column
 -- Assumes nothing.
