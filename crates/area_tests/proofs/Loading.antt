@@ -4,7 +4,7 @@
 --   copied-fields    == bytes that hold all the fields are those of the area's table
 --   fieldTest-word, fieldTest-small   == the test of a field is that of its word; a field that passes has 16 bits
 -- Assumes nothing.
-use Prim.Native.Nat.{ℕ, _+_, _*_, _/_, _%_, _≤_, _<_}
+use Prim.Native.Nat.{ℕ, _+_, _*_, _/_, _%_, _≤_}
 use mathlib.Core.Bool.{true}
 use mathlib.Core.List.{List}
 use mathlib.Core.Path.{_≡_, refl, _∙_, fun-ext}

@@ -1,6 +1,6 @@
 -- `area_tests::testing::is_field` meets its contract: a word below 0 is no field, and of any other its number decides.
 -- Assumes nothing.
-use mathlib.Core.Path.{_≡_, ap, _∙_}
+use mathlib.Core.Path.{_≡_, ap}
 use borrow.Author.Needs.{needs}
 use lib.Dec.{leb}
 use lib.IntN.{pos, natAbs}
