@@ -1,7 +1,8 @@
 //! Times the proved library against the plain Rust in one run, on the same input. Every time is the
-//! median of repetitions in which the two take turns. All calls are timed on the waits in which each
-//! process waits for the next four, and a whole check by one running on, and by one that is shuffled,
-//! also on waits of other shapes, with the bounds that it is to keep. `HELP` says how it is called.
+//! median of repetitions in which the two take turns. Reading, start, one pick and a whole check by one
+//! running on, and by one that is shuffled, are timed on waits of several shapes, with the bounds that
+//! they are to keep; the first shape, in which each process waits for the next four, is the one of the
+//! plot. `HELP` says how it is called.
 
 mod plot;
 mod programs;
@@ -184,7 +185,7 @@ fn picks(input: &Input) -> Timed<'_> {
     })
 }
 
-/// The times of one kind of whole check, on all inputs.
+/// The times of one thing on all inputs.
 fn by_shape(inputs: &[Input], rows: impl Iterator<Item = Row>) -> Vec<Shaped> {
     let shaped = inputs.iter().zip(rows).map(|(input, row)| Shaped {
         shape: input.shape,
@@ -215,14 +216,12 @@ fn bench(plot: Option<&OsString>) -> ExitCode {
     }
     let inputs: Vec<Input> =
         SHAPES.into_iter().flat_map(|shape| SIZES.map(|n| Input::new(shape, n))).collect();
-    let (next_four, others) = inputs.split_at(SIZES.len());
-    let largest = &next_four[SIZES.len() - 1];
+    let largest = &inputs[SIZES.len() - 1];
     assert_eq!(largest.picks.len(), 4 * largest.size.m, "D of a strongly connected graph");
     let mut things: Vec<Timed> = Vec::new();
-    for input in next_four {
+    for input in &inputs {
         things.extend([read(input), start(input), pick(input), whole(input)]);
     }
-    things.extend(others.iter().map(whole));
     things.extend(inputs.iter().map(shuffled));
     things.push(picks(largest));
     let mut rows = time_all(things);
@@ -231,21 +230,23 @@ fn bench(plot: Option<&OsString>) -> ExitCode {
         Ok(timed) => rows.extend(time_all(timed.into())),
         Err(reason) => println!("The program is not timed: {reason}.\n"),
     }
-    let (growth, rest) = rows.split_at(4 * SIZES.len());
-    let (on_others, rest) = rest.split_at(others.len());
+    let (fours, rest) = rows.split_at(4 * inputs.len());
     let (shuffled, rest) = rest.split_at(inputs.len());
-    let growth: Vec<[Row; 4]> =
-        growth.chunks_exact(4).filter_map(|rows| rows.try_into().ok()).collect();
+    let fours: Vec<[Row; 4]> =
+        fours.chunks_exact(4).filter_map(|rows| rows.try_into().ok()).collect();
+    let growth = &fours[..SIZES.len()];
     let on_largest = &shuffled[SIZES.len() - 1..SIZES.len()];
     print_rows(&[&growth[SIZES.len() - 1], on_largest, rest].concat());
-    print_growth(&growth);
-    let whole = growth.iter().map(|rows| rows[3]).chain(on_others.iter().copied());
-    let whole = by_shape(&inputs, whole);
+    print_growth(growth);
+    let shaped = |thing: usize| by_shape(&inputs, fours.iter().map(|rows| rows[thing]));
+    let whole = shaped(3);
+    print_shapes(&shaped(1), |_| 1.5);
+    print_shapes(&shaped(2), |_| 1.5);
     print_shapes(&whole, |n| if n == 128 { 1.5 } else { 2.0 });
     print_deliveries(&whole);
     print_shapes(&by_shape(&inputs, shuffled.iter().copied()), |_| 2.0);
     if let Some(path) = plot {
-        if let Err(error) = std::fs::write(path, plot::draw(&growth)) {
+        if let Err(error) = std::fs::write(path, plot::draw(growth)) {
             eprintln!("bench: {}: {error}", path.to_string_lossy());
             return ExitCode::FAILURE;
         }

@@ -73,7 +73,7 @@ pub fn print_growth(growth: &[[Row; 4]]) {
     }
 }
 
-/// Both times of a whole check on waits of one shape, and its deliveries.
+/// Both times of one thing on waits of one shape, and the deliveries of the whole check.
 pub struct Shaped {
     pub shape: &'static str,
     pub deliveries: usize,
@@ -83,8 +83,8 @@ pub struct Shaped {
 /// How many times as long one delivery may take in the largest check as in the one before.
 const DELIVERY_BOUND: f64 = 1.1;
 
-/// For each shape its whole checks by size; `bound` says by N how many times as long as the plain Rust
-/// the proved code may take.
+/// For each shape its times by size; `bound` says by N how many times as long as the plain Rust the
+/// proved code may take.
 pub fn print_shapes(shaped: &[Shaped], bound: fn(usize) -> f64) {
     let what = shaped.first().map_or("", |check| check.row.what);
     println!("\n| {what} | N, M | deliveries | proved | plain Rust | ratio | to be within |");
