@@ -1,6 +1,6 @@
--- What the check program prints: Program (everything, as one function of the input's bytes) and Form (the call that forms it). ProgramLaws: the
--- run at the end is over and what 01 says of it, and how the text is made up in an area. LongestLaws: how long it is at most. Examples
--- computes 01's example.
+-- What the check program prints: Program (everything, as one function of the input's bytes) and Form (the call that forms it). Examples computes
+-- 01's example from it. ProgramLaws: the start of a begun input, and that its check is over at the end. OwnLaws, LongestLaws, FormLaws: the
+-- program's own deliveries one by one, how long the output is at most, and the answers of the call.
 pub mod Program
 pub mod Form
 pub mod Examples

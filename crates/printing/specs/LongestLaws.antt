@@ -59,7 +59,7 @@ use Rattle.lines.specs.Text.{processLine}
 use Rattle.lines.specs.LengthLaws.{delivery-most, refused-pick-most, refused-most, process-most, report-most}
 use Rattle.printing.specs.Program.{enough, numberIn, firstRun, pickLine, picksText, ownLine, unlessRefused, nextChosen, ownText, processesText}
 use Rattle.printing.specs.Program.{pickCalls, pickedRun, endRun, reportLines, endText, restText, checkText, programText}
-use Rattle.printing.specs.Form.{longestOutput}
+use Rattle.printing.specs.Form.{pickRoom, ownRoom, processRoom, reportRoom, longestOutput}
 use Rattle.printing.specs.ProgramLaws.{program-refused, program-begun, program-own, program-report, begun, table-right, table-sound}
 use Rattle.printing.specs.OwnLaws.{own-over, own-turn}
 
@@ -119,22 +119,22 @@ module _ {t : Fields} {r : Run} (f : Storable t r) where
           let e = neighbours-ends (r .waits) (f .sound) a b n in
           rw (f .formed, n, o) (link-fine a b (omega (arith, e .1, f .sound .few)) (omega (arith, e .3, f .sound .few)))
 
-  pub pick-short : (a b : ℕ) → a < 65536 → b < 65536 → length (pickLine a b (pick r a b 1 .answer)) ≤ 28
+  pub pick-short : (a b : ℕ) → a < 65536 → b < 65536 → length (pickLine a b (pick r a b 1 .answer)) ≤ pickRoom
   pick-short a b l u = at (MachineCalls.pick knot r a b 1 .answer) (pick-fine a b)
     where
-      at : (x : Answer Message) → Fine a b x → length (pickLine a b (deliveryOf x)) ≤ 28
+      at : (x : Answer Message) → Fine a b x → length (pickLine a b (deliveryOf x)) ≤ pickRoom
       at (given m) h = omega (arith, delivery-most false a b m (h .0) (h .1) (h .2))
       at (refusal n) h = refused-pick-most a b n l u h
 
-  pub own-short : length (ownLine (nextChosen r)) ≤ 26
+  pub own-short : length (ownLine (nextChosen r)) ≤ ownRoom
   unfolding MachineCalls.deliverOn
   own-short = on (lowest r) refl
     where
-      at : (a b : ℕ) (x : Answer Message) → Fine a b x → length (ownLine (chosenAnswer (pair a b) (deliveryOf x))) ≤ 26
+      at : (a b : ℕ) (x : Answer Message) → Fine a b x → length (ownLine (chosenAnswer (pair a b) (deliveryOf x))) ≤ ownRoom
       at a b (given m) h = omega (arith, delivery-most true a b m (h .0) (h .1) (h .2))
       at a b (refusal n) h = omega (arith, refused-most n h)
 
-      on : (c : Selection) → lowest r ≡ c → length (ownLine (chosenAnswer c (deliverOn r c .answer))) ≤ 26
+      on : (c : Selection) → lowest r ≡ c → length (ownLine (chosenAnswer c (deliverOn r c .answer))) ≤ ownRoom
       on nobody e = omega (arith, refused-most 24 (omega arith))
       on (pair a b) e =
           let p = lowest-names r a b e in
@@ -147,7 +147,7 @@ module _ (bs : List ℕ) (small : (i : ℕ) → getD bs i 0 < 256) (t : Fields) 
   pick-number : (j : ℕ) → fieldOf (drop (tableEnd bs) bs) j < 65536
   pick-number j = fieldOf-small (drop (tableEnd bs) bs) (λ i. rw (getD-drop (tableEnd bs) bs i 0) (small (tableEnd bs + i))) j
 
-  pub picks-short : (j k : ℕ) (r : Run) → Storable t r → length (picksText bs j k r) ≤ 28 * k
+  pub picks-short : (j k : ℕ) (r : Run) → Storable t r → length (picksText bs j k r) ≤ pickRoom * k
   unfolding picksText pickFrom pickTo
   picks-short j zero r f = omega arith
   picks-short j (suc k) r f =
@@ -172,7 +172,7 @@ Answers k before r total = runFrom knot fixedOrder k before 0 r .answer ≡ Ran.
 
 -- the lines of up to k deliveries, where so many were made before
 abbrev Short : ℕ → ℕ → Run → ℕ → Type 0
-Short k before r total = length (ownText k r) + 26 * before ≤ 26 * total
+Short k before r total = length (ownText k r) + ownRoom * before ≤ ownRoom * total
 
 says : {o p : RanOn Process Message} → o ≡ p → {x : Ran} → o .answer ≡ x → p .answer ≡ x
 says e f = sym (ap (λ (z : RanOn Process Message). z .answer) e) ∙ f
@@ -226,11 +226,11 @@ owns-short t (suc k) before total r f e = at (tested (over r)) (owns-short t k (
 -- ---- the processes and the report
 
 module _ {t : Fields} {r : Run} (f : Storable t r) where
-  pub processes-short : length (processesText r) ≤ 32 * r .waits .n
+  pub processes-short : length (processesText r) ≤ processRoom * r .waits .n
   unfolding processesText
   processes-short =
       let g = wellFormed-P knot r .0 (f .formed) in
-      let each = sumTo-most (r .waits .n) 32 (λ p. length (processLine p (r .process p)))
+      let each = sumTo-most (r .waits .n) processRoom (λ p. length (processLine p (r .process p)))
       (λ p l u. process-most (r .process p) (and-left (inRange (r .process p)) (fatherRight (r .waits) p (r .process p)) (g .records p (l, u))) p (omega (arith, f .sound .few))) in
       omega (arith, inRow-length (r .waits .n) (λ p. processLine p (r .process p)))
 
@@ -266,7 +266,7 @@ module _ (bs : List ℕ) (e : numberIn bs ≡ 0) where
         countTo-most (mOf t) (λ k. reaches (waitsOf t) (arcAt t k .to) (startIn bs)),
       )
 
-  own-few : length (ownText (knot .most) (pickedRun bs)) ≤ 26 * d
+  own-few : length (ownText (knot .most) (pickedRun bs)) ≤ ownRoom * d
   unfolding MachineCalls.runOn
   own-few =
       let made = Lists.passed (pickCalls bs) (firstRun bs) .made in
@@ -277,7 +277,7 @@ module _ (bs : List ℕ) (e : numberIn bs ≡ 0) where
   unfolding waitsOf
   size = ap (λ (w : Waits). w .n) (fits-end .held .waits)
 
-  report-short : length (reportLines (report (endRun (pickedRun bs)))) ≤ 61
+  report-short : length (reportLines (report (endRun (pickedRun bs)))) ≤ reportRoom
   unfolding outsiders lowestOutsider waitsOf
   report-short =
       let sd = table-sound bs e in
@@ -305,8 +305,8 @@ module _ (bs : List ℕ) (e : numberIn bs ≡ 0) where
       let o : List ℕ = ownText (knot .most) (pickedRun bs) in
       let q : List ℕ = processesText (endRun (pickedRun bs)) in
       let r : List ℕ = reportLines (report (endRun (pickedRun bs))) in
-      let picks : length p ≤ 28 * picksIn bs = picks-short bs small t 0 (picksIn bs) (firstRun bs) (fits []) in
-      let rows : length q ≤ 32 * endRun (pickedRun bs) .waits .n = processes-short fits-end in
+      let picks : length p ≤ pickRoom * picksIn bs = picks-short bs small t 0 (picksIn bs) (firstRun bs) (fits []) in
+      let rows : length q ≤ processRoom * endRun (pickedRun bs) .waits .n = processes-short fits-end in
       let all : length (p ++ (o ++ (q ++ r))) ≡ length p + (length o + (length q + length r)) =
       rw (length-append p (o ++ (q ++ r)), length-append o (q ++ r), length-append q r) in
       omega (arith, all, picks, own-few, d-few, rows, size, report-short, sizes)

@@ -88,7 +88,7 @@ picksText bs j (suc k) r =
     pickLine (pickFrom bs j) (pickTo bs j) (pick r (pickFrom bs j) (pickTo bs j) 1 .answer)
     ++ picksText bs (suc j) k (pick r (pickFrom bs j) (pickTo bs j) 1 .run)
 
--- `own 2 1 ack 1 1`; a refusal, which never comes (own-made in ProgramLaws), prints its number
+-- `own 2 1 ack 1 1`; a refusal, which never comes (program-own in ProgramLaws), prints its number
 abbrev pub ownLine : ChosenDelivery → List ℕ
 ownLine (ChosenDelivery.Delivered a b m) = deliveryLine true a b m
 ownLine (ChosenDelivery.Refused n) = refusedLine n

@@ -1,8 +1,8 @@
 // Everything that the check program prints for an input, whatever its bytes (01, "The check program"): the picks, the deliveries that it makes
 // itself, the processes and the report; or the number of the input's refusal alone. `form` forms it in bytes that the caller lends, and its
 // promise is an equation of these bytes with one function of the input's bytes (specs/Program). Each line is put by `lines` and each part of
-// the input found by `inputs`. The parts below `form` say of the area what the calls in it make of it, and of the lent bytes that the lines
-// of just these calls were put behind those before.
+// the input found by `inputs`. Each part of `form` says which run the area holds after it, and that just its own lines were put, behind
+// those before.
 //
 // `check_standard_input` reads, calls `form` and writes. It stands on `runs`, `reports`, `choosing` and below, `inputs`, `lines`, and the kit's
 // `io` and `libc`.
