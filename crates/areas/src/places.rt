@@ -4,7 +4,7 @@ ghost use Prim.Native.Nat.{_+_, _*_, _≤_};
 ghost use Rattle.tables.specs.Table.{mostProcesses, mostArcs, fieldTotal};
 ghost use Rattle.areas.specs.Places.{fieldPlace, recordStart, linkStart, areaLength};
 
-// The words before the table that are in use: which check, the start, the accepted deliveries, the edition.
+// The words before the table that are in use: which check and which layout, the start, the accepted deliveries, the edition.
 pub const CHECK: usize = 0;
 
 pub const KNOT_CHECK: i32 = 2; // 1 in areas from before second sums (02, N3)

@@ -5,9 +5,10 @@ use steps::Process;
 ghost use mathlib.Core.Path.{_≡_};
 ghost use Rattle.checks.specs.Run.{isEdition};
 
-// "at most 4 messages waiting", on each link; "accepted deliveries, 0 to 2048"
+// "at most 4 messages waiting", on each link
 pub const MOST_WAITING: usize = 4;
 
+// "accepted deliveries, 0 to 2048"
 pub const MOST_DELIVERIES: u32 = 2048;
 
 // 02, N4: "the edition, 1 or 2".
@@ -26,11 +27,13 @@ pub enum Delivery {
     Refused(u32),
 }
 
+// The verdict: knot, or none.
 pub enum Verdict {
     Knot,
     Free,
 }
 
+// The mark of a payment: returned, or held.
 pub enum Mark {
     Returned,
     Held,

@@ -9,6 +9,7 @@ ghost use lib.ListN.{length};
 ghost use Rattle.lines.specs.Text.{digit, decimal, signed, field, countField, who, linkText, messageText, flagsText, sumsText, numberLine};
 ghost use Rattle.lines.specs.Adding.{Added};
 
+// Any bytes.
 pub fn put_word(out: &mut [u8], at: usize, word: &[u8]) -> usize
     requires { ⌜ at + length (now word) ≤ length (now out) ⌝ }
     ensures { λ r. ⌜ Added (length (now (word .entry))) (now (out .entry)) at (now (word .entry)) (now (out .exit)) r ⌝ }
@@ -64,6 +65,7 @@ fn put_signed(out: &mut [u8], at: usize, z: i32) -> usize
     put_number(out, end, n)
 }
 
+// A space, and a number.
 pub fn put_field(out: &mut [u8], at: usize, n: u32) -> usize
     requires { ⌜ at + 11 ≤ length (now out) ⌝ }
     ensures { λ r. ⌜ Added 11 (now (out .entry)) at (field n) (now (out .exit)) r ⌝ }
@@ -72,6 +74,7 @@ pub fn put_field(out: &mut [u8], at: usize, n: u32) -> usize
     put_number(out, end, n)
 }
 
+// A space, and a signed number.
 pub fn put_count_field(out: &mut [u8], at: usize, z: i32) -> usize
     requires { ⌜ at + 12 ≤ length (now out) ⌝ }
     ensures { λ r. ⌜ Added 12 (now (out .entry)) at (countField z) (now (out .exit)) r ⌝ }

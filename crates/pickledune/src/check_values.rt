@@ -18,18 +18,21 @@ ghost use Rattle.checks.specs.Calls.{deliveryNumber, reportNumber, readingNumbe
 ghost use Rattle.machine.specs.Calls.{ranNumber, ranMade};
 ghost use Rattle.pickledune.specs.TableValues.{startedNumber};
 
+// Of a pick: the kind and the counts of the message.
 pub struct DeliveryValues {
     pub number: u32,
     pub kind: u32,
     pub counts: TwoCounts,
 }
 
+// Of running on: whether it is over, and the number made.
 pub struct RanValues {
     pub number: u32,
     pub over: u32,
     pub made: u32,
 }
 
+// Of a report: its five values.
 pub struct ReportValues {
     pub number: u32,
     pub deliveries: u32,
@@ -39,11 +42,13 @@ pub struct ReportValues {
     pub returned: u32,
 }
 
+// Of reading a record: the record.
 pub struct RecordValues {
     pub number: u32,
     pub process: Process,
 }
 
+// The answer of a start.
 pub fn started_number(answer: Started) -> u32
     ensures { λ r. ⌜ r ≡ startedNumber answer ⌝ }
 {
@@ -75,6 +80,7 @@ pub fn carried(message: Message) -> TwoCounts
     }
 }
 
+// The answer of a pick.
 pub fn delivery_values(answer: Delivery) -> DeliveryValues
     ensures { λ r. ⌜ (r .number ≡ deliveryNumber answer) × (r .kind ≡ deliveryKind answer) × (r .counts ≡ deliveryCounts answer) ⌝ }
 {
@@ -92,6 +98,7 @@ pub fn delivery_values(answer: Delivery) -> DeliveryValues
     }
 }
 
+// The answer of running on.
 pub fn ran_values(answer: Ran) -> RanValues
     ensures { λ r. ⌜ (r .number ≡ ranNumber answer) × (r .over ≡ ranOver answer) × (r .made ≡ ranMade answer) ⌝ }
 {
@@ -134,6 +141,7 @@ fn returned_bit(mark: Mark) -> u32
     }
 }
 
+// The answer of a report.
 pub fn report_values(answer: Report) -> ReportValues
     ensures { λ r. ⌜ (r .number ≡ reportNumber answer) × (r .deliveries ≡ reportCount answer) × (r .knot ≡ reportKnot answer) ×
         (r .outside ≡ reportOutside answer) × (r .escape ≡ reportEscape answer) × (r .returned ≡ reportReturned answer) ⌝ }
@@ -164,6 +172,7 @@ pub fn report_values(answer: Report) -> ReportValues
     }
 }
 
+// The answer of reading a record.
 pub fn record_values(answer: Reading) -> RecordValues
     ensures { λ r. ⌜ (r .number ≡ readingNumber answer) × (r .process ≡ readingProcess answer) ⌝ }
 {

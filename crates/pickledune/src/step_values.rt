@@ -12,6 +12,7 @@ ghost use Rattle.steps.specs.Step.{noCounts};
 ghost use Rattle.steps.specs.Effect.{replyCounts};
 ghost use Rattle.lending.specs.Lent.{lentRecord};
 
+// Of a step: the record, the probes, and the acknowledgement with its receiver.
 pub struct StepValues {
     pub number: u32,
     pub process: Process,
@@ -58,6 +59,7 @@ fn probes_number(probes: Probes) -> u32
     }
 }
 
+// The receiver of the acknowledgement, 0 if there is none.
 pub fn reply_to(reply: Reply) -> u32
     ensures { λ r. ⌜ r ≡ replyTo reply ⌝ }
 {
@@ -67,6 +69,7 @@ pub fn reply_to(reply: Reply) -> u32
     }
 }
 
+// The counts of the acknowledgement.
 pub fn reply_counts(reply: Reply) -> TwoCounts
     ensures { λ r. ⌜ r ≡ replyCounts reply ⌝ }
 {

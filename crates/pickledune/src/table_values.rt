@@ -9,17 +9,20 @@ ghost use Rattle.pickledune.specs.TableValues.{numberOf, nFound, mFound,
 ghost use Rattle.tables.specs.Walking.{openedNumber, openedArc, nextArc};
 ghost use Rattle.pickledune.specs.Interface.{chainOf};
 
+// Of reading: N and M.
 pub struct ReadValues {
     pub number: u32,
     pub n: usize,
     pub m: usize,
 }
 
+// Of writing: the length.
 pub struct WriteValues {
     pub number: u32,
     pub length: usize,
 }
 
+// Of opening: the arc.
 pub struct OpenValues {
     pub number: u32,
     pub arc: usize,
@@ -32,6 +35,7 @@ pub fn chain_of(number: u32) -> Chain
     if number == 0 { Chain::Out } else { Chain::In }
 }
 
+// The answer of reading.
 pub fn read_values(answer: Reading) -> ReadValues
     ensures { λ r. ⌜ (r .number ≡ numberOf answer) × (r .n ≡ nFound answer) × (r .m ≡ mFound answer) ⌝ }
 {
@@ -41,6 +45,7 @@ pub fn read_values(answer: Reading) -> ReadValues
     }
 }
 
+// The answer of writing.
 pub fn write_values(answer: Writing) -> WriteValues
     ensures { λ r. ⌜ (r .number ≡ writingNumber answer) × (r .length ≡ writtenLength answer) ⌝ }
 {
@@ -50,6 +55,7 @@ pub fn write_values(answer: Writing) -> WriteValues
     }
 }
 
+// The answer of opening.
 pub fn open_values(answer: Opened) -> OpenValues
     ensures { λ r. ⌜ (r .number ≡ openedNumber answer) × (r .arc ≡ openedArc answer) ⌝ }
 {
@@ -59,6 +65,7 @@ pub fn open_values(answer: Opened) -> OpenValues
     }
 }
 
+// The answer of a step along a chain.
 pub fn next_arc(answer: Next) -> usize
     ensures { λ r. ⌜ r ≡ nextArc answer ⌝ }
 {

@@ -11,11 +11,13 @@ ghost use Rattle.steps.specs.Step.{newSubordinate, rule1, setSucceeding,
 ghost use Rattle.steps.specs.Step.{startStepped};
 ghost use Rattle.steps.specs.Within.{Addable, settled};
 
-// "cs (−128 to 128), num (0 to 256)"
+// "cs (−128 to 128)": the largest sum, which is the largest count too
 pub const MOST_COUNT: i32 = 128;
 
+// .. and the least
 pub const LEAST_COUNT: i32 = -MOST_COUNT;
 
+// "num (0 to 256)"
 pub const MOST_NUM: u32 = 256;
 
 // The largest number of a process, and of its successors or predecessors, as a record holds them.
@@ -27,12 +29,14 @@ pub struct TwoCounts {
     pub second: i32,
 }
 
+// A message: "a suc probe, a pre probe or an acknowledgement with its count", and its second count (02, N3).
 pub enum Message {
     Suc,
     Pre,
     Ack(TwoCounts),
 }
 
+// A process's record: "succeeding, preceding, subordinate .., cs .., num .. and father", and the second sum (02, N3).
 pub struct Process {
     pub succeeding: u32,
     pub preceding: u32,

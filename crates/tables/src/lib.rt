@@ -3,14 +3,16 @@
 ghost use mathlib.Core.Path.{_≡_};
 ghost use Rattle.tables.specs.Table.{isProcess};
 
-// The largest N, and the largest M.
+// The largest N.
 pub const MOST_PROCESSES: usize = 128;
 
+// The largest M.
 pub const MOST_ARCS: usize = 512;
 
 // A square of pairs of ends: a row for each process and one for 0, and as many columns.
 pub const SIDE: usize = MOST_PROCESSES + 1;
 
+// All its cells.
 pub const SQUARE_SIZE: usize = SIDE * SIDE;
 
 // The two chains of a process.
