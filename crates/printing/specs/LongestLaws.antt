@@ -301,15 +301,8 @@ module _ (bs : List ℕ) (e : numberIn bs ≡ 0) where
   check-short : ((i : ℕ) → getD bs i 0 < 256) → length (checkText bs) ≤ longestOutput
   unfolding checkText restText endText inTurn
   check-short small =
-      let p : List ℕ = picksText bs 0 (picksIn bs) (firstRun bs) in
-      let o : List ℕ = ownText (knot .most) (pickedRun bs) in
-      let q : List ℕ = processesText (endRun (pickedRun bs)) in
-      let r : List ℕ = reportLines (report (endRun (pickedRun bs))) in
-      let picks : length p ≤ pickRoom * picksIn bs = picks-short bs small t 0 (picksIn bs) (firstRun bs) (fits []) in
-      let rows : length q ≤ processRoom * endRun (pickedRun bs) .waits .n = processes-short fits-end in
-      let all : length (p ++ (o ++ (q ++ r))) ≡ length p + (length o + (length q + length r)) =
-      rw (length-append p (o ++ (q ++ r)), length-append o (q ++ r), length-append q r) in
-      omega (arith, all, picks, own-few, d-few, rows, size, report-short, sizes)
+      let picks = picks-short bs small t 0 (picksIn bs) (firstRun bs) (fits []) in
+      simp length-append (omega (arith, picks, own-few, d-few, processes-short fits-end, size, report-short, sizes))
 
 pub program-short : (bs : List ℕ) → ((i : ℕ) → getD bs i 0 < 256) → length (programText bs) ≤ longestOutput
 program-short bs small = at (same? (numberIn bs) 0)
