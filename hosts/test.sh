@@ -157,6 +157,25 @@ unwritten() {
     target/bin/knot_check < crates/knot_check/stdin > /dev/full 2> "$work/said" && grep '^knot_check: writing standard output failed$' "$work/said"
 }
 
+# What README's line for a script says, in a folder of its own, of the input that stands there.
+script_says() {
+    line=$(sed -n 's/^    \(target.bin.knot_check < input > output .*\)$/\1/p' README.md)
+    (cd "$work/script" && sh -c "$line")
+}
+
+# It says `checked` of an output that came out whole, and nothing of one that was cut off, here by a file that may have one block, of which the
+# beginning came out, or of a refused input.
+script_line() {
+    most=crates/knot_check_most
+    mkdir -p "$work/script/target" && ln -sfn "$here/target/bin" "$work/script/target/bin" && cp "$most/stdin" "$work/script/input" || return 1
+    [ "$(script_says)" = checked ] && cmp "$work/script/output" "$most/stdout" || return 1
+    [ -z "$(trap '' XFSZ && ulimit -f 1 && script_says)" ] || return 1
+    bytes=$(wc -c < "$work/script/output")
+    [ "$bytes" -gt 0 ] && cmp -n "$bytes" "$work/script/output" "$most/stdout" && cat "$work/script/errors" || return 1
+    : > "$work/script/input"
+    [ -z "$(script_says)" ] && grep '^refused 1$' "$work/script/output"
+}
+
 # An input that comes in pieces is read whole.
 pieces() {
     { dd bs=3 count=4; sleep 0.2; dd bs=7; } < crates/knot_check/stdin 2> /dev/null | target/bin/knot_check | diff crates/knot_check/stdout -
@@ -164,6 +183,7 @@ pieces() {
 
 run "the program says that a read failed, and prints no run" unread
 run "the program says that a write failed" unwritten
+run "README's line for a script tells whether all came out" script_line
 run "the program reads an input that comes in pieces" pieces
 
 # ---- C
@@ -250,6 +270,7 @@ tools_help() {
     for tool in hosts/test.sh hosts/c/stack.sh hosts/fuzz/run.sh tools/*.sh ${python:+tools/*.py}; do
         helps "$tool" "$tool" || return 1
     done
+    helps target/stack-runs/stack stack
 }
 
 run "every tool answers --help" tools_help

@@ -13,7 +13,8 @@
  *       header and archive are not of one version: compile the host again with the header of its archive
  *
  * Stored areas. Word PICKLEDUNE_LAYOUT_WORD of a run area, its first, is the version of the area's layout (docs/LAYOUT.md). A start stores
- * it with every area, no later call changes it, and a call that is lent an area with any other number there answers 21 and changes nothing.
+ * it with every area, no later call changes it, and any call but a start that is lent an area with another number there answers 21 and
+ * changes nothing.
  * A host that keeps areas, or gets them from another program, reads this word before it trusts the rest:
  *
  *   if (words == 0 || area[PICKLEDUNE_LAYOUT_WORD] != (int32_t)pickledune_layout())
@@ -177,7 +178,7 @@ static inline const char *pickledune_refusal_text(uint32_t number)
     case PICKLEDUNE_REFUSED_BYTES_LEFT: return "1 to 3 bytes are left after the last pick";
     case PICKLEDUNE_REFUSED_INPUT_LONG: return "the input is longer than 20480 bytes";
     case PICKLEDUNE_REFUSED_NOT_WELL_FORMED: return "the run area is not well formed, or a value of the step is out of its range";
-    case PICKLEDUNE_REFUSED_OUT_OF_RANGE: return "the step would take a value out of its range";
+    case PICKLEDUNE_REFUSED_OUT_OF_RANGE: return "the step would take a value out of its range, put a fifth message on a link, or acknowledge to father 0";
     case PICKLEDUNE_REFUSED_OVER: return "the run is over";
     case PICKLEDUNE_REFUSED_NO_MESSAGE: return "no message waits there";
     case PICKLEDUNE_REFUSED_NO_LINK: return "there is no such link or process";

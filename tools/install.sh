@@ -3,11 +3,12 @@
 #
 #   tools/install.sh PREFIX
 #
-# PREFIX is a folder, such as /usr/local, which gets
+# PREFIX is a folder, such as /usr/local, whose name has letters, digits and /._+@,- alone. It gets
 #   include/pickledune.h            the header
 #   lib/libpickledune.a             the archive, for x86-64 Linux
 #   lib/pkgconfig/pickledune.pc     what pkg-config tells a host's build: gcc host.c $(pkg-config --cflags --libs pickledune)
 #   bin/knot_check                  the check program
+# Where pkg-config does not look in PREFIX by itself, a host's build sets PKG_CONFIG_PATH=PREFIX/lib/pkgconfig.
 # The archive and the program must be built: rt staticlib pickledune, and rt check knot_check. If DESTDIR is set, all is put below that folder
 # instead, and is written for use in PREFIX. The version is the header's.
 set -eu
@@ -32,7 +33,7 @@ esac
 case $prefix in
 *[!A-Za-z0-9/._+@,-]*) refuse "pkg-config is to name this folder, which has another character than letters, digits and /._+@,-: '$prefix'" 2 ;;
 esac
-[ "$prefix" = / ] || prefix=${prefix%/}
+while [ "$prefix" != / ] && [ "$prefix" != "${prefix%/}" ]; do prefix=${prefix%/}; done
 case ${DESTDIR-} in
 '' | /*) below=${DESTDIR-} ;;
 *) below=$(pwd)/$DESTDIR ;;

@@ -620,7 +620,8 @@ def asked(doc, *words):
         print(doc.strip())
         sys.exit()
     if len(given) > 1 or any(word not in words for word in given):
-        sys.exit(doc.strip())
+        print("%s: '%s' is not known; --help says what is" % (os.path.basename(sys.argv[0]), " ".join(given)), file=sys.stderr)
+        sys.exit(2)
     return given[0] if given else None
 
 

@@ -148,6 +148,11 @@ int main(int count, char **words)
     long most[CALLS];
     long largest = 0;
     char *end = NULL;
+    if (count == 2 && (strcmp(words[1], "-h") == 0 || strcmp(words[1], "--help") == 0)) {
+        puts("Measures the stack that each call of the C interface takes.\n\n  stack [RUNS]\n\n"
+             "RUNS is how often a whole check is made, 100 if none are named. hosts/c/stack.sh builds it and runs it.");
+        return 0;
+    }
     long runs = count < 2 ? 100 : strtol(words[1], &end, 10);
     if (count > 2 || runs < 1 || (end && *end))
         stop("usage: stack [RUNS]");

@@ -5,7 +5,7 @@
 --   refused-pick-most, refused-most   == a refused pick of any two ends, and a refusal, by a number of two digits
 --   process-most, report-most   == a process, and a report
 -- Assumes nothing.
-use Prim.Native.Nat.{ℕ, zero, suc, _+_, _^_, _<_, _≤_}
+use Prim.Native.Nat.{ℕ, suc, _+_, _^_, _<_, _≤_}
 use mathlib.Core.Bool.{Bool, true, false, _&&_}
 use mathlib.Core.List.{List, _++_}
 use mathlib.Core.Path.{_≡_, refl}

@@ -2,7 +2,7 @@
 --   layout-started    == an area that a start left has this layout
 --   layout-accepted   == so has every well-formed area
 --   layout-kept       == no list of calls changes the word, whatever words it is given
---   layout-other      == an area with another number there gets 21 from every call and keeps every word
+--   layout-other      == an area with another number there gets 21 from every call but a start, and keeps every word
 -- Assumes nothing.
 use Prim.Native.Nat.{ℕ}
 use mathlib.Core.Bool.{true, false}

@@ -1,5 +1,5 @@
 // The public calls for C and Rust, on numbers, byte slices and word slices (include/pickledune.h). None asks anything of its caller. A call
-// that refuses gives 0 or the number of a refusal, whose order its comment has, and stores 01's values through its references, zeros on a
+// that may refuse gives 0 or the number of its refusal, whose order its comment has, and stores 01's values through its references, zeros on a
 // refusal.
 mod check_values;
 mod step_values;

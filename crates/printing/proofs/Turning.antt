@@ -1,4 +1,4 @@
--- The lines of the picks and of the program's own deliveries, one by one, in a tested area.
+-- The lines of the picks, of the program's own deliveries, of the processes and of the report, one by one, in a tested area.
 --   pick-refused, pick-delivered   == the line of a pick, by what it answered
 --   picked                   == the run in the area that a pick leaves
 --   picks-next, picks-none   == the line of pick j, and those from the area that it leaves; none is left
@@ -12,7 +12,7 @@
 --   rows-room                == there is room for the next one
 --   report-refused, report-given   == the lines of a report, by what it answered
 -- Assumes nothing.
-use Prim.Native.Nat.{ℕ, zero, suc, _+_, _-_, _≤_, _<_}
+use Prim.Native.Nat.{ℕ, suc, _+_, _-_, _≤_, _<_}
 use mathlib.Core.Bool.{true, false}
 use mathlib.Core.List.{List, [], _++_}
 use mathlib.Core.Path.{_≡_, refl, sym, ap, _∙_}

@@ -1,7 +1,8 @@
--- 01's example, with the edition of 02, N4, and the second numbers of 02, N3, computed from the definition of all that is printed; and two inputs
--- that are refused.
+-- 01's example, with the edition of 02, N4, and the second numbers of 02, N3, computed from the definition of all that is printed; one with
+-- several lines of each kind; and two inputs that are refused.
 --   example-input   == one wait, 1 for 2; start 1, edition 1, one pick, 1 to 2
---   example, empty, no-process   == what the program prints for it, for no byte at all, and for a table of no processes
+--   several-input   == 1 waits for 2 and for 3; start 1, edition 1, two picks, 1 to 3 and then 2 to 1, where nothing waits
+--   examples, empty, no-process   == what the program prints for these, for no byte at all, and for a table of no processes
 -- Assumes nothing.
 use Prim.Native.Nat.{ℕ}
 use mathlib.Core.List.{List, [], _∷_}
@@ -29,8 +30,15 @@ abbrev example-input : List ℕ
 example-input =
     1 ∷ 0 ∷ 1 ∷ 0 ∷ 2 ∷ 0 ∷ 1 ∷ 0 ∷ 1 ∷ 0 ∷ 0 ∷ 0 ∷ 0 ∷ 0 ∷ 1 ∷ 0 ∷ 1 ∷ 0 ∷ 2 ∷ 0 ∷ 0 ∷ 0 ∷ 0 ∷ 0 ∷ 1 ∷ 0 ∷ 2 ∷ 0 ∷ []
 
-example : programText example-input
-    ≡ bytes "pick 1 2 suc\nown 2 1 ack 1 1\nprocess 1 1 1 0 1 0 1\nprocess 2 1 0 1 0 0 0\nover 2\nverdict none\noutside 1\nescape 2\nmark held\n"
+abbrev several-input : List ℕ
+several-input =
+    1 ∷ 0 ∷ 1 ∷ 0 ∷ 3 ∷ 0 ∷ 2 ∷ 0 ∷ 2 ∷ 0 ∷ 0 ∷ 0 ∷ 0 ∷ 0 ∷ 1 ∷ 0 ∷ 0 ∷ 0 ∷ 2 ∷ 0 ∷ 1 ∷ 0 ∷ 2 ∷ 0 ∷ 0 ∷ 0 ∷ 0 ∷ 0 ∷ 1 ∷ 0 ∷ 3 ∷ 0 ∷ 1 ∷ 0 ∷ 0 ∷ 0
+    ∷ 1 ∷ 0 ∷ 3 ∷ 0 ∷ 2 ∷ 0 ∷ 1 ∷ 0 ∷ []
+
+examples : (programText example-input
+    ≡ bytes "pick 1 2 suc\nown 2 1 ack 1 1\nprocess 1 1 1 0 1 0 1\nprocess 2 1 0 1 0 0 0\nover 2\nverdict none\noutside 1\nescape 2\nmark held\n")
+    × (programText several-input
+    ≡ bytes "pick 1 3 suc\npick 2 1 refused 24\nown 3 1 ack 1 1\nown 1 2 suc\nown 2 1 ack 1 1\nprocess 1 1 1 0 2 0 2\nprocess 2 1 0 1 0 0 0\nprocess 3 1 0 1 0 0 0\nover 4\nverdict none\noutside 2\nescape 2\nmark held\n")
 unfolding programText checkText picksOn picksText ownText processesText endText restText inTurn
     sumTo countTo allTo anyTo lowestTo fieldOf isProcess first arcAt near next waitsOf outDegree inDegree neighbours
     walked walkedTo chainsRight sizesRight endsRight firstsRight nextsRight unlikeBefore fieldsNumber readNumber
@@ -44,7 +52,7 @@ unfolding programText checkText picksOn picksText ownText processesText endText 
     startNumber startIn editionIn tableFields tableEnd tableIn picksIn inputNumber pickFrom pickTo begunNumber
     decimalTo decimal signed field countField linkText messageText deliveryLine refusedPickLine
     numberLine refusedLine flagsText sumsText processLine overLine verdictLine outsideLine escapeLine markLine reportText
-example = refl
+examples = (refl, refl)
 
 empty : programText [] ≡ bytes "refused 1\n"
 unfolding programText begunNumber inputNumber refusedLine numberLine field decimal decimalTo

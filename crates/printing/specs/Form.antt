@@ -1,5 +1,5 @@
 -- The call that forms everything that the check program prints, in bytes that the caller lends.
---   pickRoom, ownRoom, processRoom, reportRoom   == the longest line of a pick, of a delivery of the program's own, of a process, and report
+--   pickRoom, ownRoom, processRoom, reportRoom   == no line of a pick, of a delivery of the program's own, of a process, and no report is longer
 --   mostPicks           == as many picks as the longest input has behind the largest table
 --   longestOutput       == no output is longer (program-short in LongestLaws); in code LONGEST_OUTPUT
 --   formOf bs out       == the answer: as many bytes as are formed; or 11, "the output is too short", where it may be

@@ -11,7 +11,6 @@ use lib.ListN.{length, drop, getD, take-append-drop}
 use Rattle.base.specs.ChoiceLaws.{below?}
 use Rattle.base.specs.Checks.{Below, below, beyond}
 use Rattle.lines.specs.Adding.{Put}
-use Rattle.printing.specs.declared.Text.{Text}
 use Rattle.printing.specs.declared.Text.the-variants.{Formed, Refused}
 use Rattle.printing.specs.Program.{programText}
 use Rattle.printing.specs.Form.{longestOutput, formOf, formedIn}

@@ -7,10 +7,9 @@
 -- Assumes nothing.
 use Prim.Native.Nat.{ℕ, zero, suc, _+_, _-_, _*_, _≤_, _<_}
 use mathlib.Core.Bool.{Bool, true, false}
-use mathlib.Core.List.{List, [], _∷_, _++_}
+use mathlib.Core.List.{List, [], _∷_}
 use mathlib.Core.Logic.{inl, inr}
-use mathlib.Core.Path.{_≡_, refl, sym, ap, _∙_}
-use native.Mathlib.Nat.{mul-suc}
+use mathlib.Core.Path.{_≡_, refl, ap}
 use native.Mathlib.Omega.{arith}
 use lib.IntN.{ℤ, pos}
 use lib.ListN.{length, drop, getD, length-append, length-replicate}
@@ -24,44 +23,38 @@ use Rattle.tables.specs.Table.{Fields, fieldOf, nOf, mOf, arcAt, mostProcesses,
 use Rattle.tables.specs.TableLaws.{fieldOf-small}
 use Rattle.tables.specs.Waits.{Waits, waitsOf, neighbours}
 use Rattle.tables.specs.WaitsLaws.{neighbours-ends}
-use Rattle.machine.specs.declared.Ran.{Ran}
-use Rattle.machine.specs.declared.Ran.the-variants.{Spent}
 use Rattle.machine.specs.Machine as Machines
 use Rattle.machine.specs.Calls as MachineCalls
-use Rattle.machine.specs.Calls.{Answer, given, refusal, Selection, nobody, pair, lowest, fixedOrder, inRow, RanOn, runFrom}
+use Rattle.machine.specs.Calls.{Answer, given, refusal, Selection, nobody, pair, lowest}
 use Rattle.machine.specs.FormedLaws.{wellFormed-P}
 use Rattle.machine.specs.LinkListLaws.{inRow-length}
-use Rattle.machine.specs.Lists.{Call, inTurn}
-use Rattle.machine.specs.RunningLaws.{from-over, from-spent, from-more, goOn-by}
+use Rattle.machine.specs.Lists.{inTurn}
 use Rattle.steps.specs.declared.Message.{Message}
-use Rattle.steps.specs.declared.Process.{Process}
 use Rattle.steps.specs.Step.{countSmall, inRange}
-use Rattle.checks.specs.Run.{Run, knot, over, countsSmall, mostDeliveries, fatherRight}
+use Rattle.checks.specs.Run.{Run, knot, over, countsSmall, fatherRight}
 use Rattle.checks.specs.declared.Verdict.the-variants.{Knot, Free}
 use Rattle.checks.specs.declared.Mark.the-variants.{Returned, Held}
 use Rattle.checks.specs.Calls.{pick, report, deliveryOf, deliverOn}
-use Rattle.checks.specs.Lists as Lists
 use Rattle.checks.specs.Reach.{reaches, inKnot, outsider, outsiders, lowestOutsider, allWait, dOf}
 use Rattle.ending.specs.DemandLaws.{dOf-arcs}
 use Rattle.ending.specs.SpreadEndLaws.{dOf-most}
 use Rattle.areas.specs.Places.{areaLength}
-use Rattle.area_ending.specs.AreaEnding.{fits-last}
 use Rattle.lenses.specs.Storable.{Storable}
 use Rattle.lenses.specs.ChangeLaws.{link-right}
 use Rattle.delivery.specs.StorableLaws.{storable-pick, storable-on, storable-runOn}
 use Rattle.choosing.specs.declared.ChosenDelivery.{ChosenDelivery}
-use Rattle.choosing.specs.Answers.{chosenAnswer, nextOf}
+use Rattle.choosing.specs.Answers.{chosenAnswer}
 use Rattle.choosing.specs.OrderLaws.{lowest-names}
-use Rattle.inputs.specs.Input.{longest, tableEnd, tableFields, tableIn, picksIn, inputNumber, FirstMet, row-13, row-1, row-2, row-3, row-12, no-row}
+use Rattle.inputs.specs.Input.{longest, tableEnd, tableIn, picksIn, inputNumber, FirstMet, row-13, row-1, row-2, row-3, row-12, no-row}
 use Rattle.inputs.specs.Input.{pickFrom, pickTo, startIn, editionIn, begunNumber, ThenMet}
 use Rattle.inputs.specs.InputLaws.{first-P, then-4-to-8-30, table-field, begun-started}
-use Rattle.lines.specs.Text.{processLine}
+use Rattle.lines.specs.Text.{deliveryLine, processLine}
 use Rattle.lines.specs.LengthLaws.{delivery-most, refused-pick-most, refused-most, process-most, report-most}
-use Rattle.printing.specs.Program.{enough, numberIn, firstRun, pickLine, picksText, ownLine, unlessRefused, nextChosen, ownText, processesText}
+use Rattle.printing.specs.Program.{enough, numberIn, firstRun, pickLine, picksText, ownLine, nextChosen, ownText, processesText}
 use Rattle.printing.specs.Program.{pickCalls, pickedRun, endRun, reportLines, endText, restText, checkText, programText}
 use Rattle.printing.specs.Form.{pickRoom, ownRoom, processRoom, reportRoom, longestOutput}
-use Rattle.printing.specs.ProgramLaws.{program-refused, program-begun, program-own, program-report, begun, table-right, table-sound}
-use Rattle.printing.specs.OwnLaws.{own-over, own-turn}
+use Rattle.printing.specs.ProgramLaws.{program-refused, program-begun, program-own, program-report, fits, table-right, table-sound}
+use Rattle.printing.specs.Own.{OwnLines, no-line, one-line}
 
 -- ---- the number of a refused input
 
@@ -162,66 +155,18 @@ module _ (bs : List ℕ) (small : (i : ℕ) → getD bs i 0 < 256) (t : Fields) 
         picks-short (suc j) k (pick r a b 1 .run) (storable-pick t r f a b 1),
       )
 
-rest-short : (d : ChosenDelivery) (l : List ℕ) → length (unlessRefused d l) ≤ length l
-rest-short (ChosenDelivery.Delivered a b m) l = omega arith
-rest-short (ChosenDelivery.Refused n) l = omega arith
-
--- what running on answers with
-abbrev Answers : ℕ → ℕ → Run → ℕ → Type 0
-Answers k before r total = runFrom knot fixedOrder k before 0 r .answer ≡ Ran.Over total
-
--- the lines of up to k deliveries, where so many were made before
-abbrev Short : ℕ → ℕ → Run → ℕ → Type 0
-Short k before r total = length (ownText k r) + ownRoom * before ≤ ownRoom * total
-
-says : {o p : RanOn Process Message} → o ≡ p → {x : Ran} → o .answer ≡ x → p .answer ≡ x
-says e f = sym (ap (λ (z : RanOn Process Message). z .answer) e) ∙ f
-
-made-all : {m n : ℕ} → Ran.Over m ≡ Ran.Over n → m ≡ n
-made-all e = cc
-
-not-spent : {m n : ℕ} → Spent m ≡ Ran.Over n → ⊥
-not-spent e = let z : _≡_ {A = ℕ} 0 1 = cc in absurd (omega arith)
-
-not-refused : {i m n : ℕ} → Ran.Refused i m ≡ Ran.Over n → ⊥
-not-refused e = let z : _≡_ {A = ℕ} 0 1 = cc in absurd (omega arith)
-
-module _ {t : Fields} {r : Run} (f : Storable t r) (before total : ℕ) where
-  last-short : (k : ℕ) → over r ≡ true → Answers k before r total → Short k before r total
-  last-short k o e = omega (arith, made-all (says (from-over knot fixedOrder 0 r k before o) e), ap (λ (l : List ℕ). length l) (own-over k r o))
-
-  -- one delivery more
-  turn-short : (j : ℕ) → over r ≡ false → Answers (suc j) before r total
-      → ((q : Run) → Storable t q → Answers j (suc before) q total → Short j (suc before) q total) → Short (suc j) before r total
-  turn-short j o e rest = at (MachineCalls.deliverOn knot r (lowest r) .answer) refl
-    where
-      at : (x : Answer Message) → MachineCalls.deliverOn knot r (lowest r) .answer ≡ x → Short (suc j) before r total
-      at (refusal n) p = absurd (not-refused (says (from-more knot fixedOrder 0 r j before o ∙ goOn-by before (MachineCalls.deliverOn knot r (lowest r)) (λ q. runFrom knot fixedOrder j (suc before) 0 q) (refusal n) p) e))
-      at (given m) p =
-          let l : List ℕ = ownLine (nextChosen r) in
-          let u : List ℕ = unlessRefused (nextChosen r) (ownText j (nextOf r .run)) in
-          let fits = storable-on t r f (lowest r) (λ a b q. let i = lowest-names r a b q in (i .0, i .1)) in
-          omega (
-            arith,
-            rest (nextOf r .run) fits (says (from-more knot fixedOrder 0 r j before o ∙ goOn-by before (MachineCalls.deliverOn knot r (lowest r)) (λ q. runFrom knot fixedOrder j (suc before) 0 q) (given m) p) e),
-            ap (λ (l : List ℕ). length l) (own-turn j r o),
-            length-append l u,
-            own-short f,
-            rest-short (nextChosen r) (ownText j (nextOf r .run)),
-          )
-
--- running on that ends over has made as many deliveries as it says, and each line is short
-pub owns-short : (t : Fields) (k before total : ℕ) (r : Run) → Storable t r → Answers k before r total → Short k before r total
-owns-short t zero before total r f e = at (tested (over r))
-  where
-    at : Tested (over r) → Short zero before r total
-    at (passed o) = last-short f before total zero o e
-    at (failed o) = absurd (not-spent (says (from-spent knot fixedOrder 0 r before o) e))
-owns-short t (suc k) before total r f e = at (tested (over r)) (owns-short t k (suc before) total)
-  where
-    at : Tested (over r) → ((q : Run) → Storable t q → Answers k (suc before) q total → Short k (suc before) q total) → Short (suc k) before r total
-    at (passed o) rest = last-short f before total (suc k) o e
-    at (failed o) rest = turn-short f before total k o e rest
+-- each line is short
+pub owns-short : {t : Fields} {i n : ℕ} {r q : Run} {l : List ℕ} → OwnLines i n r q l → Storable t r → length l + ownRoom * i ≤ ownRoom * n
+owns-short (no-line o) f = omega arith
+owns-short {t} {r = r} (one-line {t = rest} a b m o e more) f =
+    let fits-next = storable-on t r f (lowest r) (λ a b q. let i = lowest-names r a b q in (i .0, i .1)) in
+    omega (
+      arith,
+      length-append (deliveryLine true a b m) rest,
+      ap (λ (d : ChosenDelivery). length (ownLine d)) e,
+      own-short f,
+      owns-short more fits-next,
+    )
 
 -- ---- the processes and the report
 
@@ -250,11 +195,8 @@ module _ (bs : List ℕ) (e : numberIn bs ≡ 0) where
   abbrev d : ℕ
   d = dOf (waitsOf t) (startIn bs)
 
-  fits : (cs : List Call) → Storable t (Lists.passed cs (firstRun bs) .left)
-  fits cs = fits-last (tableIn bs) (startIn bs) (editionIn bs) enough (begun bs e) cs
-
   fits-end : Storable t (endRun (pickedRun bs))
-  fits-end = storable-runOn t (knot .most) (pickedRun bs) (fits (pickCalls bs))
+  fits-end = storable-runOn t (knot .most) (pickedRun bs) (fits bs e (pickCalls bs))
 
   -- D is at most four times the number of arcs
   d-few : d ≤ 4 * mOf t
@@ -267,11 +209,7 @@ module _ (bs : List ℕ) (e : numberIn bs ≡ 0) where
       )
 
   own-few : length (ownText (knot .most) (pickedRun bs)) ≤ ownRoom * d
-  unfolding MachineCalls.runOn
-  own-few =
-      let made = Lists.passed (pickCalls bs) (firstRun bs) .made in
-      let f = fits (pickCalls bs) in
-      omega (arith, owns-short t (knot .most) 0 (d - made) (pickedRun bs) f (rw (f .formed) at (program-own bs e)))
+  own-few = omega (arith, owns-short (program-own bs e) (fits bs e (pickCalls bs)))
 
   size : endRun (pickedRun bs) .waits .n ≡ nOf t
   unfolding waitsOf
@@ -301,7 +239,7 @@ module _ (bs : List ℕ) (e : numberIn bs ≡ 0) where
   check-short : ((i : ℕ) → getD bs i 0 < 256) → length (checkText bs) ≤ longestOutput
   unfolding checkText restText endText inTurn
   check-short small =
-      let picks = picks-short bs small t 0 (picksIn bs) (firstRun bs) (fits []) in
+      let picks = picks-short bs small t 0 (picksIn bs) (firstRun bs) (fits bs e []) in
       simp length-append (omega (arith, picks, own-few, d-few, processes-short fits-end, size, report-short, sizes))
 
 pub program-short : (bs : List ℕ) → ((i : ℕ) → getD bs i 0 < 256) → length (programText bs) ≤ longestOutput

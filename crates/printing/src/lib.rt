@@ -40,8 +40,14 @@ ghost use Rattle.printing.specs.Program.{firstRun, pickCalls, endRun, pi
 ghost use Rattle.printing.specs.Program.{reportLines, endText, restText, checkText, programText};
 ghost use Rattle.printing.specs.Form.{formOf, formedIn};
 
-// No output is longer: 3,966 picks, 2,048 deliveries of its own, 128 processes and the report (`longestOutput` in specs/Form).
-pub const LONGEST_OUTPUT: usize = 28 * 3966 + 26 * 2048 + 32 * 128 + 61;
+// As many picks as the longest input has behind the largest table, 3,966.
+const MOST_PICKS: usize = (inputs::LONGEST - 4 - places::MOST_BYTES) / 4;
+
+// No output is longer, 168,453 bytes: these picks, 2,048 deliveries of its own, 128 processes and the report (`longestOutput` in specs/Form).
+pub const LONGEST_OUTPUT: usize = 28 * MOST_PICKS
+    + 26 * checks::MOST_DELIVERIES as usize
+    + 32 * tables::MOST_PROCESSES
+    + 61;
 
 // The answer of forming: so many bytes, or the number of the refusal.
 pub enum Text {

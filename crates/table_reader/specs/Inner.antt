@@ -2,7 +2,7 @@
 --   HoldsTable bs n   == the bytes hold a table of n processes: n is their N, in its range, and they are long enough for their N and M
 --   Linked t          == check 5 passed: no first or next is over M
 --   Chained t         == the checks 4 and 5 passed, and check 6 for the out-chains
---   LastMet p ls      == the list has a number below p for each process: the last chain that led to it, 0 if none did
+--   LastMet p ls      == the list has a number below p for each process: in code the last chain that led to it, 0 if none did
 --   Distinct t p, Clash t   == no two arcs of p agree in both ends; two arcs of the table do
 --   ChainTold t p b   == what the walk along the out-chain of p says by its answer b
 --   arcsLeftOf        == a number of arcs left, or a refusal, as the code gives it

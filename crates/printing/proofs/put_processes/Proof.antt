@@ -2,7 +2,6 @@
 -- Assumes nothing.
 use Prim.Native.Nat.{_+_, _-_, _≤_}
 use native.Mathlib.Omega.{arith}
-use borrow.Author.Needs.{needs}
 use Rattle.areas.specs.Area.{runIn}
 use Rattle.lenses.specs.ReadyLaws.{ready-n, ready-sizes}
 use Rattle.printing.proofs.Turning.{Rows, rows-first, rows-next, rows-room, rows-all}

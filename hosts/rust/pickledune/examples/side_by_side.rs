@@ -2,7 +2,7 @@
 //! of the rulebook, every one in an area and a thread of its own. The lines are in the order of the
 //! checks, whichever is over first.
 //!
-//!     cargo run --offline -p pickledune --example side_by_side
+//!     cargo run --offline --manifest-path hosts/rust/Cargo.toml -p pickledune --example side_by_side
 use pickledune::{area_words, table_bytes, Mark, Ran, Refusal, Verdict};
 use std::thread;
 

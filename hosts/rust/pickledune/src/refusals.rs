@@ -61,7 +61,7 @@ refusals! {
     BytesLeft = 12, "1 to 3 bytes are left after the last pick";
     InputLong = 13, "the input is longer than 20480 bytes";
     NotWellFormed = 21, "the run area is not well formed, or a value of the step is out of its range";
-    OutOfRange = 22, "the step would take a value out of its range";
+    OutOfRange = 22, "the step would take a value out of its range, put a fifth message on a link, or acknowledge to father 0";
     Over = 23, "the run is over";
     NoMessage = 24, "no message waits there";
     NoLink = 25, "there is no such link or process";

@@ -29,8 +29,8 @@ pub fn layout() -> u32 {
 /// negative. No other word is looked at.
 ///
 /// A host that stores areas reads this before it trusts one. If it is not [`layout`], the area was
-/// made with another layout, and its check has to be started again from the table; every call on it
-/// would be refused as [`NotWellFormed`](crate::Refusal::NotWellFormed). If it is, the calls look at
+/// made with another layout, and its check has to be started again from the table; every other call
+/// on it would be refused as [`NotWellFormed`](crate::Refusal::NotWellFormed). If it is, the calls look at
 /// the other words themselves.
 ///
 /// ```
