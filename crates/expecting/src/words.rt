@@ -3,7 +3,7 @@
 // What every word holds before a start.
 const MARK: i32 = 20000003;
 
-// Every word is that.
+// Fills every word with it.
 pub fn fill(area: &mut [i32]) {
     let mut k = 0;
     while k < area.len() {

@@ -5,6 +5,7 @@
 --   added-line                   == a piece that was put from 0 on is a line
 --   line-room, line-put          == a line that was formed in bytes of its own, and is put where it belongs
 --   put-none, x put-then y       == no byte is put; one text after another, each in just its room
+--   put-inside                   == a text that begins within the bytes ends within them
 --   room-first, room-then        == room for two texts is room for the first, and then for the second
 -- Assumes nothing.
 use Prim.Native.Nat.{ℕ, _+_, _-_, _<_, _≤_}
@@ -12,7 +13,7 @@ use mathlib.Core.List.{List, [], _∷_, _++_, append-assoc, append-nil}
 use mathlib.Core.Path.{_≡_, refl, sym, ap, _∙_}
 use native.Mathlib.Numerals.{add-one}
 use native.Mathlib.Omega.{arith}
-use lib.ListN.{length, take, drop, set, length-append, length-set}
+use lib.ListN.{length, take, drop, set, length-append, length-take, length-set}
 use lib.Seq.{take-suc-set, drop-set-lt, drop-drop}
 use Rattle.lines.specs.Adding.{Added, Line, Put}
 
@@ -68,6 +69,11 @@ put-none {a} {m} = record { grows = omega arith; within = omega arith; text = sy
 infixl 60 _put-then_
 pub _put-then_ : {a b c : List ℕ} {m n o : ℕ} {p q : List ℕ} → Put a m p b n → Put b n q c o → Put a m (p ++ q) c o
 x put-then y = added-exact (x added-then y)
+
+pub put-inside : {a b p : List ℕ} {m n : ℕ} → Put a m p b n → m ≤ length a → n ≤ length b
+put-inside {a} {b} {p} {m} {n} x h =
+    let both = ap {A = List ℕ} length (x .text) ∙ length-append (take m a) p in
+    omega (arith, both, length-take n b, length-take m a, x .grows)
 
 pub room-first : (m k : ℕ) (p q : List ℕ) → m + length (p ++ q) ≤ k → m + length p ≤ k
 room-first m k p q h = omega (arith, length-append p q)

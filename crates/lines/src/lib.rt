@@ -19,7 +19,7 @@ ghost use lib.ListN.{length};
 ghost use Rattle.lines.specs.Text.{deliveryLine, refusedPickLine, refusedLine, processLine, verdictLine, outsideLine, markLine, reportText};
 ghost use Rattle.lines.specs.Adding.{Added, Line, Put};
 
-mod pieces;
+pub mod pieces;
 
 // `pick 1 2 suc`, `own 2 1 ack 1 1`
 fn delivery_line(out: &mut [u8], own: bool, from: u32, to: u32, message: Message) -> usize

@@ -30,8 +30,9 @@ use Rattle.machine.specs.FormedLaws.{wellFormed-P}
 use Rattle.machine.specs.LinkListLaws.{inRow-length}
 use Rattle.machine.specs.Lists.{inTurn}
 use Rattle.steps.specs.declared.Message.{Message}
-use Rattle.steps.specs.Step.{countSmall, inRange}
-use Rattle.checks.specs.Run.{Run, knot, over, countsSmall, fatherRight}
+use Rattle.steps.specs.Step.{countSmall}
+use Rattle.checks.specs.Run.{Run, knot, over, countsSmall}
+use Rattle.checks.specs.RunLaws.{formed-range}
 use Rattle.checks.specs.declared.Verdict.the-variants.{Knot, Free}
 use Rattle.checks.specs.declared.Mark.the-variants.{Returned, Held}
 use Rattle.checks.specs.Calls.{pick, report, deliveryOf, deliverOn}
@@ -176,7 +177,7 @@ module _ {t : Fields} {r : Run} (f : Storable t r) where
   processes-short =
       let g = wellFormed-P knot r .0 (f .formed) in
       let each = sumTo-most (r .waits .n) processRoom (λ p. length (processLine p (r .process p)))
-      (λ p l u. process-most (r .process p) (and-left (inRange (r .process p)) (fatherRight (r .waits) p (r .process p)) (g .records p (l, u))) p (omega (arith, f .sound .few))) in
+      (λ p l u. process-most (r .process p) (formed-range g p (l, u)) p (omega (arith, f .sound .few))) in
       omega (arith, inRow-length (r .waits .n) (λ p. processLine p (r .process p)))
 
 lowest-few : (n : ℕ) (p : ℕ → Bool) → lowestTo n p ≤ n

@@ -1,6 +1,8 @@
 // Reading a whole input from standard input, so that a read that fails is told from the end of the input.
-ghost use Prim.Native.Nat.{_+_, _≤_};
-ghost use lib.ListN.{length};
+use lines::pieces;
+ghost use Prim.Native.Nat.{_-_, _≤_};
+ghost use lib.ListN.{length, take};
+ghost use Rattle.lines.specs.Adding.{Put};
 
 // How many bytes stand at the front, and whether a read failed.
 pub struct Taken {
@@ -18,20 +20,11 @@ fn least(a: usize, b: usize) -> usize
     b
 }
 
-// The first `more` bytes of the piece go behind the first `done` bytes of the input.
-fn append(input: &mut [u8], done: usize, piece: &[u8], more: usize)
-    requires { ⌜ done + more ≤ length (now input) ⌝ }
-    requires { ⌜ more ≤ length (now piece) ⌝ }
-{
-    for k in 0..more {
-        input[done + k] = piece[k];
-    }
-}
-
-// One read, of bytes that go behind the first `done`.
+// One read: its bytes go behind the first `done`, which stay.
 fn read_piece(input: &mut [u8], done: usize, piece: &mut [u8]) -> Taken
     requires { ⌜ done ≤ length (now input) ⌝ }
-    ensures { λ r. ⌜ (done ≤ r .length) × (r .length ≤ length (now (input .exit))) ⌝ }
+    ensures { λ r. ⌜ Put (now (input .entry)) done (take (r .length - done) (now (piece .exit))) (now (input .exit)) (r .length) ⌝ }
+    ensures { λ r. ⌜ r .length ≤ length (now (input .exit)) ⌝ }
 {
     let room = least(input.len() - done, piece.len());
     let got = libc::read(libc::STDIN_FILENO, &mut piece[0..room]);
@@ -42,10 +35,9 @@ fn read_piece(input: &mut [u8], done: usize, piece: &mut [u8]) -> Taken
         };
     }
     let more = io::count(got, &piece[0..room]);
-    append(input, done, piece, more);
     Taken {
         failed: false,
-        length: done + more,
+        length: pieces::put_word(input, done, &piece[0..more]),
     }
 }
 

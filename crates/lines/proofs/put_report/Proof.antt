@@ -1,4 +1,4 @@
--- `lines::put_report` meets its contract: the lines of a report is formed, and put where it belongs. Assumes nothing.
+-- `lines::put_report` meets its contract: the lines of a report are formed, and put where they belong. Assumes nothing.
 use borrow.Author.Needs.{needs}
 use Rattle.steps.proofs.Counts.{signed-back}
 use Rattle.lines.specs.AddingLaws.{line-room, line-put}
