@@ -32,10 +32,10 @@ use Rattle.lenses.specs.Ready.{Ready}
 use Rattle.lenses.specs.ReadyLaws.{ready-sizes}
 use Rattle.lenses.specs.ChangeLaws.{joins-low, joins-high}
 use Rattle.lenses.proofs.ChainWalks.{Walked, ends, toGo, left-on, left-end, walked-first, walked-next}
-use Rattle.choosing.specs.Memory.{Marks}
-use Rattle.choosing.specs.Sets.{turned}
-use Rattle.choosing.specs.Noting.{Marked, Turns, takenMarks, sentMarks}
-use Rattle.choosing.specs.GroupLaws.{marks-cong}
+use Rattle.marks.specs.Marks.{Marks}
+use Rattle.marks.specs.Changes.{turned, Marked, Turns}
+use Rattle.marks.specs.GroupLaws.{marks-cong}
+use Rattle.choosing.specs.Noting.{takenMarks, sentMarks}
 use Rattle.choosing.specs.NotedLaws.{sent-turned}
 use Rattle.choosing.specs.FillLaws.{both-ways}
 

@@ -18,8 +18,8 @@ use Rattle.checks.specs.Run.{Run}
 use Rattle.areas.specs.Area.{fieldsIn}
 use Rattle.areas.specs.AreaLaws.{areaRight-table}
 use Rattle.lenses.specs.Ready.{Ready}
-use Rattle.choosing.specs.Sets.{turned}
-use Rattle.choosing.specs.Noting.{Turns, lookedMarks, alongMarks}
+use Rattle.marks.specs.Changes.{turned, Turns}
+use Rattle.choosing.specs.Noting.{lookedMarks, alongMarks}
 use Rattle.choosing.proofs.Following.{turns-then}
 
 module _ (r : Run) (a b : ℕ) {l : List ℕ} {n : ℕ} (e : n ≡ length (r .link a b)) where

@@ -40,12 +40,12 @@ use Rattle.delivery.specs.StorableLaws.{storable-on, waiting-joined}
 use Rattle.lenses.specs.Ready.{Ready}
 use Rattle.lenses.specs.ReadyLaws.{right-storable, ready-n, ready-sizes}
 use Rattle.lenses.proofs.Holding.{Holding, holding-first, holding-run, holding-ready, holding-next}
+use Rattle.marks.specs.Changes.{Points, MarkedAt, Turns}
 use Rattle.choosing.specs.declared.Chosen.{Chosen}
 use Rattle.choosing.specs.declared.Chosen.the-variants.{Nobody, Link}
 use Rattle.choosing.specs.declared.ChosenDelivery.{ChosenDelivery}
 use Rattle.choosing.specs.Memory.{Remembers}
-use Rattle.choosing.specs.Sets.{Points}
-use Rattle.choosing.specs.Noting.{MarkedAt, Turns, notedMarks}
+use Rattle.choosing.specs.Noting.{notedMarks}
 use Rattle.choosing.specs.Answers.{chosenOf, chosenAnswer}
 use Rattle.choosing.specs.OrderLaws.{Names, Within, points-drawn}
 use Rattle.choosing.specs.NotedLaws.{remembers-noted}

@@ -22,9 +22,11 @@ use Rattle.machine.specs.Calls.{waiting}
 use Rattle.checks.specs.Run.{Run}
 use Rattle.areas.specs.Contained.{Contained}
 use Rattle.delivery.specs.StorableLaws.{waiting-joined}
-use Rattle.choosing.specs.Memory.{Marks, Remembers}
-use Rattle.choosing.specs.Noting.{Turns, lookedMarks, alongMarks}
-use Rattle.choosing.specs.GroupLaws.{marks-cong}
+use Rattle.marks.specs.Marks.{Marks}
+use Rattle.marks.specs.Changes.{Turns}
+use Rattle.marks.specs.GroupLaws.{marks-cong}
+use Rattle.choosing.specs.Memory.{Remembers}
+use Rattle.choosing.specs.Noting.{lookedMarks, alongMarks}
 
 pub both-ways : (p q : Bool) → (p ≡ true → q ≡ true) → (q ≡ true → p ≡ true) → p ≡ q
 both-ways true q f g = sym (f refl)

@@ -30,10 +30,10 @@ use Rattle.areas.specs.Replaced.{putProcess, putLink, putCount}
 use Rattle.lenses.specs.Changes.{answered}
 use Rattle.delivery.specs.Delivering.{replyGoes, changed, carriedOut, Carried}
 use Rattle.delivery.specs.DeliveryLaws.{relinked-waits, answered-relinked, spreadBy-relinked, carried-link}
+use Rattle.marks.specs.Changes.{turned, Turns}
+use Rattle.marks.specs.GroupLaws.{marks-cong}
 use Rattle.choosing.specs.Memory.{Remembers}
-use Rattle.choosing.specs.Sets.{turned}
-use Rattle.choosing.specs.Noting.{Turns, takenMarks, sentMarks, goesTo, notedMarks}
-use Rattle.choosing.specs.GroupLaws.{marks-cong}
+use Rattle.choosing.specs.Noting.{takenMarks, sentMarks, goesTo, notedMarks}
 
 -- ---- marks
 

@@ -1,6 +1,4 @@
 -- How what is remembered follows a delivery from a to b that was made, part by part; and how it is filled.
---   Marked l, MarkedAt l a b == the array l holds some marks; and that of the link from a to b
---   Turns l f k              == whatever marks the array l holds, the array k holds those that f makes of them
 --   takenMarks t a b held    == the marks once a message is off the link from a to b, which then holds one if t
 --   sentMarks held b S       == the marks once b has sent a message to each process that passes S
 --   goesTo w y b q           == a probe of b's broadcast goes to q
@@ -9,8 +7,6 @@
 -- Assumes nothing.
 use Prim.Native.Nat.{ℕ}
 use mathlib.Core.Bool.{Bool, true, false, _&&_, _||_}
-use mathlib.Core.List.{List}
-use mathlib.Core.Path.{_≡_}
 use lib.Dec.{eqb}
 use Rattle.base.specs.Choice.{choose}
 use Rattle.tables.specs.declared.Arc.{Arc}
@@ -23,18 +19,7 @@ use Rattle.steps.specs.declared.Reply.{Reply}
 use Rattle.machine.specs.Calls.{waiting}
 use Rattle.checks.specs.Run.{Run}
 use Rattle.delivery.specs.Delivering.{replyGoes}
-use Rattle.choosing.specs.Memory.{Marks}
-use Rattle.choosing.specs.Sets.{turned}
-
-abbrev pub Marked : List ℕ → Type 0
-Marked l = (held : ℕ → ℕ → Bool) × Marks held l
-
--- the array l holds some marks, and that of the link from a to b
-abbrev pub MarkedAt : List ℕ → ℕ → ℕ → Type 0
-MarkedAt l a b = (held : ℕ → ℕ → Bool) × Marks held l × (held a b ≡ true)
-
-abbrev pub Turns : List ℕ → ((ℕ → ℕ → Bool) → ℕ → ℕ → Bool) → List ℕ → Type 0
-Turns l f k = (held : ℕ → ℕ → Bool) → Marks held l → Marks (f held) k
+use Rattle.marks.specs.Changes.{turned}
 
 -- a link falls empty if its last message is taken
 abbrev pub takenMarks : Bool → ℕ → ℕ → (ℕ → ℕ → Bool) → ℕ → ℕ → Bool

@@ -5,31 +5,27 @@
 --   link-found                   == the link at a place: its receiver by the links before, its sender by those to the same receiver
 --   link-none                    == nobody past the last
 --   points-drawn                 == the place that a state points to is that of the drawn link (02, N13)
---   heldTo-next                  == the links with one receiver more
---   least-begins, groups-first, groups-next   == where to begin to look: at the lowest receiver, or behind so many groups
 -- Assumes nothing.
-use Prim.Native.Nat.{ℕ, suc, _+_, _-_, _*_, _%_, _≤_, _<_}
-use mathlib.Core.Bool.{Bool, true, false, not}
+use Prim.Native.Nat.{ℕ, _+_, _-_, _%_, _≤_, _<_}
+use mathlib.Core.Bool.{Bool, true}
 use mathlib.Core.List.{List}
-use mathlib.Core.Path.{_≡_, refl, sym, ap, _∙_}
+use mathlib.Core.Path.{_≡_, sym, ap, _∙_}
 use native.Mathlib.Omega.{arith}
-use borrow.Author.Tests.{eqb-true}
-use lib.Dec.{eqb}
-use lib.ListN.{length, getD}
-use lib.Count.{trailingZeros, trailing-le}
-use Rattle.base.specs.Choice.{choose, bit}
+use lib.ListN.{length}
+use Rattle.base.specs.Choice.{bit}
 use Rattle.base.specs.ChoiceLaws.{same?, tested}
 use Rattle.base.specs.Checks.{Same, same, apart, Tested, passed, failed}
-use Rattle.base.specs.Sums.{sumTo, countTo}
+use Rattle.base.specs.Sums.{countTo}
 use Rattle.base.specs.SumLaws.{sumTo-cong, sumTo-zero, sumTo-short}
 use Rattle.tables.specs.Table.{mostProcesses, IsProcess}
 use Rattle.machine.specs.Calls.{Selection, nobody, pair, waiting, inRow, linkAt, linkIf, linksTo, linksOf, lowest, drawn}
 use Rattle.machine.specs.ChooserLaws.{linkIf-length, linkIf-first, linksOf-all}
 use Rattle.machine.specs.LinkListLaws.{linkAt-end, inRow-length, inRow-at}
 use Rattle.checks.specs.Run.{Run}
-use Rattle.choosing.specs.Memory.{wordDigits, groupSize, groups, setAt, groupAt, heldTo, Marks, Remembers}
-use Rattle.choosing.specs.Sets.{lowestOf, lowestIn, Nth, Points}
-use Rattle.choosing.specs.SetLaws.{lowestIn-first}
+use Rattle.sets.specs.Sets.{Nth}
+use Rattle.marks.specs.Marks.{heldTo}
+use Rattle.marks.specs.Changes.{Points}
+use Rattle.choosing.specs.Memory.{Remembers}
 
 -- ---- what is chosen
 
@@ -138,49 +134,3 @@ module _ (r : Run) where
         at (apart z _) =
             ap (λ (i : ℕ). linkAt i (linksOf r))
             (p held h (omega (arith, links-all, z)) ∙ ap (λ (n : ℕ). s % n) (sym links-all))
-
--- ---- where to begin, and to go on
-
--- one receiver more
-pub heldTo-next : (mark : ℕ → ℕ → Bool) (b : ℕ) → 1 ≤ b → heldTo mark (b + 1 - 1) ≡ heldTo mark (b - 1) + countTo mostProcesses (λ a. mark a b)
-unfolding heldTo sumTo
-heldTo-next mark b l =
-    let e : b + 1 - 1 ≡ suc (b - 1) = omega arith in
-    let up : suc (b - 1) ≡ b = omega arith in
-    ap (λ (n : ℕ). heldTo mark n) e
-    ∙ ap (λ (n : ℕ). heldTo mark (b - 1) + countTo mostProcesses (λ a. mark a n)) up
-
-lowestOf-most : (low high : ℕ) → lowestOf low high ≤ mostProcesses + 1
-unfolding lowestOf
-lowestOf-most low high = at (same? low 0)
-  where
-    at : Same low 0 → choose (eqb low 0) (trailingZeros wordDigits high + (wordDigits + 1)) (trailingZeros wordDigits low + 1) ≤ mostProcesses + 1
-    at (same _ e) = rw e (omega (arith, trailing-le wordDigits high))
-    at (apart _ e) = rw e (omega (arith, trailing-le wordDigits low))
-
-module _ {mark : ℕ → ℕ → Bool} {l : List ℕ} (h : Marks mark l) where
-  -- nothing waits for a receiver below the lowest
-  pub least-begins : heldTo mark (lowestIn l 0 - 1) ≡ 0
-  unfolding heldTo
-  least-begins = sumTo-zero (lowestIn l 0 - 1) (λ b. countTo mostProcesses (λ a. mark a b)) (λ b lo u. none b (lo, omega (arith, few)) (omega arith))
-    where
-      few : lowestIn l 0 ≤ mostProcesses + 1
-      few = lowestOf-most (getD l (setAt 0) 0) (getD l (setAt 0 + 1) 0)
-
-      zero : {n : ℕ} → not (eqb n 0) ≡ false → n ≡ 0
-      zero {n} e = eqb-true n 0 (at (eqb n 0) e)
-        where
-          at : (t : Bool) → not t ≡ false → t ≡ true
-          at true _ = refl
-          at false e = cc
-
-      none : (b : ℕ) → IsProcess mostProcesses b → b < lowestIn l 0 → countTo mostProcesses (λ a. mark a b) ≡ 0
-      none b i u = sym (h .rows .counts b i) ∙ zero (lowestIn-first (h .rows .receivers) b (i .0) u)
-
-  -- the first group, and the next
-  pub groups-first : heldTo mark (groupSize * 0) ≡ 0
-  unfolding heldTo sumTo
-  groups-first = refl
-
-  pub groups-next : (g : ℕ) → g < groups → {i : ℕ} → i ≡ groupAt g → heldTo mark (groupSize * g) + getD l i 0 ≡ heldTo mark (groupSize * (g + 1))
-  groups-next g u e = ap (λ (x : ℕ). heldTo mark (groupSize * g) + getD l x 0) e ∙ h .grouped g u

@@ -1,27 +1,17 @@
 // What is remembered of a run, from the area alone: nothing at first, then arc by arc.
-use crate::parts;
-use crate::sets;
 use lenses::chains;
 use lenses::links;
+use marks::parts;
 ghost use mathlib.Core.Path.{_≡_};
-ghost use mathlib.Core.Bool.{false};
 ghost use Prim.Native.Nat.{_≤_};
 ghost use lib.ListN.{length};
 ghost use Rattle.tables.specs.Table.{arcAt, IsProcess};
 ghost use Rattle.areas.specs.Area.{fieldsIn, runIn};
 ghost use Rattle.lenses.specs.Ready.{Ready};
-ghost use Rattle.choosing.specs.Memory.{memorySize, Marks, Remembers};
-ghost use Rattle.choosing.specs.Noting.{Marked, Turns, lookedMarks, alongMarks};
-
-// No link holds a message.
-fn clear(memory: &mut [usize; parts::MEMORY_SIZE])
-    requires { ⌜ length (now memory) ≡ memorySize ⌝ }
-    ensures { λ _. ⌜ Marks (λ a b. false) (now (memory .exit)) ⌝ }
-{
-    for i in 0..parts::MEMORY_SIZE {
-        memory[i] = 0;
-    }
-}
+ghost use Rattle.marks.specs.Marks.{memorySize};
+ghost use Rattle.marks.specs.Changes.{Marked, Turns};
+ghost use Rattle.choosing.specs.Memory.{Remembers};
+ghost use Rattle.choosing.specs.Noting.{lookedMarks, alongMarks};
 
 // Marks the link from a to b if it holds a message.
 fn look(
@@ -41,7 +31,7 @@ fn look(
     if links::waiting_on(area, square, n, m, a, b) == 0 {
         return;
     }
-    sets::mark(memory, a, b);
+    marks::mark(memory, a, b);
 }
 
 // The two links of arc k.
@@ -77,7 +67,7 @@ pub fn fill(
     requires { ⌜ length (now memory) ≡ memorySize ⌝ }
     ensures { λ _. ⌜ Remembers (runIn (now (area .entry))) (now (memory .exit)) ⌝ }
 {
-    clear(memory);
+    marks::clear(memory);
     let end = m + 1;
     for k in 1..end {
         look_along(area, square, n, m, k, memory);

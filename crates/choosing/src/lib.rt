@@ -7,23 +7,21 @@
 // what a delivery refuses, 24 and 22.
 mod filling;
 mod noting;
-pub mod parts;
-mod sets;
 
 use delivery::delivering;
 use delivery::delivering::Told;
 use lenses::links;
+use marks::Beginning;
+use marks::parts;
 use steps::Message;
 ghost use mathlib.Core.Path.{_≡_};
 ghost use lib.ListN.{length};
 ghost use Rattle.areas.specs.Area.{runIn, keeping};
-ghost use Prim.Native.Nat.{_%_};
 ghost use Rattle.machine.specs.Calls.{linkAt, linksOf, lowest, drawn};
 ghost use Rattle.lenses.specs.Ready.{Ready};
+ghost use Rattle.marks.specs.Marks.{memorySize};
 ghost use Rattle.choosing.specs.Answers.{chosenOf, chosenAnswer, drawnOf, nextOf};
-ghost use Rattle.choosing.specs.Memory.{memorySize, Remembers};
-ghost use Rattle.choosing.specs.Sets.{Begins, Held, Points};
-ghost use Rattle.choosing.specs.Noting.{Marked};
+ghost use Rattle.choosing.specs.Memory.{Remembers};
 
 // A link with a message, or none.
 enum Chosen {
@@ -56,66 +54,6 @@ pub fn remember(
     filling::fill(area, square, n, m, memory);
 }
 
-// How many links hold a message.
-fn held_in_all(memory: &[usize; parts::MEMORY_SIZE]) -> usize
-    requires { ⌜ Marked (now memory) ⌝ }
-    ensures { λ r. ⌜ Held (now (memory .entry)) r ⌝ }
-{
-    let mut held = 0;
-    for g in 0..parts::GROUPS {
-        held += memory[parts::group_at(g)];
-    }
-    held
-}
-
-// The place that a state points to among the links with a message: state 0 to the first, without counting them.
-fn place_of(memory: &[usize; parts::MEMORY_SIZE], state: u32) -> usize
-    requires { ⌜ Marked (now memory) ⌝ }
-    ensures { λ r. ⌜ Points (now (memory .entry)) state r ⌝ }
-{
-    if state == 0 {
-        return 0;
-    }
-    let held = held_in_all(memory);
-    if held == 0 {
-        return 0;
-    }
-    state as usize % held
-}
-
-// Where to look for the link at a place: a receiver, and how many links to it and to those after it stand before the place.
-struct Beginning {
-    receiver: usize,
-    left: usize,
-}
-
-// The lowest receiver for the first place; for the others that behind the groups whose links all stand before it.
-fn begin_at(memory: &[usize; parts::MEMORY_SIZE], place: usize) -> Beginning
-    requires { ⌜ length (now memory) ≡ memorySize ⌝ }
-    ensures { λ r. ⌜ Begins (now (memory .entry)) place (r .receiver) (r .left) ⌝ }
-{
-    if place == 0 {
-        return Beginning {
-            receiver: sets::lowest_in(memory, 0),
-            left: 0,
-        };
-    }
-    let mut left = place;
-    let mut g = 0;
-    while g < parts::GROUPS {
-        let count = memory[parts::group_at(g)];
-        if left < count {
-            break;
-        }
-        left -= count;
-        g += 1;
-    }
-    Beginning {
-        receiver: parts::GROUP * g + 1,
-        left,
-    }
-}
-
 // The link with a message at a place in the fixed order, counted from 0 (02, N11 and N13): a receiver whose links all stand before the place is
 // passed over by their number, and the loops begin at the receiver and at the sender that the array names.
 fn choose(
@@ -136,12 +74,12 @@ fn choose(
     let Beginning {
         receiver,
         left: before,
-    } = begin_at(memory, place);
+    } = marks::begin_at(memory, place);
     let mut left = before;
     'scan: for b in receiver..end {
         let held = memory[parts::count_at(b)];
         if left < held {
-            let first = sets::ranked_in(memory, b, left);
+            let first = marks::ranked_in(memory, b, left);
             for a in first..end {
                 if links::waiting_on(area, square, n, m, a, b) != 0 {
                     from = a;
@@ -176,7 +114,7 @@ pub fn deliver_drawn(
     ensures { λ _. ⌜ Remembers (runIn (now (area .exit))) (now (memory .exit)) ⌝ }
     ensures { λ _. ⌜ Ready (now (area .exit)) (now (square .entry)) n m ⌝ }
 {
-    let place = place_of(memory, state);
+    let place = marks::place_of(memory, state);
     let Chosen::Link { from, to } = choose(area, square, n, m, place, memory) else {
         return ChosenDelivery::Refused(24);
     };

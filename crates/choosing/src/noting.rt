@@ -1,9 +1,8 @@
 // How what is remembered follows a delivery, part by part, once it is made: first what was taken, then what was sent, which marks its link
 // whether a message was there or not.
-use crate::parts;
-use crate::sets;
 use lenses::chains;
 use lenses::links;
+use marks::parts;
 use steps::Probes;
 use steps::Reply;
 use tables::Chain;
@@ -17,7 +16,8 @@ ghost use Rattle.machine.specs.Calls.{waiting};
 ghost use Rattle.areas.specs.Area.{runIn};
 ghost use Rattle.lenses.specs.Ready.{Ready};
 ghost use Rattle.delivery.specs.Delivering.{replyGoes};
-ghost use Rattle.choosing.specs.Noting.{Marked, MarkedAt, Turns, takenMarks, sentMarks, goesTo, notedMarks};
+ghost use Rattle.marks.specs.Changes.{Marked, MarkedAt, Turns};
+ghost use Rattle.choosing.specs.Noting.{takenMarks, sentMarks, goesTo, notedMarks};
 
 // A message has come off the link from a to b: the link has fallen empty if it was the last one.
 fn note_taken(
@@ -37,7 +37,7 @@ fn note_taken(
     if links::waiting_on(area, square, n, m, a, b) != 0 {
         return;
     }
-    sets::unmark(memory, a, b);
+    marks::unmark(memory, a, b);
 }
 
 // b's acknowledgement has gone out, if there is one.
@@ -49,7 +49,7 @@ fn note_reply(b: usize, reply: Reply, memory: &mut [usize; parts::MEMORY_SIZE])
 {
     match reply {
         Reply::Nothing => {}
-        Reply::To { process, counts: _ } => sets::mark(memory, b, process as usize),
+        Reply::To { process, counts: _ } => marks::mark(memory, b, process as usize),
     }
 }
 
@@ -71,7 +71,7 @@ fn note_chain(
     let mut k = chains::first_in(area, square, n, m, c, b);
     while k != 0 {
         let arc = chains::arc_in(area, square, n, m, k);
-        sets::mark(memory, b, chains::far_of(c, arc));
+        marks::mark(memory, b, chains::far_of(c, arc));
         k = table_reader::next_of(c, arc);
     }
 }

@@ -3,9 +3,9 @@
 use area_tests::testing;
 use area_tests::testing::Sizes;
 use choosing::ChosenDelivery;
-use choosing::parts;
 use lenses::heading;
 use machine::Ran;
+use marks::parts;
 ghost use mathlib.Core.Path.{_≡_};
 ghost use Rattle.machine.specs.Calls.{shuffledOrder, runFrom};
 ghost use Rattle.checks.specs.Run.{knot};

@@ -19,12 +19,13 @@ use Rattle.machine.specs.ChooserLaws.{waiting-none}
 use Rattle.areas.specs.Area.{runIn}
 use Rattle.lenses.specs.Ready.{Ready}
 use Rattle.lenses.specs.ReadyLaws.{ready-n, ready-sizes}
+use Rattle.marks.specs.Marks.{countAt, heldTo}
+use Rattle.sets.specs.Sets.{Ranked}
+use Rattle.marks.specs.GroupLaws.{heldTo-within, heldTo-next}
 use Rattle.choosing.specs.declared.Chosen.the-variants.{Nobody, Link}
-use Rattle.choosing.specs.Memory.{countAt, heldTo, Remembers}
-use Rattle.choosing.specs.Sets.{Ranked}
-use Rattle.choosing.specs.GroupLaws.{heldTo-within}
+use Rattle.choosing.specs.Memory.{Remembers}
 use Rattle.choosing.specs.Answers.{chosenOf}
-use Rattle.choosing.specs.OrderLaws.{link-found, sender-in, link-waits, link-none, heldTo-next}
+use Rattle.choosing.specs.OrderLaws.{link-found, sender-in, link-waits, link-none}
 use Rattle.choosing.proofs.OnLink.{ready-few, ready-within}
 use Rattle.choosing.proofs.choose.Statement.{statement}
 use Rattle.choosing.proofs.choose.Tie as tie
@@ -190,7 +191,7 @@ choose-spec =
     (λ c. omega (arith, ready-sizes (c .pre .0) .0))
     (λ c κs. c .pre .1 .rows .long)
     (λ c. let s = c .before in let b = c .begin-at .ensures (λ x y. waiting (runIn (s .args .area .now) .link x y)) (s .pre .1) in (b .0, refl, b .1))
-    (λ c κs. search needs)
+    (λ c κs. receiver c .0 .1)
     (λ c. omega (arith, receiver (c .before), c .count-at .ensures))
     (λ c. omega (arith, receiver (c .before), c .count-at .ensures, c .before .before .before .before .pre .1 .rows .long))
     (λ c κs. let i = c .before .before .before in (i .before .before .before .pre .1 .rows .long, receiver i .0 .1))

@@ -9,7 +9,8 @@ use Rattle.areas.specs.Area.{runIn}
 use Rattle.steps.specs.declared.Probes.{Probes}
 use Rattle.steps.specs.declared.Reply.{Reply}
 use Rattle.delivery.specs.Delivering.{replyGoes}
-use Rattle.choosing.specs.Noting.{Marked, MarkedAt, Turns, takenMarks, sentMarks, goesTo, notedMarks}
+use Rattle.marks.specs.Changes.{Marked, MarkedAt, Turns}
+use Rattle.choosing.specs.Noting.{takenMarks, sentMarks, goesTo, notedMarks}
 use Rattle.choosing.proofs.Following.{process-most, turns-marked}
 use Rattle.choosing.proofs.noting.note.Statement.{statement}
 use Rattle.choosing.proofs.noting.note.Tie as tie

@@ -9,7 +9,7 @@ use lib.ListN.{length}
 use Rattle.areas.specs.Area.{fieldsIn}
 use Rattle.lenses.specs.ReadyLaws.{right-storable}
 use Rattle.lenses.proofs.ChainWalks.{toGo, left-on, ready-right, ready-process, ahead-arc, ahead-far, far-is, next-is}
-use Rattle.choosing.specs.Memory.{Marks}
+use Rattle.marks.specs.Marks.{Marks}
 use Rattle.choosing.proofs.Following.{process-most, Sent, sent-first, sent-next, sent-last}
 use Rattle.choosing.proofs.noting.note_chain.Statement.{statement}
 use Rattle.choosing.proofs.noting.note_chain.Tie as tie

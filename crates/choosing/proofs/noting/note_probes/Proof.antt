@@ -10,7 +10,8 @@ use Rattle.tables.specs.Chains.{joins}
 use Rattle.steps.specs.declared.Probes.{Probes}
 use Rattle.steps.specs.declared.Probes.the-variants.{Sucs, Pres}
 use Rattle.areas.specs.Area.{runIn}
-use Rattle.choosing.specs.Noting.{Turns, sentMarks, goesTo}
+use Rattle.marks.specs.Changes.{Turns}
+use Rattle.choosing.specs.Noting.{sentMarks, goesTo}
 use Rattle.choosing.proofs.Following.{sent-nobody}
 use Rattle.choosing.proofs.noting.note_probes.Statement.{statement}
 use Rattle.choosing.proofs.noting.note_probes.Tie as tie

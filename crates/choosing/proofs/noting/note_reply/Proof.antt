@@ -9,8 +9,8 @@ use Rattle.steps.specs.declared.Reply.{Reply}
 use Rattle.steps.specs.declared.Reply.the-variants.{To}
 use Rattle.steps.specs.declared.TwoCounts.{TwoCounts}
 use Rattle.delivery.specs.Delivering.{replyGoes}
-use Rattle.choosing.specs.Sets.{turned}
-use Rattle.choosing.specs.Noting.{Turns, sentMarks}
+use Rattle.marks.specs.Changes.{turned, Turns}
+use Rattle.choosing.specs.Noting.{sentMarks}
 use Rattle.choosing.proofs.Following.{sent-nobody, sent-one}
 use Rattle.choosing.proofs.noting.note_reply.Statement.{statement}
 use Rattle.choosing.proofs.noting.note_reply.Tie as tie
