@@ -5,9 +5,10 @@
 --   acknowledgeable             == an acknowledgement in range finds sums and a num that it can change
 --   rule3-made                  == a turn with the new subordinate and the sum that gained the difference is rule 3's
 --   settled-answer              == where num suffices, settled answers as 01 says: 22, or the step
+--   stepped-short, stepped-settled   == the step of what is in range, from a process: 22 where num does not suffice, else what settled answers
 -- Assumes nothing.
 use Prim.Native.Nat.{ℕ, _≤_}
-use mathlib.Core.Bool.{Bool, true, not, _&&_}
+use mathlib.Core.Bool.{Bool, true, false, not, _&&_}
 use mathlib.Core.Path.{_≡_, refl, _∙_}
 use native.Mathlib.Omega.{arith}
 use lib.Dec.{leb}
@@ -16,16 +17,17 @@ use borrow.Author.Tests.{leb-true, le-leb}
 use Rattle.base.specs.Choice.{choose}
 use Rattle.base.specs.ChoiceLaws.{same?, and-both, and-left, and-right}
 use Rattle.base.specs.Checks.{Same, same, apart}
-use Rattle.tables.specs.Table.{mostProcesses}
+use Rattle.tables.specs.Table.{mostProcesses, IsProcess}
 use Rattle.steps.specs.declared.Message.{Message}
 use Rattle.steps.specs.declared.Message.the-variants.{Ack}
 use Rattle.steps.specs.declared.Process.{Process}
 use Rattle.steps.specs.declared.TwoCounts.{TwoCounts}
 use Rattle.steps.specs.declared.Stepped.{Stepped}
+use Rattle.steps.specs.declared.Stepped.the-variants.{Refused}
 use Rattle.steps.specs.Step.{Turn, withSubordinate, withCs, small, inRange, countSmall, lentInRange, numSuffices, fitting, answer}
-use Rattle.steps.specs.Step.{mostCount, bothSmall, sumsOf, newSubordinate, gained, rule1, setSucceeding, setPreceding, rule3}
+use Rattle.steps.specs.Step.{mostCount, bothSmall, sumsOf, newSubordinate, gained, rule1, setSucceeding, setPreceding, rule3, turn, stepped}
 use Rattle.steps.specs.Effect.{RecordInRange}
-use Rattle.steps.specs.StepLaws.{inRange-P}
+use Rattle.steps.specs.StepLaws.{inRange-P, stepped-inside}
 use Rattle.steps.specs.Within.{Addable, settled}
 
 -- the parts of a conjunction of five
@@ -115,3 +117,15 @@ pub settled-answer : (m : Message) (x : Process) (t : Turn) {u : Turn} {r : Step
     → r ≡ answer (choose (not (fitting m x t)) 22 0) t
 unfolding settled fitting
 settled-answer m x t p q e = p ∙ rw (q, e)
+
+-- neither 21 nor 25 is met
+module _ (m : Message) (o i p : ℕ) (x : Process) (r : lentInRange m o i x ≡ true) (q : IsProcess mostProcesses p) where
+  inside : stepped m o i p x ≡ answer (choose (not (fitting m x (turn m o i p x))) 22 0) (turn m o i p x)
+  inside = stepped-inside m o i p x r (λ e. absurd (omega (arith, q))) (q .1)
+
+  pub stepped-short : numSuffices m x ≡ false → Refused 22 ≡ stepped m o i p x
+  unfolding fitting answer
+  stepped-short e = rw (inside, e)
+
+  pub stepped-settled : {u : Turn} {s : Stepped} → s ≡ settled u → u ≡ turn m o i p x → numSuffices m x ≡ true → s ≡ stepped m o i p x
+  stepped-settled a b e = rw inside (settled-answer m x (turn m o i p x) a b e)

@@ -478,7 +478,8 @@ pub fn other_step(
     settled(take_turn(process, message, out_degree, in_degree, sender))
 }
 
-// One process's step by itself: it checks 21, 25, 22, whatever it is given.
+// One process's step by itself: it checks 21, 25, 22, whatever it is given. It says once more what `other_step` does, and does not call it: with
+// two callers the compiler puts that into neither, and a delivery pays for the call.
 pub fn step(
     process: Process,
     message: Message,
@@ -497,7 +498,10 @@ pub fn step(
     if sender > MOST_PROCESSES {
         return Stepped::Refused(25);
     }
-    other_step(process, message, out_degree, in_degree, sender)
+    if !is_num_sufficient(message, process) {
+        return Stepped::Refused(22);
+    }
+    settled(take_turn(process, message, out_degree, in_degree, sender))
 }
 
 // The start's step, in a run whose records and counts are in range: it checks 22.
