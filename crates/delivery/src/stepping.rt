@@ -101,9 +101,9 @@ pub fn step_at(
 {
     let x = records::process(area, square, n, m, b);
     if b == heading::start_of(area, square, n, m) {
-        return steps::start_step(x, message, a as u32);
+        return one_step::start_step(x, message, a as u32);
     }
     let out_degree = out_needed(area, square, n, m, b, x, message);
     let in_degree = in_needed(area, square, n, m, b, x, message);
-    steps::other_step(x, message, out_degree, in_degree, a as u32)
+    one_step::other_step(x, message, out_degree, in_degree, a as u32)
 }

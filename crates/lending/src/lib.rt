@@ -1,5 +1,5 @@
 // One process record, lent with one message and updated by the step of a process other than the start (01, section "Steps").
-// step_value decides, by value and with steps::step; step_record takes the record by &mut and only stores what it is given; lend has a
+// step_value decides, by value and with one_step::step; step_record takes the record by &mut and only stores what it is given; lend has a
 // record of its own to lend, for callers that hold none behind a reference.
 use steps::Message;
 use steps::Probes;
@@ -33,7 +33,7 @@ fn step_value(
     ensures { λ r. ⌜ r .process ≡ lentRecord process (stepped message «out_degree» «in_degree» sender process) ⌝ }
     ensures { λ r. ⌜ r .answer ≡ lentAnswer (stepped message «out_degree» «in_degree» sender process) ⌝ }
 {
-    let stepped = steps::step(process, message, out_degree, in_degree, sender);
+    let stepped = one_step::step(process, message, out_degree, in_degree, sender);
     match stepped {
         Stepped::Taken {
             process: after,

@@ -280,7 +280,7 @@ pub extern "C" fn pickledune_step(
         second: second_count,
     };
     let message = step_values::message_of(kind, given);
-    let answer = steps::step(lent, message, out_degree, in_degree, sender);
+    let answer = one_step::step(lent, message, out_degree, in_degree, sender);
     let v = step_values::step_values(answer, lent);
     let x = v.process;
     *succeeding = x.succeeding;
