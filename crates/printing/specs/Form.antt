@@ -1,44 +1,16 @@
 -- The call that forms everything that the check program prints, in bytes that the caller lends.
---   pickRoom, ownRoom, processRoom, reportRoom   == no line of a pick, of a delivery of the program's own, of a process, and no report is longer
---   mostPicks           == as many picks as the longest input has behind the largest table
---   longestOutput       == no output is longer (program-short in LongestLaws); in code LONGEST_OUTPUT
 --   formOf bs out       == the answer: as many bytes as are formed; or 11, "the output is too short", where it may be
 --   formedIn bs out     == the lent bytes afterwards: the text at the front and the others as they were; a refusal changes none
 -- Assumes nothing.
-use Prim.Native.Nat.{ℕ, _+_, _-_, _*_, _/_}
+use Prim.Native.Nat.{ℕ}
 use mathlib.Core.List.{List, _++_}
 use lib.Dec.{ltb}
 use lib.ListN.{length, drop}
 use Rattle.base.specs.Choice.{choose}
-use Rattle.tables.specs.Table.{mostProcesses, mostArcs, tableLength}
-use Rattle.checks.specs.Run.{mostDeliveries}
-use Rattle.inputs.specs.Input.{beforeTable, longest}
+use Rattle.program_text.specs.Program.{programText}
+use Rattle.program_text.specs.Longest.{longestOutput}
 use Rattle.printing.specs.declared.Text.{Text}
 use Rattle.printing.specs.declared.Text.the-variants.{Formed, Refused}
-use Rattle.printing.specs.Program.{programText}
-
--- `pick 65535 65535 refused 25`, and the end of the line
-abbrev pub pickRoom : ℕ
-pickRoom = 28
-
--- `own 128 128 ack -128 -128`
-abbrev pub ownRoom : ℕ
-ownRoom = 26
-
--- `process 128 1 1 1 -128 256 -128`
-abbrev pub processRoom : ℕ
-processRoom = 32
-
--- `over 2048`, `verdict none`, `outside -128`, `escape 128`, `mark returned`
-abbrev pub reportRoom : ℕ
-reportRoom = 61
-
-abbrev pub mostPicks : ℕ
-mostPicks = (longest - (beforeTable + tableLength mostProcesses mostArcs)) / 4
-
--- the largest table with all its deliveries, and all picks that then still have room in the input, each refused
-abbrev pub longestOutput : ℕ
-longestOutput = pickRoom * mostPicks + ownRoom * mostDeliveries + processRoom * mostProcesses + reportRoom
 
 -- 11, "the output is too short": one that is as long as the longest output never is
 unfoldable pub formOf : List ℕ → List ℕ → Text

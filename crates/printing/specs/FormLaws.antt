@@ -12,9 +12,10 @@ use Rattle.base.specs.ChoiceLaws.{below?}
 use Rattle.base.specs.Checks.{Below, below, beyond}
 use Rattle.lines.specs.Adding.{Put}
 use Rattle.printing.specs.declared.Text.the-variants.{Formed, Refused}
-use Rattle.printing.specs.Program.{programText}
-use Rattle.printing.specs.Form.{longestOutput, formOf, formedIn}
-use Rattle.printing.specs.LongestLaws.{program-short}
+use Rattle.program_text.specs.Program.{programText}
+use Rattle.program_text.specs.Longest.{longestOutput}
+use Rattle.printing.specs.Form.{formOf, formedIn}
+use Rattle.program_text.specs.LongestLaws.{program-short}
 
 module _ (bs out : List ℕ) where
   pub form-short : length out < longestOutput → (Refused 11 ≡ formOf bs out) × (out ≡ formedIn bs out)

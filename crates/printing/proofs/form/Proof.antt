@@ -2,7 +2,7 @@
 -- Assumes nothing.
 use native.Mathlib.Omega.{arith}
 use borrow.Author.Needs.{needs}
-use Rattle.printing.specs.LongestLaws.{program-short}
+use Rattle.program_text.specs.LongestLaws.{program-short}
 use Rattle.printing.specs.FormLaws.{form-short, form-long}
 use Rattle.printing.proofs.form.Statement.{statement}
 use Rattle.printing.proofs.form.Tie as tie

@@ -9,7 +9,7 @@ use Rattle.tables.specs.Pairs.{squareSize}
 use Rattle.area_calls.specs.TestedLaws.{fresh-long, fresh-empty, wrong-area, right-ready}
 use Rattle.inputs.specs.Input.{picksIn}
 use Rattle.lines.specs.AddingLaws.{_put-then_, room-first, room-then}
-use Rattle.printing.specs.Program.{firstRun, pickedRun, picksText, restText, checkText}
+use Rattle.program_text.specs.Program.{firstRun, pickedRun, picksText, restText, checkText}
 use Rattle.printing.proofs.put_begun.Statement.{statement}
 use Rattle.printing.proofs.put_begun.Tie as tie
 

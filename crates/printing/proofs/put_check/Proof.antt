@@ -3,8 +3,8 @@
 use native.Mathlib.Omega.{arith}
 use borrow.Author.Needs.{needs}
 use Rattle.inputs.proofs.Told.{begun-ready, begun-refused}
-use Rattle.printing.specs.Program.{enough}
-use Rattle.printing.specs.ProgramLaws.{program-refused, program-begun, begun-right, begun-run}
+use Rattle.program_text.specs.Program.{enough}
+use Rattle.program_text.specs.ProgramLaws.{program-refused, program-begun, begun-right, begun-run}
 use Rattle.printing.proofs.put_check.Statement.{statement}
 use Rattle.printing.proofs.put_check.Tie as tie
 

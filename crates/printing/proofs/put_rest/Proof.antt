@@ -5,7 +5,7 @@ use borrow.Author.Needs.{needs}
 use Rattle.checks.specs.Run.{knot}
 use Rattle.areas.specs.Area.{runIn}
 use Rattle.lines.specs.AddingLaws.{_put-then_, room-first, room-then}
-use Rattle.printing.specs.Program.{endRun, ownText, endText, restText}
+use Rattle.program_text.specs.Program.{endRun, ownText, endText, restText}
 use Rattle.printing.proofs.put_rest.Statement.{statement}
 use Rattle.printing.proofs.put_rest.Tie as tie
 

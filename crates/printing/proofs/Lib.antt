@@ -1,4 +1,0 @@
--- What the proofs of the functions share: Partly (a text of which a part is put), Turning (the lines of the picks, of the program's own
--- deliveries, of the processes and of the report, one by one, in an area).
-pub mod Partly
-pub mod Turning

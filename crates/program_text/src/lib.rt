@@ -1,0 +1,1 @@
+// What the check program prints, as one function of its input's bytes, in specs/. It has no code of its own.
