@@ -3,10 +3,8 @@
 use checks::Report;
 use lenses::records;
 ghost use Prim.Native.Nat.{_+_, _≤_};
-ghost use mathlib.Core.Path.{_≡_};
-ghost use mathlib.Core.Bool.{true};
 ghost use lib.ListN.{length};
-ghost use Rattle.areas.specs.Area.{runIn, areaRight};
+ghost use Rattle.areas.specs.Area.{runIn};
 ghost use Rattle.checks.specs.Calls.{report};
 ghost use Rattle.lenses.specs.Ready.{Ready};
 ghost use Rattle.lines.specs.Adding.{Put};
@@ -35,12 +33,19 @@ fn put_processes(
 }
 
 // The report.
-fn put_report(out: &mut [u8], at: usize, area: &[i32]) -> usize
-    requires { ⌜ areaRight (now area) ≡ true ⌝ }
+fn put_report(
+    out: &mut [u8],
+    at: usize,
+    area: &[i32],
+    square: &[u16; tables::SQUARE_SIZE],
+    n: usize,
+    m: usize,
+) -> usize
+    requires { ⌜ Ready (now area) (now square) n m ⌝ }
     requires { ⌜ at + length (reportLines (report (runIn (now area)))) ≤ length (now out) ⌝ }
     ensures { λ r. ⌜ Put (now (out .entry)) at (reportLines (report (runIn (now (area .entry))))) (now (out .exit)) r ⌝ }
 {
-    match reports::report(area) {
+    match reports::report_in(area, square, n, m) {
         Report::Refused(number) => lines::put_refused(out, at, number),
         Report::Over {
             deliveries,
@@ -66,5 +71,5 @@ pub fn put_end(
     ensures { λ r. ⌜ Put (now (out .entry)) at (endText (runIn (now (area .entry)))) (now (out .exit)) r ⌝ }
 {
     let end = put_processes(out, at, area, square, n, m);
-    put_report(out, end, area)
+    put_report(out, end, area, square, n, m)
 }

@@ -2,6 +2,7 @@
 --   decimalTo-fuel              == any two first numbers above n give the digits of n
 --   decimal-step                == a number below 10 is its digit; any other is the digits of its tenth part, and then its last digit
 --   decimal-one, decimal-more   == the two cases; decimal-one-length, decimal-more-length: how many digits they have
+--   decimal-some                == every number has a digit
 --   decimal-length              == a number below 10 ^ k has at most k digits, for k above 0
 --   decimal-short               == a 32-bit number has at most 10
 --   signed-high, signed-low     == a number that is not below 0 is its digits; one below 0 has a hyphen before them
@@ -55,6 +56,13 @@ decimal-one-length n h = rw (decimal-one n h)
 
 pub decimal-more-length : (n : ℕ) → 10 ≤ n → length (decimal n) ≡ length (decimal (n / 10)) + 1
 decimal-more-length n h = rw (decimal-more n h, length-append)
+
+pub decimal-some : (n : ℕ) → 1 ≤ length (decimal n)
+decimal-some n = at (tested (ltb n 10))
+  where
+    at : Tested (ltb n 10) → 1 ≤ length (decimal n)
+    at (passed e) = omega (arith, decimal-one-length n (ltb-true n 10 e))
+    at (failed e) = omega (arith, decimal-more-length n (ltb-false n 10 e))
 
 pub decimal-length : (k n : ℕ) → n < 10 ^ suc k → length (decimal n) ≤ suc k
 decimal-length zero n h = omega (arith, decimal-one-length n h)

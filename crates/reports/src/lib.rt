@@ -1,5 +1,5 @@
 // The report and reading a record, on any words that a caller lends. Each tests the area first; one that is not well formed gets 21. Neither
-// changes a word.
+// changes a word. What follows the test is a function of its own (`report_in`, `read_in`), for whoever has tested the area already.
 use area_tests::testing;
 use area_tests::testing::Sizes;
 use areas::squares;
@@ -111,6 +111,23 @@ fn told(start: Process, knot: bool, deliveries: u32, escape: u32) -> Report
     }
 }
 
+// The report in a tested area: 26.
+pub fn report_in(area: &[i32], square: &[u16; tables::SQUARE_SIZE], n: usize, m: usize) -> Report
+    requires { ⌜ Ready (now area) (now square) n m ⌝ }
+    ensures { λ r. ⌜ r ≡ reportAnswer (now (area .entry)) ⌝ }
+{
+    if !heading::is_over(area, square, n, m) {
+        return Report::Refused(26);
+    }
+    let escape = escape_of(area, square, n, m);
+    let s = heading::start_of(area, square, n, m);
+    let x = records::process(area, square, n, m, s);
+    let allowed = edition_allows(area, square, n, m, s);
+    let knot = is_knot(x, allowed);
+    let deliveries = heading::count_of(area, square, n, m);
+    told(x, knot, deliveries, escape)
+}
+
 // The report of a run that is over: 21, 26.
 pub fn report(area: &[i32]) -> Report
     ensures { λ r. ⌜ r ≡ reportAnswer (now (area .entry)) ⌝ }
@@ -119,16 +136,24 @@ pub fn report(area: &[i32]) -> Report
     let Sizes::Right { n, m } = testing::test(area, &mut square) else {
         return Report::Refused(21);
     };
-    if !heading::is_over(area, &square, n, m) {
-        return Report::Refused(26);
+    report_in(area, &square, n, m)
+}
+
+// The record of process p in a tested area: 25.
+pub fn read_in(
+    area: &[i32],
+    square: &[u16; tables::SQUARE_SIZE],
+    n: usize,
+    m: usize,
+    p: usize,
+) -> Reading
+    requires { ⌜ Ready (now area) (now square) n m ⌝ }
+    ensures { λ r. ⌜ r ≡ readAnswer (now (area .entry)) p ⌝ }
+{
+    if !is_process(p, n) {
+        return Reading::Refused(25);
     }
-    let escape = escape_of(area, &square, n, m);
-    let s = heading::start_of(area, &square, n, m);
-    let x = records::process(area, &square, n, m, s);
-    let allowed = edition_allows(area, &square, n, m, s);
-    let knot = is_knot(x, allowed);
-    let deliveries = heading::count_of(area, &square, n, m);
-    told(x, knot, deliveries, escape)
+    Reading::Found(records::process(area, square, n, m, p))
 }
 
 // The record of process p: 21, 25.
@@ -139,8 +164,5 @@ pub fn read_record(area: &[i32], p: usize) -> Reading
     let Sizes::Right { n, m } = testing::test(area, &mut square) else {
         return Reading::Refused(21);
     };
-    if !is_process(p, n) {
-        return Reading::Refused(25);
-    }
-    Reading::Found(records::process(area, &square, n, m, p))
+    read_in(area, &square, n, m, p)
 }

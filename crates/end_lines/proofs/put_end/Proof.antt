@@ -20,7 +20,7 @@ unfolding endText
 put-report-requires c κs =
     let p = c .before .before .before in
     let s = p .before .before .before in
-    (s .pre .0 .right, room-then (reportLines (report (runIn (s .args .area .now)))) (p .put-processes .ensures) (s .pre .1))
+    (s .pre .0, room-then (reportLines (report (runIn (s .args .area .now)))) (p .put-processes .ensures) (s .pre .1))
 
 returns : tie.Need-returns
 unfolding endText

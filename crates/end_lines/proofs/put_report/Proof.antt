@@ -12,7 +12,7 @@ put-refused-requires : tie.Need-put-refused-requires
 put-refused-requires c κs =
     let f = c .before .before in
     let d = f .before .before in
-    rw (report-refused (d .report .ensures ∙ report-on _ (d .before .before .pre .0)) (f .number .given .1)) at (d .before .before .pre .1)
+    rw (report-refused (d .report-in .ensures ∙ report-on _ (d .before .before .pre .0 .right)) (f .number .given .1)) at (d .before .before .pre .1)
 
 put-report-requires : tie.Need-put-report-requires
 put-report-requires c κs =
@@ -20,14 +20,14 @@ put-report-requires c κs =
     let f = t .before in
     let d = f .before .before in
     rw (signed-back (f .deliveries .given .0 .1 .1 .0) (t .known-told2 .given .1 .1 .0 .1))
-    (rw (report-given (d .report .ensures ∙ report-on _ (d .before .before .pre .0)) (f .deliveries .given .1)) at (d .before .before .pre .1))
+    (rw (report-given (d .report-in .ensures ∙ report-on _ (d .before .before .pre .0 .right)) (f .deliveries .given .1)) at (d .before .before .pre .1))
 
 returns : tie.Need-returns
 returns c =
     let l = c .before .before in
     let f = l .before .before .before in
     let d = f .before .before in
-    rw (report-refused (d .report .ensures ∙ report-on _ (d .before .before .pre .0)) (f .number .given .1)) (l .put-refused .ensures)
+    rw (report-refused (d .report-in .ensures ∙ report-on _ (d .before .before .pre .0 .right)) (f .number .given .1)) (l .put-refused .ensures)
 
 returns-2 : tie.Need-returns-2
 returns-2 c =
@@ -35,7 +35,7 @@ returns-2 c =
     let t = l .before .before in
     let f = t .before in
     let d = f .before .before in
-    rw (report-given (d .report .ensures ∙ report-on _ (d .before .before .pre .0)) (f .deliveries .given .1))
+    rw (report-given (d .report-in .ensures ∙ report-on _ (d .before .before .pre .0 .right)) (f .deliveries .given .1))
     (rw (signed-back (f .deliveries .given .0 .1 .1 .0) (t .known-told2 .given .1 .1 .0 .1)) at (l .put-report .ensures))
 
 pub put-report-spec : {M : Type 1} → statement M

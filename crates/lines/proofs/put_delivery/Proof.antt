@@ -1,28 +1,28 @@
--- `lines::put_delivery` meets its contract: the line of a delivery is formed, and put where it belongs. Assumes nothing.
+-- `lines::put_delivery` meets its contract: the link, the message and the end of the line. Assumes nothing.
+use native.Mathlib.Omega.{arith}
 use borrow.Author.Needs.{needs}
-use Rattle.lines.specs.AddingLaws.{line-room, line-put}
+use lib.ListN.{length-append}
+use Rattle.lines.specs.Text.{deliveryLine}
+use Rattle.lines.specs.AddingLaws.{_put-then_}
 use Rattle.lines.proofs.put_delivery.Statement.{statement}
 use Rattle.lines.proofs.put_delivery.Tie as tie
 
-put-word-requires : tie.Need-put-word-requires
-put-word-requires c κs =
-    let d = c .before .before .before .before in
-    line-room (d .delivery-line .ensures) _ _ (d .before .before .before .pre)
-
 returns : tie.Need-returns
+unfolding deliveryLine
 returns c =
-    let w = c .before .before in
-    line-put (w .before .before .before .before .before .delivery-line .ensures) (w .put-word .ensures)
+    let c3 = c .before .before in
+    let c2 = c3 .before .before .before .before .before in
+    let c1 = c2 .before .before .before .before in
+    c1 .put-link .ensures put-then c2 .put-message .ensures put-then c3 .put-word .ensures
 
 pub put-delivery-spec : {M : Type 1} → statement M
+unfolding deliveryLine
 put-delivery-spec =
     tie.close
     (tie.spec
+    (λ c κs. omega (arith, simp length-append at (c .before .before .pre)))
+    (λ c κs. omega (arith, simp length-append at (c .before .before .before .before .before .before .pre)))
     (λ c. search needs)
-    (λ c κs. search needs)
-    (λ c. search needs)
-    (λ c. search needs)
-    (λ c. search needs)
-    put-word-requires
+    (λ c κs. omega (arith, simp length-append at (c .before .before .before .before .before .before .before .before .before .before .before .pre)))
     (λ c. search needs)
     returns)

@@ -1,10 +1,16 @@
 -- `lines::put_mark` meets its contract: one of the two lines. Assumes nothing.
-use native.Mathlib.Omega.{arith}
 use borrow.Author.Needs.{needs}
 use Rattle.lines.specs.Text.{markLine}
-use Rattle.lines.specs.AddingLaws.{added-more}
 use Rattle.lines.proofs.put_mark.Statement.{statement}
 use Rattle.lines.proofs.put_mark.Tie as tie
+
+put-word-requires : tie.Need-put-word-requires
+unfolding markLine
+put-word-requires c κs = let d = c .before .before in rw (d .enum-told .given .1) at (d .before .before .before .pre)
+
+put-word-requires-2 : tie.Need-put-word-requires-2
+unfolding markLine
+put-word-requires-2 c κs = let d = c .before .before in rw (d .enum-told2 .given .1) at (d .before .before .before .pre)
 
 returns : tie.Need-returns
 unfolding markLine
@@ -16,7 +22,7 @@ returns-2 : tie.Need-returns-2
 unfolding markLine
 returns-2 c =
     let d = c .before .before in
-    rw (d .before .before .before .enum-told2 .given .1) (added-more (omega arith) (d .put-word2 .ensures))
+    rw (d .before .before .before .enum-told2 .given .1) (d .put-word2 .ensures)
 
 pub put-mark-spec : {M : Type 1} → statement M
 put-mark-spec =
@@ -24,10 +30,10 @@ put-mark-spec =
     (tie.spec
     (λ c. search needs)
     (λ c. search needs)
-    (λ c κs. search needs)
+    put-word-requires
     (λ c. search needs)
     (λ c. search needs)
-    (λ c κs. search needs)
+    put-word-requires-2
     (λ c. search needs)
     returns
     (λ c. search needs)

@@ -1,28 +1,22 @@
--- `lines::put_refused` meets its contract: the line of a refusal is formed, and put where it belongs. Assumes nothing.
+-- `lines::put_refused` meets its contract: a line of a word and a number. Assumes nothing.
 use borrow.Author.Needs.{needs}
-use Rattle.lines.specs.AddingLaws.{line-room, line-put}
+use Rattle.lines.specs.Text.{refusedLine}
 use Rattle.lines.proofs.put_refused.Statement.{statement}
 use Rattle.lines.proofs.put_refused.Tie as tie
 
-put-word-requires : tie.Need-put-word-requires
-put-word-requires c κs =
-    let d = c .before .before .before .before in
-    line-room (d .refused-line .ensures) _ _ (d .before .before .before .pre)
+put-number-line-requires : tie.Need-put-number-line-requires
+unfolding refusedLine
+put-number-line-requires c κs = c .before .before .before .pre
 
 returns : tie.Need-returns
-returns c =
-    let w = c .before .before in
-    line-put (w .before .before .before .before .before .refused-line .ensures) (w .put-word .ensures)
+unfolding refusedLine
+returns c = c .before .before .put-number-line .ensures
 
 pub put-refused-spec : {M : Type 1} → statement M
 put-refused-spec =
     tie.close
     (tie.spec
     (λ c. search needs)
-    (λ c κs. search needs)
-    (λ c. search needs)
-    (λ c. search needs)
-    (λ c. search needs)
-    put-word-requires
+    put-number-line-requires
     (λ c. search needs)
     returns)

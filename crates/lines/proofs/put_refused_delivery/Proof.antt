@@ -1,28 +1,31 @@
--- `lines::put_refused_delivery` meets its contract: the line of a refused pick is formed, and put where it belongs. Assumes nothing.
+-- `lines::put_refused_delivery` meets its contract: the link, the word, the number and the end of the line. Assumes nothing.
+use native.Mathlib.Omega.{arith}
 use borrow.Author.Needs.{needs}
-use Rattle.lines.specs.AddingLaws.{line-room, line-put}
+use lib.ListN.{length-append}
+use Rattle.lines.specs.Text.{refusedPickLine}
+use Rattle.lines.specs.AddingLaws.{_put-then_}
 use Rattle.lines.proofs.put_refused_delivery.Statement.{statement}
 use Rattle.lines.proofs.put_refused_delivery.Tie as tie
 
-put-word-requires : tie.Need-put-word-requires
-put-word-requires c κs =
-    let d = c .before .before .before .before in
-    line-room (d .refused-delivery-line .ensures) _ _ (d .before .before .before .pre)
-
 returns : tie.Need-returns
+unfolding refusedPickLine
 returns c =
-    let w = c .before .before in
-    line-put (w .before .before .before .before .before .refused-delivery-line .ensures) (w .put-word .ensures)
+    let c4 = c .before .before in
+    let c3 = c4 .before .before .before .before .before in
+    let c2 = c3 .before .before .before .before in
+    let c1 = c2 .before .before .before .before .before in
+    c1 .put-link .ensures put-then c2 .put-word .ensures put-then c3 .put-field .ensures put-then c4 .put-word2 .ensures
 
 pub put-refused-delivery-spec : {M : Type 1} → statement M
+unfolding refusedPickLine
 put-refused-delivery-spec =
     tie.close
     (tie.spec
+    (λ c κs. omega (arith, simp length-append at (c .before .before .pre)))
     (λ c. search needs)
-    (λ c κs. search needs)
+    (λ c κs. omega (arith, simp length-append at (c .before .before .before .before .before .before .before .pre)))
+    (λ c κs. omega (arith, simp length-append at (c .before .before .before .before .before .before .before .before .before .before .before .pre)))
     (λ c. search needs)
-    (λ c. search needs)
-    (λ c. search needs)
-    put-word-requires
+    (λ c κs. omega (arith, simp length-append at (c .before .before .before .before .before .before .before .before .before .before .before .before .before .before .before .before .pre)))
     (λ c. search needs)
     returns)

@@ -4,6 +4,14 @@ use Rattle.lines.specs.Text.{verdictLine}
 use Rattle.lines.proofs.put_verdict.Statement.{statement}
 use Rattle.lines.proofs.put_verdict.Tie as tie
 
+put-word-requires : tie.Need-put-word-requires
+unfolding verdictLine
+put-word-requires c κs = let d = c .before .before in rw (d .enum-told .given .1) at (d .before .before .before .pre)
+
+put-word-requires-2 : tie.Need-put-word-requires-2
+unfolding verdictLine
+put-word-requires-2 c κs = let d = c .before .before in rw (d .enum-told2 .given .1) at (d .before .before .before .pre)
+
 returns : tie.Need-returns
 unfolding verdictLine
 returns c =
@@ -22,10 +30,10 @@ put-verdict-spec =
     (tie.spec
     (λ c. search needs)
     (λ c. search needs)
-    (λ c κs. search needs)
+    put-word-requires
     (λ c. search needs)
     (λ c. search needs)
-    (λ c κs. search needs)
+    put-word-requires-2
     (λ c. search needs)
     returns
     (λ c. search needs)

@@ -1,8 +1,9 @@
 -- `lines::pieces::put_number_line` meets its contract: the word, the number and the end of the line. Assumes nothing.
 use native.Mathlib.Omega.{arith}
 use borrow.Author.Needs.{needs}
+use lib.ListN.{length-append}
 use Rattle.lines.specs.Text.{numberLine}
-use Rattle.lines.specs.AddingLaws.{_added-then_, added-more}
+use Rattle.lines.specs.AddingLaws.{_put-then_}
 use Rattle.lines.proofs.pieces.put_number_line.Statement.{statement}
 use Rattle.lines.proofs.pieces.put_number_line.Tie as tie
 
@@ -12,8 +13,16 @@ returns c =
     let c3 = c .before .before in
     let c2 = c3 .before .before .before .before .before in
     let c1 = c2 .before .before .before .before in
-    added-more (omega arith) (c1 .put-word .ensures added-then c2 .put-field .ensures added-then c3 .put-word2 .ensures)
+    c1 .put-word .ensures put-then c2 .put-field .ensures put-then c3 .put-word2 .ensures
 
 pub put-number-line-spec : {M : Type 1} → statement M
-put-number-line-spec = tie.close (tie.spec (λ c κs. search needs) (λ c κs. search needs) (λ c. search needs) (λ c κs. search needs)
-    (λ c. search needs) returns)
+unfolding numberLine
+put-number-line-spec =
+    tie.close
+    (tie.spec
+    (λ c κs. omega (arith, simp length-append at (c .before .before .before .pre)))
+    (λ c κs. omega (arith, simp length-append at (c .before .before .before .before .before .before .before .pre)))
+    (λ c. search needs)
+    (λ c κs. omega (arith, simp length-append at (c .before .before .before .before .before .before .before .before .before .before .before .before .pre)))
+    (λ c. search needs)
+    returns)
