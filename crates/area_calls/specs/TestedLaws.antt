@@ -1,7 +1,7 @@
 -- What the test of an area says to a call.
---   fresh-long, fresh-empty   == a fresh square has all its cells, each 0
+--   fresh-long, fresh-empty   == a fresh array has all its numbers, each 0
 --   wrong-area                == the test says wrong: the area is not well formed
---   right-area, right-ready   == the test gives N and M: the area is well formed, and ready with the square
+--   right-area, right-ready   == the test gives N and M: the area is well formed, and ready
 --   ready-process             == whether a number is a process of the run
 --   none-from, none-to        == who is no process has no link
 -- Assumes nothing.
@@ -11,17 +11,14 @@ use mathlib.Core.List.{List}
 use mathlib.Core.Path.{_≡_, refl, sym, ap, _∙_}
 use native.Mathlib.Omega.{arith}
 use lib.ListN.{length, getD, replicate, length-replicate}
-use lib.IntN.{ℤ, pos}
-use mir.Syntax.{w32}
-use mir.Val.{ofZ}
+use lib.IntN.{ℤ}
 use Rattle.tables.specs.TableLaws.{isProcess-P}
 use Rattle.tables.specs.Table.{isProcess}
 use Rattle.areas.specs.Places.{fieldPlace}
 use Rattle.area_tests.specs.declared.testing.Sizes.{Sizes}
 use Rattle.area_tests.specs.declared.testing.Sizes.the-variants.{Right, Wrong}
-use Rattle.areas.specs.Area.{numberAt, fieldsIn, runIn, areaRight}
+use Rattle.areas.specs.Area.{numberAt, runIn, areaRight}
 use Rattle.areas.specs.RunInLaws.{fieldsIn-n, fieldsIn-m}
-use Rattle.areas.specs.Squares.{Square}
 use Rattle.area_tests.specs.Testing.{sizesOf}
 use Rattle.base.specs.CountLaws.{replicate-zero}
 use Rattle.lenses.specs.Ready.{Ready}
@@ -55,24 +52,19 @@ right-area w s n m e f = at (areaRight w) refl
         let z : _≡_ {A = ℕ} 0 1 = cc in
         absurd (omega arith)
 
-pub right-ready : (w : List ℤ) (sq : List ℕ) (s : Sizes) (n m : ℕ) → s ≡ sizesOf (areaRight w) w → s ≡ Right n m →
-    (areaRight w ≡ true → Square (fieldsIn w) sq) → Ready w sq n m
-right-ready w sq s n m e f q =
+pub right-ready : (w : List ℤ) (s : Sizes) (n m : ℕ) → s ≡ sizesOf (areaRight w) w → s ≡ Right n m → Ready w n m
+right-ready w s n m e f =
     let g : areaRight w ≡ true = right-area w s n m e f in
     let h : Right n m ≡ Right (numberAt w (fieldPlace 0)) (numberAt w (fieldPlace 1)) = sym f ∙ e ∙ ap (λ (b : Bool). sizesOf b w) g in
     let a : n ≡ numberAt w (fieldPlace 0) = cc in
     let b : m ≡ numberAt w (fieldPlace 1) = cc in
-    record { right = g; square = q g; n-is = a ∙ sym (fieldsIn-n w); m-is = b ∙ sym (fieldsIn-m w) }
+    record { right = g; n-is = a ∙ sym (fieldsIn-n w); m-is = b ∙ sym (fieldsIn-m w) }
 
-pub ready-process : {w : List ℤ} {sq : List ℕ} {n m : ℕ} → Ready w sq n m → (p : ℕ) {b : Bool} → b ≡ isProcess n p → b ≡ isProcess (runIn w .waits .n) p
+pub ready-process : {w : List ℤ} {n m : ℕ} → Ready w n m → (p : ℕ) {b : Bool} → b ≡ isProcess n p → b ≡ isProcess (runIn w .waits .n) p
 ready-process y p e = rw (ready-n y) e
 
--- a word whose bits are not 0 is not 0
-pub word-apart : (z : ℤ) → (ofZ w32 z ≡ 0 → ⊥) → z ≡ pos 0 → ⊥
-word-apart z h e = h (rw e refl)
-
 -- who is no process has no link
-pub none-from : {w : List ℤ} {sq : List ℕ} {n m : ℕ} → Ready w sq n m → (a b : ℕ) → isProcess n a ≡ false → neighbours (runIn w .waits) a b ≡ false
+pub none-from : {w : List ℤ} {n m : ℕ} → Ready w n m → (a b : ℕ) → isProcess n a ≡ false → neighbours (runIn w .waits) a b ≡ false
 none-from {w} {n = n} y a b h = at (neighbours (runIn w .waits) a b) refl
   where
     at : (x : Bool) → neighbours (runIn w .waits) a b ≡ x → neighbours (runIn w .waits) a b ≡ false
@@ -81,5 +73,5 @@ none-from {w} {n = n} y a b h = at (neighbours (runIn w .waits) a b) refl
         let i = neighbours-ends (runIn w .waits) (right-storable w (y .right) .sound) a b e in
         absurd (false≢true (sym h ∙ isProcess-P n a .1 (i .0, omega (arith, i .1, ready-n y))))
 
-pub none-to : {w : List ℤ} {sq : List ℕ} {n m : ℕ} → Ready w sq n m → (a b : ℕ) → isProcess n b ≡ false → neighbours (runIn w .waits) a b ≡ false
+pub none-to : {w : List ℤ} {n m : ℕ} → Ready w n m → (a b : ℕ) → isProcess n b ≡ false → neighbours (runIn w .waits) a b ≡ false
 none-to {w} y a b h = neighbours-swap (runIn w .waits) a b ∙ none-from y b a h

@@ -5,28 +5,30 @@
 --   failing                       == a call that gave false, where its test was to pass
 --   HeadParts, headTest-parts     == the head
 --   flags-parts                   == the flags' word is the flags packed again exactly if it is a number of at most 7
---   fatherRight-none, fatherRight-over, fatherRight-joined   == father 0, father over N, and any other by the square
+--   fatherRight-none, fatherRight-over, fatherRight-joined   == father 0, father over N, and any other by the sets
 --   RecordParts, recordTest-parts == a record
 --   arcTest-empty, arcTest-no, arcTest-back, arcTest-free   == an arc's two links
 --   AreaParts, areaTests-parts    == an area
 -- Assumes nothing.
 use Prim.Native.Nat.{ℕ, _+_, _-_, _*_, _/_, _%_, _≤_, _<_}
-use mathlib.Core.Bool.{Bool, true, false, not, false≢true}
+use mathlib.Core.Bool.{Bool, true, false, not, _||_, false≢true}
 use mathlib.Core.List.{List}
 use mathlib.Core.Path.{_≡_, sym, ap, _∙_}
 use native.Mathlib.Omega.{arith}
 use borrow.Author.Tests.{eq-eqb, ne-eqb}
+use lib.Dec.{eqb}
 use lib.IntN.{ℤ, pos}
 use lib.ListN.{getD}
 use Rattle.base.specs.Choice.{choose}
 use Rattle.base.specs.ChoiceLaws.{tested}
 use Rattle.base.specs.Checks.{Tested, passed, failed}
 use Rattle.base.specs.Sums.{allTo}
-use Rattle.tables.specs.Table.{nOf, mOf, mostProcesses, isProcess, arcAt}
+use Rattle.tables.specs.Table.{nOf, mOf, mostProcesses, isProcess, IsProcess, arcAt}
 use Rattle.tables.specs.Layout.{Right}
 use Rattle.tables.specs.Reading.{fieldsNumber}
 use Rattle.tables.specs.Waits.{waitsOf, neighbours}
 use Rattle.tables.specs.WaitsLaws.{waitsOf-sound, neighbours-ends}
+use Rattle.sets.specs.Sets.{isIn}
 use Rattle.steps.specs.declared.Process.{Process}
 use Rattle.steps.specs.Step.{inRange}
 use Rattle.checks.specs.Run.{mostDeliveries, fatherRight}
@@ -34,12 +36,13 @@ use Rattle.areas.specs.Places.{startPlace, countPlace, headSize, fieldPlace, fl
 use Rattle.areas.specs.Used.{linkSlots}
 use Rattle.areas.specs.Used.{checkPlace, headUsed, recordUsed}
 use Rattle.areas.specs.Area.{fieldTotalOf, recordPlace, linkPlace, arcOf, knotCheck, flagsOf, hasBack, numberAt, fieldsIn, recordAt, sameWord}
-use Rattle.areas.specs.Squares.{joinedBy, Square}
 use Rattle.areas.specs.Tells.{Tells}
 use Rattle.areas.specs.TellsLaws.{tells-map, tells-le, tells-eq, tells-id, tells-both, tells-same}
 use Rattle.areas.specs.WordTestLaws.{sameWord-P, counts-of}
-use Rattle.areas.specs.SquareLaws.{joinedBy-is}
+use Rattle.areas.specs.ArcLaws.{arcOf-waits}
 use Rattle.area_tests.specs.AreaTests.{sizesTest, fieldTest, counts, areFree, editionTest, headTest, recordTest, linkTest, arcTest, areaTests}
+use Rattle.area_tests.specs.Testing.{Waiting}
+use Rattle.area_tests.specs.WaitingLaws.{waiting-joined}
 use Rattle.area_tests.specs.RegionLaws.{tells-areFree}
 use Rattle.area_tests.specs.LinkTestLaws.{linkTest-empty}
 
@@ -119,8 +122,8 @@ flags-parts w k = tells-map to from (sameWord-P (getD w i (pos 0)) (pos (flagsOf
     from : (counts w i ≡ true) × (numberAt w i ≤ 7) → getD w i (pos 0) ≡ pos (flagsOf (recordAt w k))
     from s = sameWord-P (getD w i (pos 0)) (pos (numberAt w i)) .0 (s .0) ∙ ap pos (bits (numberAt w i) (s .1))
 
--- the father of p, by the square
-module _ (w : List ℤ) (sq : List ℕ) (right : Right (fieldsIn w)) (square : Square (fieldsIn w) sq) (p : ℕ) (x : Process) where
+-- the father of p, by the sets
+module _ (w : List ℤ) (l : List ℕ) (right : Right (fieldsIn w)) (waiting : Waiting (fieldsIn w) l) (p : ℕ) (x : Process) where
   pub fatherRight-none : x .father ≡ 0 → fatherRight (waitsOf (fieldsIn w)) p x ≡ true
   unfolding fatherRight
   fatherRight-none e = rw (eq-eqb (x .father) 0 e)
@@ -133,10 +136,10 @@ module _ (w : List ℤ) (sq : List ℕ) (right : Right (fieldsIn w)) (square : S
       at (passed e) = absurd (omega (arith, neighbours-ends (waitsOf (fieldsIn w)) (waitsOf-sound (fieldsIn w) right) p (x .father) e .3))
       at (failed e) = e
 
-  pub fatherRight-joined : {b : Bool} → (x .father ≡ 0 → ⊥) → p ≤ mostProcesses → x .father ≤ mostProcesses → b ≡ joinedBy sq p (x .father)
-      → b ≡ fatherRight (waitsOf (fieldsIn w)) p x
+  pub fatherRight-joined : {b : Bool} → (x .father ≡ 0 → ⊥) → IsProcess mostProcesses p → IsProcess mostProcesses (x .father)
+      → b ≡ (isIn l p (x .father) || isIn l (x .father) p) → b ≡ fatherRight (waitsOf (fieldsIn w)) p x
   unfolding fatherRight
-  fatherRight-joined d l u e = rw (ne-eqb (x .father) 0 d) (e ∙ joinedBy-is (fieldsIn w) sq square p (x .father) l u)
+  fatherRight-joined d i j e = rw (ne-eqb (x .father) 0 d) (e ∙ waiting-joined (fieldsIn w) waiting p (x .father) i j)
 
 pub record RecordParts (w : List ℤ) (p k : ℕ) (x : Process) : Type 0 where
   pub values : inRange x ≡ true
@@ -207,17 +210,25 @@ module _ (w : List ℤ) (k i : ℕ) (e : i ≡ linkPlace (fieldsIn w) k) where
   arcTest-no h = rw (← e, h)
 
   -- the link back is there exactly if no arc leads back
-  abbrev NoArcBack : Type 0
-  NoArcBack = arcOf (fieldsIn w) (arcAt (fieldsIn w) k .to) (arcAt (fieldsIn w) k .from) ≡ 0
+  abbrev back : Bool
+  back = waitsOf (fieldsIn w) .waits (arcAt (fieldsIn w) k .to) (arcAt (fieldsIn w) k .from)
 
-  pub arcTest-back : {b : Bool} → linkTest linkSlots linkSize w i ≡ true → NoArcBack → b ≡ linkTest linkSlots linkSize w (i + linkSize) → b ≡ arcTest w k
-  unfolding arcTest hasBack
-  arcTest-back h o q = rw (← e, h, o) q
+  hasBack-not : {b : Bool} → back ≡ b → hasBack (fieldsIn w) k ≡ not b
+  unfolding hasBack
+  hasBack-not f = let a = arcAt (fieldsIn w) k in swap (eqb (arcOf (fieldsIn w) (a .to) (a .from)) 0) (sym (arcOf-waits (fieldsIn w) (a .to) (a .from)) ∙ f)
+    where
+      swap : (x : Bool) {y : Bool} → not x ≡ y → x ≡ not y
+      swap true e = rw (← e)
+      swap false e = rw (← e)
 
-  pub arcTest-free : {b : Bool} → linkTest linkSlots linkSize w i ≡ true → (NoArcBack → ⊥) → b ≡ areFree w (i + linkSize) (i + linkSize + linkSize)
+  pub arcTest-back : {b : Bool} → linkTest linkSlots linkSize w i ≡ true → back ≡ false → b ≡ linkTest linkSlots linkSize w (i + linkSize) → b ≡ arcTest w k
+  unfolding arcTest
+  arcTest-back h o q = rw (← e, h, hasBack-not o) q
+
+  pub arcTest-free : {b : Bool} → linkTest linkSlots linkSize w i ≡ true → back ≡ true → b ≡ areFree w (i + linkSize) (i + linkSize + linkSize)
       → b ≡ arcTest w k
-  unfolding arcTest hasBack
-  arcTest-free h o q = rw (← e, h, ne-eqb (arcOf (fieldsIn w) (arcAt (fieldsIn w) k .to) (arcAt (fieldsIn w) k .from)) 0 o) q
+  unfolding arcTest
+  arcTest-free h o q = rw (← e, h, hasBack-not o) q
 
 -- ---- an area
 

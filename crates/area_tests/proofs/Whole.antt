@@ -7,7 +7,7 @@
 --   accepted                  == the way out that passes all parts
 -- Assumes nothing.
 use Prim.Native.Nat.{ℕ, _≤_}
-use mathlib.Core.Bool.{Bool, true, false, false≢true}
+use mathlib.Core.Bool.{Bool, true, false}
 use mathlib.Core.List.{List}
 use mathlib.Core.Path.{_≡_, refl, sym, _∙_}
 use native.Mathlib.Omega.{arith}
@@ -67,7 +67,5 @@ module _ (w : List ℤ) (n m : ℕ) (s : Sized w n m) where
   pub accepted : AreaParts w → Sizes.Right n m ≡ sizesOf (areaRight w) w
   accepted p = rw (sym (areaTests-P w) ∙ areaTests-parts w .1 p, s .processes ∙ fieldsIn-n w, s .arcs ∙ fieldsIn-m w)
 
-pub wrong : {Q : Type 0} (w : List ℤ) → (AreaParts w → ⊥) → (Sizes.Wrong ≡ sizesOf (areaRight w) w) × (areaRight w ≡ true → Q)
-wrong w never =
-    let f = sym (areaTests-P w) ∙ tells-no (areaTests-parts w) never in
-    (rw f, λ e. absurd (false≢true (sym f ∙ e)))
+pub wrong : (w : List ℤ) → (AreaParts w → ⊥) → Sizes.Wrong ≡ sizesOf (areaRight w) w
+wrong w never = rw (sym (areaTests-P w) ∙ tells-no (areaTests-parts w) never)

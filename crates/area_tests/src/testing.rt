@@ -1,22 +1,20 @@
 // The test of an area: is it well formed? On any words whatever, in one pass over them.
 use crate::word_tests;
 use areas::places;
-use areas::squares;
 use areas::words;
 use tables::is_process;
 ghost use mathlib.Core.Path.{_≡_};
-ghost use mathlib.Core.Bool.{true};
+ghost use mathlib.Core.Bool.{true, _||_};
 ghost use Prim.Native.Nat.{ℕ, _+_, _-_, _*_, _≤_, _<_};
 ghost use lib.ListN.{length, getD};
 ghost use Rattle.base.specs.Sums.{allTo};
-ghost use Rattle.tables.specs.Table.{fieldOf, nOf, mOf, mostProcesses, mostArcs, fieldTotal};
+ghost use Rattle.tables.specs.Table.{fieldOf, nOf, mOf, mostProcesses, mostArcs, fieldTotal, tableLength, IsProcess};
 ghost use Rattle.tables.specs.Layout.{Right};
-ghost use Rattle.tables.specs.Pairs.{squareSize};
+ghost use Rattle.sets.specs.Sets.{setsSize, isIn};
 ghost use Rattle.areas.specs.Places.{fieldPlace};
 ghost use Rattle.areas.specs.Area.{numberAt, fieldsIn, areaRight};
-ghost use Rattle.areas.specs.Squares.{Square};
 ghost use Rattle.area_tests.specs.AreaTests.{mostBytes, sizesTest, fieldWord, fieldTest, editionTest, headTest, recordTest, arcTest};
-ghost use Rattle.area_tests.specs.Testing.{sizesOf, CopiedTo};
+ghost use Rattle.area_tests.specs.Testing.{sizesOf, CopiedTo, Waiting};
 
 // N and M of an area, or that it is not well formed.
 pub enum Sizes {
@@ -121,16 +119,39 @@ fn is_head(area: &[i32], n: usize) -> bool
     word_tests::is_free(area, places::HEAD_USED, places::HEAD_SIZE)
 }
 
+// Fills empty sets: for each process that of those it waits for, by the arcs of a table that meets the layout.
+fn fill(table: &[u8], n: usize, m: usize, waits: &mut [usize; sets::SETS_SIZE])
+    requires { ⌜ Right (fieldOf (now table)) ⌝ }
+    requires { ⌜ (n ≡ nOf (fieldOf (now table))) × (m ≡ mOf (fieldOf (now table))) ⌝ }
+    requires { ⌜ tableLength n m ≤ length (now table) ⌝ }
+    requires { ⌜ length (now waits) ≡ setsSize ⌝ }
+    requires { ⌜ ((k : ℕ) → getD (now waits) k 0 ≡ 0) ⌝ }
+    ensures { λ _. ⌜ Waiting (fieldOf (now (table .entry))) (now (waits .exit)) ⌝ }
+{
+    let end = m + 1;
+    for k in 1..end {
+        let a = table_reader::arc_at(table, n, k);
+        sets::add(waits, a.from, a.to);
+    }
+}
+
+// One of a and b waits for the other.
+fn joined(waits: &[usize; sets::SETS_SIZE], a: usize, b: usize) -> bool
+    requires { ⌜ setsSize ≤ length (now waits) ⌝ }
+    requires { ⌜ IsProcess mostProcesses a ⌝ }
+    requires { ⌜ IsProcess mostProcesses b ⌝ }
+    ensures { λ r. ⌜ r ≡ (isIn (now (waits .entry)) a b || isIn (now (waits .entry)) b a) ⌝ }
+{
+    if sets::is_in(waits, a, b) {
+        return true;
+    }
+    sets::is_in(waits, b, a)
+}
+
 // The record of p: values in range, father 0 or a neighbour, zeros in the free words.
-fn is_record(
-    area: &[i32],
-    square: &[u16; tables::SQUARE_SIZE],
-    n: usize,
-    m: usize,
-    p: usize,
-) -> bool
+fn is_record(area: &[i32], waits: &[usize; sets::SETS_SIZE], n: usize, m: usize, p: usize) -> bool
     requires { ⌜ sizesTest (now area) ≡ true ⌝ }
-    requires { ⌜ Square (fieldsIn (now area)) (now square) ⌝ }
+    requires { ⌜ Waiting (fieldsIn (now area)) (now waits) ⌝ }
     requires { ⌜ Right (fieldsIn (now area)) ⌝ }
     requires { ⌜ (n ≡ nOf (fieldsIn (now area))) × (m ≡ mOf (fieldsIn (now area))) ⌝ }
     requires { ⌜ (1 ≤ p) × (p ≤ n) ⌝ }
@@ -146,7 +167,7 @@ fn is_record(
         if father > n {
             return false;
         }
-        if !squares::joined(square, p, father) {
+        if !joined(waits, p, father) {
             return false;
         }
     }
@@ -165,16 +186,16 @@ fn is_record(
     word_tests::is_free(area, k + places::RECORD_USED, k + places::RECORD_SIZE)
 }
 
-fn are_records(area: &[i32], square: &[u16; tables::SQUARE_SIZE], n: usize, m: usize) -> bool
+fn are_records(area: &[i32], waits: &[usize; sets::SETS_SIZE], n: usize, m: usize) -> bool
     requires { ⌜ sizesTest (now area) ≡ true ⌝ }
-    requires { ⌜ Square (fieldsIn (now area)) (now square) ⌝ }
+    requires { ⌜ Waiting (fieldsIn (now area)) (now waits) ⌝ }
     requires { ⌜ Right (fieldsIn (now area)) ⌝ }
     requires { ⌜ (n ≡ nOf (fieldsIn (now area))) × (m ≡ mOf (fieldsIn (now area))) ⌝ }
     ensures { λ r. ⌜ r ≡ allTo n (recordTest (now (area .entry))) ⌝ }
 {
     let end = n + 1;
     for p in 1..end {
-        if !is_record(area, square, n, m, p) {
+        if !is_record(area, waits, n, m, p) {
             return false;
         }
     }
@@ -185,14 +206,14 @@ fn are_records(area: &[i32], square: &[u16; tables::SQUARE_SIZE], n: usize, m: u
 fn is_arc(
     area: &[i32],
     table: &[u8; places::MOST_BYTES],
-    square: &[u16; tables::SQUARE_SIZE],
+    waits: &[usize; sets::SETS_SIZE],
     n: usize,
     m: usize,
     k: usize,
 ) -> bool
     requires { ⌜ sizesTest (now area) ≡ true ⌝ }
     requires { ⌜ fieldOf (now table) ≡ fieldsIn (now area) ⌝ }
-    requires { ⌜ Square (fieldsIn (now area)) (now square) ⌝ }
+    requires { ⌜ Waiting (fieldsIn (now area)) (now waits) ⌝ }
     requires { ⌜ Right (fieldsIn (now area)) ⌝ }
     requires { ⌜ (n ≡ nOf (fieldsIn (now area))) × (m ≡ mOf (fieldsIn (now area))) ⌝ }
     requires { ⌜ (1 ≤ k) × (k ≤ m) ⌝ }
@@ -207,7 +228,7 @@ fn is_arc(
     }
     let a = table_reader::arc_at(table, n, k);
     let back = i + places::LINK_SIZE;
-    if squares::arc(square, a.to, a.from) == 0 {
+    if !sets::is_in(waits, a.to, a.from) {
         return word_tests::is_link(area, back, places::LINK_SLOTS, places::LINK_SIZE);
     }
     word_tests::is_free(area, back, back + places::LINK_SIZE)
@@ -216,32 +237,29 @@ fn is_arc(
 fn are_arcs(
     area: &[i32],
     table: &[u8; places::MOST_BYTES],
-    square: &[u16; tables::SQUARE_SIZE],
+    waits: &[usize; sets::SETS_SIZE],
     n: usize,
     m: usize,
 ) -> bool
     requires { ⌜ sizesTest (now area) ≡ true ⌝ }
     requires { ⌜ fieldOf (now table) ≡ fieldsIn (now area) ⌝ }
-    requires { ⌜ Square (fieldsIn (now area)) (now square) ⌝ }
+    requires { ⌜ Waiting (fieldsIn (now area)) (now waits) ⌝ }
     requires { ⌜ Right (fieldsIn (now area)) ⌝ }
     requires { ⌜ (n ≡ nOf (fieldsIn (now area))) × (m ≡ mOf (fieldsIn (now area))) ⌝ }
     ensures { λ r. ⌜ r ≡ allTo m (arcTest (now (area .entry))) ⌝ }
 {
     let end = m + 1;
     for k in 1..end {
-        if !is_arc(area, table, square, n, m, k) {
+        if !is_arc(area, table, waits, n, m, k) {
             return false;
         }
     }
     true
 }
 
-// The whole test. The square, which is 0 before, holds the arcs of a well-formed area afterwards.
-pub fn test(area: &[i32], square: &mut [u16; tables::SQUARE_SIZE]) -> Sizes
-    requires { ⌜ length (now square) ≡ squareSize ⌝ }
-    requires { ⌜ ((k : ℕ) → getD (now square) k 0 ≡ 0) ⌝ }
+// The whole test.
+pub fn test(area: &[i32]) -> Sizes
     ensures { λ r. ⌜ r ≡ sizesOf (areaRight (now (area .entry))) (now (area .entry)) ⌝ }
-    ensures { λ r. ⌜ (areaRight (now (area .entry)) ≡ true → Square (fieldsIn (now (area .entry))) (now (square .exit))) ⌝ }
 {
     let Sizes::Right { n, m } = sizes_of(area) else {
         return Sizes::Wrong;
@@ -253,14 +271,15 @@ pub fn test(area: &[i32], square: &mut [u16; tables::SQUARE_SIZE]) -> Sizes
     if table_reader::fields_number(&table, n, m) != 0 {
         return Sizes::Wrong;
     }
-    squares::fill(&table, n, m, square);
+    let mut waits = [0usize; sets::SETS_SIZE];
+    fill(&table, n, m, &mut waits);
     if !is_head(area, n) {
         return Sizes::Wrong;
     }
-    if !are_records(area, square, n, m) {
+    if !are_records(area, &waits, n, m) {
         return Sizes::Wrong;
     }
-    if !are_arcs(area, &table, square, n, m) {
+    if !are_arcs(area, &table, &waits, n, m) {
         return Sizes::Wrong;
     }
     Sizes::Right { n, m }

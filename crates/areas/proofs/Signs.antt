@@ -3,6 +3,7 @@
 --   word-number              == a number below 2 to the 31 is itself as a word
 --   word-is                  == the bits of a number are the bits of no other word
 --   word-zero                == the bits of the word 0 are 0
+--   word-none, word-some     == bits that are 0 are those of the word 0, and others are not
 --   word-not                 == other bits are those of another word
 --   word-same                == two words have the same bits exactly if they are the same
 --   word-high, word-low, word-low-number   == a word that is not below 0, and one that is
@@ -36,6 +37,12 @@ word-is (negsuc a) n h k e = absurd (omega arith)
 pub word-zero : (z : ℤ) → natAbs z ≡ 0 → ofZ w32 z ≡ 0
 word-zero (pos n) e = e
 word-zero (negsuc n) e = absurd (omega arith)
+
+pub word-none : (z : ℤ) → mag z < 2 ^ 31 → ofZ w32 z ≡ 0 → z ≡ pos 0
+word-none z h e = word-is z 0 h (omega arith) e
+
+pub word-some : (z : ℤ) → (ofZ w32 z ≡ 0 → ⊥) → z ≡ pos 0 → ⊥
+word-some z h e = h (ap (ofZ w32) e)
 
 pub word-not : (z : ℤ) (n : ℕ) → (ofZ w32 z ≡ n → ⊥) → sameWord z (pos n) ≡ false
 unfolding sameWord

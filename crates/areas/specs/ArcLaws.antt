@@ -1,5 +1,7 @@
 -- What the number of an arc says, and that the link of a pair stands with the pair's arc.
 --   arcIn-zero, arcIn-right            == before the first arc, and one arc more: it takes the place of its ends, and changes no other
+--   arcIn-new                          == before it there was none with these ends
+--   arcOf-is                           == in a right table an arc with these ends is the arc of these ends
 --   arcOf-waits                        == the number is 0 exactly if a does not wait for b
 --   linkOf-arc, linkOf-back, linkOf-at == where the link of a pair stands
 --   neighbours-arc                     == the ends of an arc are neighbours
@@ -71,24 +73,28 @@ arcIn-fresh : (t : Fields) (a b m : ℕ) → arcIn t a b m ≡ 0 → arcIn t a b
 unfolding arcIn
 arcIn-fresh t a b m e = rw e
 
--- no arc of 1 to m has the ends of arc m + 1: the number of a pair after one arc more
-arcIn-next : (t : Fields) (a b m : ℕ) → ((j : ℕ) → 1 ≤ j → j ≤ m → Alike t j (suc m) → ⊥)
-    → arcIn t a b (suc m) ≡ choose (saysWait t a b (suc m)) (suc m) (arcIn t a b m)
-arcIn-next t a b m unlike = at (arcIn t a b m) refl (tested (saysWait t a b (suc m)))
+-- no arc of 1 to m has the ends of arc m + 1
+arcIn-unlike : (t : Fields) (a b m : ℕ) → ((j : ℕ) → 1 ≤ j → j ≤ m → Alike t j (suc m) → ⊥) → saysWait t a b (suc m) ≡ true → arcIn t a b m ≡ 0
+arcIn-unlike t a b m unlike p = at (arcIn t a b m) refl
   where
-    old : (k : ℕ) → arcIn t a b m ≡ suc k → saysWait t a b (suc m) ≡ true → ⊥
-    old k e p =
+    at : (n : ℕ) → arcIn t a b m ≡ n → arcIn t a b m ≡ 0
+    at zero e = e
+    at (suc k) e =
         let j = arcIn-P t a b m k e in
-        unlike (suc k) (omega arith) (j .0) (j .1 ∙ sym (saysWait-from t a b (suc m) p), j .2 ∙ sym (saysWait-to t a b (suc m) p))
+        absurd (unlike (suc k) (omega arith) (j .0) (j .1 ∙ sym (saysWait-from t a b (suc m) p), j .2 ∙ sym (saysWait-to t a b (suc m) p)))
 
+-- so in a right table, where arc m + 1 has them
+pub arcIn-new : (t : Fields) (a b m : ℕ) → Right t → suc m ≤ mOf t → saysWait t a b (suc m) ≡ true → arcIn t a b m ≡ 0
+arcIn-new t a b m g h = arcIn-unlike t a b m (λ j l u s. omega (arith, g .unlike j (suc m) (l, omega arith) (omega arith, h) s))
+
+-- the number of a pair after one arc more, in a right table
+pub arcIn-right : (t : Fields) (a b m : ℕ) → Right t → suc m ≤ mOf t → arcIn t a b (suc m) ≡ choose (saysWait t a b (suc m)) (suc m) (arcIn t a b m)
+arcIn-right t a b m g h = at (arcIn t a b m) refl (tested (saysWait t a b (suc m)))
+  where
     at : (n : ℕ) → arcIn t a b m ≡ n → Tested (saysWait t a b (suc m)) → arcIn t a b (suc m) ≡ choose (saysWait t a b (suc m)) (suc m) (arcIn t a b m)
     at zero e p = arcIn-fresh t a b m e
-    at (suc k) e (passed p) = absurd (old k e p)
+    at (suc k) e (passed p) = absurd (omega (arith, arcIn-new t a b m g h p))
     at (suc k) e (failed p) = rw p (arcIn-kept t a b m k e ∙ sym e)
-
--- the same in a right table
-pub arcIn-right : (t : Fields) (a b m : ℕ) → Right t → suc m ≤ mOf t → arcIn t a b (suc m) ≡ choose (saysWait t a b (suc m)) (suc m) (arcIn t a b m)
-arcIn-right t a b m g h = arcIn-next t a b m (λ j l u s. omega (arith, g .unlike j (suc m) (l, omega arith) (omega arith, h) s))
 
 -- ---- arcOf
 
@@ -108,7 +114,7 @@ arcOf-none t a b = (λ e. rw (arcOf-waits t a b, e), λ e. at (same? (arcOf t a 
     at (apart e q) h = absurd (false≢true (sym h ∙ rw (arcOf-waits t a b, q)))
 
 -- in a right table an arc with these ends is the arc of these ends: "No two arcs agree in both from and to."
-arcOf-is : (t : Fields) → Right t → (a b k : ℕ) → Joins t a b k → arcOf t a b ≡ k
+pub arcOf-is : (t : Fields) → Right t → (a b k : ℕ) → Joins t a b k → arcOf t a b ≡ k
 arcOf-is t g a b k j = at (arcOf t a b) refl
   where
     at : (n : ℕ) → arcOf t a b ≡ n → arcOf t a b ≡ k

@@ -1,39 +1,63 @@
--- The square of arcs: for each pair of processes the arc from the first to the second, in a local array (tables, Pairs, says how large).
---   cell sq a b        == the number at (a, b)
---   joinsBy sq c b q   == by the square, b waits for q (on the out-chain), or q for b (on the in-chain)
---   joinedBy sq a b    == by the square, a and b are neighbours
---   placeBy sq n m a b == by the square, the first word of the link from a to b
---   Square t sq        == the square holds the arcs of the table t
--- The laws say that under Square these are joins, neighbours and linkOf. Assumes nothing.
-use Prim.Native.Nat.{ℕ, _+_, _*_, _≤_}
-use mathlib.Core.Bool.{Bool, not, _||_}
+-- Where links stand, by pairs of processes, in a local array: for each ordered pair a number, its cell.
+--   cellBy t i j           == what a cell says by the numbers of the arcs forth and back, 0 where there is none
+--   cellOf t a b           == the cell of a and b: 0 if they are no neighbours, else 4 times the first word of the link from a to b, 2 more if b
+--                             waits for a, and 1 more if a waits for b
+--   placeIn k, joinsIn c k == what is read from a cell: the first word of the link, and whether the pair is joined by the chain
+--   withForth k i, withBack k i   == the cell with an arc more, whose links begin at word i, from the first to the second, and from the second to the
+--                             first
+--   Linked t a b i         == a and b are neighbours, and the link from a to b begins at word i
+--   Row t b row            == the cells of b, for whom the table is t, by the other's number
+--   Square t sq            == the rows of 0 to 128, one behind the other
+-- Assumes nothing.
+use Prim.Native.Nat.{ℕ, _+_, _*_, _/_, _%_, _≤_}
+use mathlib.Core.Bool.{Bool, true, not}
 use mathlib.Core.List.{List}
 use mathlib.Core.Path.{_≡_}
 use lib.Dec.{eqb}
-use lib.ListN.{getD}
-use Rattle.base.specs.Choice.{choose}
+use lib.ListN.{length, getD}
+use Rattle.base.specs.Choice.{choose, bit}
 use Rattle.tables.specs.declared.Chain.{Chain}
 use Rattle.tables.specs.declared.Chain.the-variants.{Out, In}
 use Rattle.tables.specs.Table.{Fields, mostProcesses}
-use Rattle.tables.specs.Pairs.{squareSide}
-use Rattle.areas.specs.Places.{linkSize, linkStart}
-use Rattle.areas.specs.Area.{arcOf}
+use Rattle.tables.specs.Pairs.{squareSide, squareSize}
+use Rattle.areas.specs.Places.{linkSize}
+use Rattle.tables.specs.Waits.{waitsOf, neighbours}
+use Rattle.areas.specs.Area.{linkPlace, arcOf, linkOf}
+
+-- the link from the first to the second is the first of the arc forth, else the second of the arc back
+unfoldable pub cellBy : Fields → ℕ → ℕ → ℕ
+cellBy t i j =
+    choose (eqb i 0)
+    (choose (eqb j 0) 0 (4 * (linkPlace t j + linkSize) + 2))
+    (4 * linkPlace t i + 2 * bit (not (eqb j 0)) + 1)
+
+unfoldable pub cellOf : Fields → ℕ → ℕ → ℕ
+cellOf t a b = cellBy t (arcOf t a b) (arcOf t b a)
+
+abbrev pub placeIn : ℕ → ℕ
+placeIn k = k / 4
+
+abbrev pub joinsIn : Chain → ℕ → Bool
+joinsIn Out k = eqb (k % 2) 1
+joinsIn In k = eqb (k / 2 % 2) 1
+
+unfoldable pub withForth : ℕ → ℕ → ℕ
+withForth k i = 4 * i + k / 2 % 2 * 2 + 1
+
+unfoldable pub withBack : ℕ → ℕ → ℕ
+withBack k i = choose (eqb (k % 2) 1) (k + 2) (4 * (i + linkSize) + 2)
+
+pub record Linked (t : Fields) (a b i : ℕ) : Type 0 where
+  pub joined : neighbours (waitsOf t) a b ≡ true
+  pub at : i ≡ linkOf t a b
+
+pub record Row (t : Fields) (b : ℕ) (row : List ℕ) : Type 0 where
+  pub long : length row ≡ squareSide
+  pub cells : (q : ℕ) → q ≤ mostProcesses → getD row q 0 ≡ cellOf t b q
 
 abbrev pub cell : List ℕ → ℕ → ℕ → ℕ
 cell sq a b = getD sq (a * squareSide + b) 0
 
-abbrev pub joinsBy : List ℕ → Chain → ℕ → ℕ → Bool
-joinsBy sq Out b q = not (eqb (cell sq b q) 0)
-joinsBy sq In b q = not (eqb (cell sq q b) 0)
-
-abbrev pub joinedBy : List ℕ → ℕ → ℕ → Bool
-joinedBy sq a b = joinsBy sq Out a b || joinsBy sq In a b
-
-abbrev pub placeBy : List ℕ → ℕ → ℕ → ℕ → ℕ → ℕ
-placeBy sq n m a b =
-    choose (eqb (cell sq a b) 0)
-    (linkStart n m (cell sq b a) + linkSize)
-    (linkStart n m (cell sq a b))
-
 pub record Square (t : Fields) (sq : List ℕ) : Type 0 where
-  pub arc : (a b : ℕ) → a ≤ mostProcesses → b ≤ mostProcesses → cell sq a b ≡ arcOf t a b
+  pub long : length sq ≡ squareSize
+  pub cells : (a b : ℕ) → a ≤ mostProcesses → b ≤ mostProcesses → cell sq a b ≡ cellOf t a b

@@ -13,7 +13,7 @@ ghost use Rattle.tables.specs.Table.{mostProcesses};
 ghost use Rattle.steps.specs.Step.{small, inRange, countSmall};
 ghost use Rattle.areas.specs.Used.{recordUsed};
 ghost use Rattle.areas.specs.Area.{recordWord, lifted, codeOf, recordAt, lowered, messageOf, messagesAt};
-ghost use Rattle.areas.specs.Writes.{recordWords, movedDown};
+ghost use Rattle.areas.specs.Writes.{recordWords, Packed, movedDown};
 
 // A word as a number, without its sign.
 pub fn number(word: i32) -> u32
@@ -131,16 +131,23 @@ pub fn put_record(area: &mut [i32], k: usize, x: Process)
     area[k + places::SECOND] = second;
 }
 
-// Takes out the word at i: the words behind it, up to `end`, move down by one, and the last becomes 0.
+// Takes out the word at i: the words behind it, up to `end`, move down by one, and the last becomes 0. Behind a 0 there are only zeros, so that it
+// stops at the first.
 pub fn take_off(area: &mut [i32], i: usize, end: usize)
     requires { ⌜ i < end ⌝ }
     requires { ⌜ end ≤ length (now area) ⌝ }
+    requires { ⌜ Packed (now area) i end ⌝ }
     ensures { λ _. ⌜ now (area .exit) ≡ movedDown (now (area .entry)) i end ⌝ }
 {
     let last = end - 1;
-    for k in i..last {
+    let mut k = i;
+    while k < last {
         let next = area[k + 1];
         area[k] = next;
+        if next == 0 {
+            return;
+        }
+        k += 1;
     }
     area[last] = 0;
 }

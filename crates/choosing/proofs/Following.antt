@@ -15,7 +15,6 @@ use native.Mathlib.Omega.{arith}
 use borrow.Author.Tests.{eq-eqb, eqb-true}
 use lib.Dec.{eqb}
 use lib.IntN.{ℤ}
-use lib.ListN.{length}
 use Rattle.base.specs.ChoiceLaws.{and-both, and-left, and-right, or-cases, or-left, or-right, tested}
 use Rattle.base.specs.Checks.{Tested, passed, failed}
 use Rattle.base.specs.Counts.{sumOver}
@@ -27,7 +26,6 @@ use Rattle.tables.specs.Sound.{Sound}
 use Rattle.tables.specs.Chains.{far, joins}
 use Rattle.steps.specs.declared.Message.{Message}
 use Rattle.machine.specs.Calls.{waiting}
-use Rattle.machine.specs.ChooserLaws.{waiting-some, waiting-none}
 use Rattle.lenses.specs.Ready.{Ready}
 use Rattle.lenses.specs.ReadyLaws.{ready-sizes}
 use Rattle.lenses.specs.ChangeLaws.{joins-low, joins-high}
@@ -47,17 +45,17 @@ turns-marked f h t = (f (h .0), t (h .0) (h .1))
 pub turns-then : {l k m : List ℕ} (f g : (ℕ → ℕ → Bool) → ℕ → ℕ → Bool) → Turns l f k → Turns k g m → Turns l (λ held. g (f held)) m
 turns-then f g t u held h = u (f held) (t held h)
 
-pub process-most : {w : List ℤ} {sq : List ℕ} {n m : ℕ} → Ready w sq n m → {p : ℕ} → IsProcess n p → IsProcess mostProcesses p
+pub process-most : {w : List ℤ} {n m : ℕ} → Ready w n m → {p : ℕ} → IsProcess n p → IsProcess mostProcesses p
 process-most y i = (i .0, omega (arith, i .1, ready-sizes y))
 
 -- ---- the message that is taken
 
-module _ {l : List ℕ} (a b : ℕ) (ms : List Message) {i : ℕ} (e : i ≡ length ms) where
-  pub taken-stays : (i ≡ 0 → ⊥) → Turns l (takenMarks (waiting ms) a b) l
-  taken-stays z held h = rw (waiting-some ms (λ q. z (e ∙ q))) h
+module _ {l : List ℕ} (a b : ℕ) (ms : List Message) {i : Bool} (e : i ≡ waiting ms) where
+  pub taken-stays : i ≡ true → Turns l (takenMarks (waiting ms) a b) l
+  taken-stays z held h = rw (sym e ∙ z) h
 
-  pub taken-falls : i ≡ 0 → {k : List ℕ} → Turns l (λ held. turned held a b false) k → Turns l (takenMarks (waiting ms) a b) k
-  taken-falls z t held h = rw (waiting-none ms (sym e ∙ z)) (t held h)
+  pub taken-falls : i ≡ false → {k : List ℕ} → Turns l (λ held. turned held a b false) k → Turns l (takenMarks (waiting ms) a b) k
+  taken-falls z t held h = rw (sym e ∙ z) (t held h)
 
 -- ---- messages that are sent
 

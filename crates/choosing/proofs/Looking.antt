@@ -4,16 +4,16 @@
 --   looked-along                == both links of an arc
 -- Assumes nothing.
 use Prim.Native.Nat.{ℕ, _≤_}
-use mathlib.Core.Bool.{true}
+use mathlib.Core.Bool.{Bool, true, false, not}
 use mathlib.Core.List.{List}
-use mathlib.Core.Path.{_≡_, sym, _∙_}
+use mathlib.Core.Path.{_≡_, sym}
 use native.Mathlib.Omega.{arith}
 use lib.IntN.{ℤ}
-use lib.ListN.{length}
+use Rattle.base.specs.ChoiceLaws.{value-not, value-yes}
 use Rattle.tables.specs.declared.Arc.{Arc}
 use Rattle.tables.specs.Table.{arcAt, IsProcess}
 use Rattle.tables.specs.Layout.{Ends}
-use Rattle.machine.specs.ChooserLaws.{waiting-some, waiting-none}
+use Rattle.machine.specs.Calls.{waiting}
 use Rattle.checks.specs.Run.{Run}
 use Rattle.areas.specs.Area.{fieldsIn}
 use Rattle.areas.specs.AreaLaws.{areaRight-table}
@@ -22,14 +22,14 @@ use Rattle.marks.specs.Changes.{turned, Turns}
 use Rattle.choosing.specs.Noting.{lookedMarks, alongMarks}
 use Rattle.choosing.proofs.Following.{turns-then}
 
-module _ (r : Run) (a b : ℕ) {l : List ℕ} {n : ℕ} (e : n ≡ length (r .link a b)) where
-  pub looked-empty : n ≡ 0 → Turns l (lookedMarks r a b) l
-  looked-empty z held h = rw (waiting-none (r .link a b) (sym e ∙ z)) h
+module _ (r : Run) (a b : ℕ) {l : List ℕ} {i : Bool} (e : i ≡ waiting (r .link a b)) where
+  pub looked-empty : not i ≡ true → Turns l (lookedMarks r a b) l
+  looked-empty z held h = rw (value-not e z) h
 
-  pub looked-some : (n ≡ 0 → ⊥) → {k : List ℕ} → Turns l (λ held. turned held a b true) k → Turns l (lookedMarks r a b) k
-  looked-some z t held h = rw (waiting-some (r .link a b) (λ q. z (e ∙ q))) (t held h)
+  pub looked-some : not i ≡ false → {k : List ℕ} → Turns l (λ held. turned held a b true) k → Turns l (lookedMarks r a b) k
+  looked-some z t held h = rw (value-yes e z) (t held h)
 
-pub arc-ends : {w : List ℤ} {sq : List ℕ} {n m : ℕ} (y : Ready w sq n m) {k : ℕ} (h : (1 ≤ k) × (k ≤ m)) {x : Arc} → x ≡ arcAt (fieldsIn w) k
+pub arc-ends : {w : List ℤ} {n m : ℕ} (y : Ready w n m) {k : ℕ} (h : (1 ≤ k) × (k ≤ m)) {x : Arc} → x ≡ arcAt (fieldsIn w) k
     → IsProcess n (x .from) × IsProcess n (x .to)
 arc-ends {w} y {k} h e =
     let g : Ends (fieldsIn w) k = areaRight-table w (y .right) .right .ends k (h .0, omega (arith, y .m-is)) in

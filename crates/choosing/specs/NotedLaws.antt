@@ -28,12 +28,12 @@ use Rattle.machine.specs.AmongLaws.{atPlace-here}
 use Rattle.checks.specs.Run.{Run, one, replyTo, probesTo}
 use Rattle.areas.specs.Replaced.{putProcess, putLink, putCount}
 use Rattle.lenses.specs.Changes.{answered}
-use Rattle.delivery.specs.Delivering.{replyGoes, changed, carriedOut, Carried}
+use Rattle.delivery.specs.Delivering.{probesGo, replyGoes, changed, carriedOut, Carried}
 use Rattle.delivery.specs.DeliveryLaws.{relinked-waits, answered-relinked, spreadBy-relinked, carried-link}
 use Rattle.marks.specs.Changes.{turned, Turns}
 use Rattle.marks.specs.GroupLaws.{marks-cong}
 use Rattle.choosing.specs.Memory.{Remembers}
-use Rattle.choosing.specs.Noting.{takenMarks, sentMarks, goesTo, notedMarks}
+use Rattle.choosing.specs.Noting.{takenMarks, sentMarks, notedMarks}
 
 -- ---- marks
 
@@ -76,7 +76,7 @@ unfolding replyTo
 waiting-reply Reply.Nothing q = refl
 waiting-reply (To p c) q = waiting-one (eqb q p) _ ∙ eqb-turned q p
 
-waiting-probes : (w : Waits) (b : ℕ) (y : Probes) (q : ℕ) → waiting (probesTo w b y q) ≡ goesTo w y b q
+waiting-probes : (w : Waits) (b : ℕ) (y : Probes) (q : ℕ) → waiting (probesTo w b y q) ≡ probesGo w y b q
 unfolding probesTo
 waiting-probes w b Probes.Nothing q = refl
 waiting-probes w b Sucs q = waiting-one (w .waits b q) _
@@ -125,12 +125,12 @@ module _ (r : Run) (s : Sound (r .waits)) (a b : ℕ) (x : Process) (y : Probes)
 
   -- what waits on a link by what stayed there
   end-link : (u v : ℕ) {i : Bool} → waiting (taken r a b (here .rest) u v) ≡ i
-      → waiting (end .link u v) ≡ ((i || (eqb u b && replyGoes z v)) || (eqb u b && goesTo (end .waits) y b v))
+      → waiting (end .link u v) ≡ ((i || (eqb u b && replyGoes z v)) || (eqb u b && probesGo (end .waits) y b v))
   unfolding carriedOut putCount
   end-link u v e =
       ap (λ (ms : List Message). waiting ms) (carried-link r s a b 1 (here .message) (here .rest) (here .is) x y z u v)
       ∙ sent-waiting (eqb u b) (taken r a b (here .rest) u v) (replyTo z v) (probesTo (r .waits) b y v) e (waiting-reply z v)
-      (waiting-probes (r .waits) b y v ∙ ap (λ (w : Waits). goesTo w y b v) (sym end-waits))
+      (waiting-probes (r .waits) b y v ∙ ap (λ (w : Waits). probesGo w y b v) (sym end-waits))
 
   -- the mark of the link itself, and of another
   mark-here : (t : Bool) → takenMarks t a b held a b ≡ t
@@ -143,7 +143,7 @@ module _ (r : Run) (s : Sound (r .waits)) (a b : ℕ) (x : Process) (y : Probes)
 
   -- what b has sent to v, if it is u
   abbrev sent : ℕ → ℕ → Bool → Bool
-  sent u v i = (i || (eqb u b && replyGoes z v)) || (eqb u b && goesTo (end .waits) y b v)
+  sent u v i = (i || (eqb u b && replyGoes z v)) || (eqb u b && probesGo (end .waits) y b v)
 
   noted-other : (u v : ℕ) → (eqb u a && eqb v b) ≡ false → waiting (end .link u v) ≡ notedMarks end a b y z held u v
   unfolding taken
@@ -154,7 +154,7 @@ module _ (r : Run) (s : Sound (r .waits)) (a b : ℕ) (x : Process) (y : Probes)
   noted-here =
       let i : Bool = waiting (taken r a b (here .rest) a b) in
       let w : waiting (end .link a b) ≡ sent a b i = end-link a b refl in
-      w ∙ sent-twice i (eqb a b && replyGoes z b) (eqb a b && goesTo (end .waits) y b b) ∙ ap (sent a b) (sym w)
+      w ∙ sent-twice i (eqb a b && replyGoes z b) (eqb a b && probesGo (end .waits) y b b) ∙ ap (sent a b) (sym w)
       ∙ ap (sent a b) (sym (mark-here (waiting (end .link a b))))
 
   noted-link : (u v : ℕ) → waiting (end .link u v) ≡ notedMarks end a b y z held u v

@@ -7,11 +7,11 @@ ghost use Prim.Native.Nat.{_≤_};
 ghost use lib.ListN.{length};
 ghost use Rattle.tables.specs.Table.{arcAt, IsProcess};
 ghost use Rattle.areas.specs.Area.{fieldsIn, runIn};
-ghost use Rattle.lenses.specs.Ready.{Ready};
 ghost use Rattle.marks.specs.Marks.{memorySize};
 ghost use Rattle.marks.specs.Changes.{Marked, Turns};
 ghost use Rattle.choosing.specs.Memory.{Remembers};
 ghost use Rattle.choosing.specs.Noting.{lookedMarks, alongMarks};
+ghost use Rattle.choosing.specs.Running.{Running};
 
 // Marks the link from a to b if it holds a message.
 fn look(
@@ -23,12 +23,12 @@ fn look(
     b: usize,
     memory: &mut [usize; parts::MEMORY_SIZE],
 )
-    requires { ⌜ Ready (now area) (now square) n m ⌝ }
+    requires { ⌜ Running (now area) (now square) n m ⌝ }
     requires { ⌜ IsProcess n a × IsProcess n b ⌝ }
     requires { ⌜ Marked (now memory) ⌝ }
     ensures { λ _. ⌜ Turns (now (memory .entry)) (lookedMarks (runIn (now (area .entry))) a b) (now (memory .exit)) ⌝ }
 {
-    if links::waiting_on(area, square, n, m, a, b) == 0 {
+    if !links::is_waiting_at(area, square, n, m, a, b) {
         return;
     }
     marks::mark(memory, a, b);
@@ -43,12 +43,12 @@ fn look_along(
     k: usize,
     memory: &mut [usize; parts::MEMORY_SIZE],
 )
-    requires { ⌜ Ready (now area) (now square) n m ⌝ }
+    requires { ⌜ Running (now area) (now square) n m ⌝ }
     requires { ⌜ (1 ≤ k) × (k ≤ m) ⌝ }
     requires { ⌜ Marked (now memory) ⌝ }
     ensures { λ _. ⌜ Turns (now (memory .entry)) (alongMarks (runIn (now (area .entry))) (arcAt (fieldsIn (now (area .entry))) k)) (now (memory .exit)) ⌝ }
 {
-    let arc = chains::arc_in(area, square, n, m, k);
+    let arc = chains::arc_in(area, n, m, k);
     let from = arc.from;
     let to = arc.to;
     look(area, square, n, m, from, to, memory);
@@ -63,7 +63,7 @@ pub fn fill(
     m: usize,
     memory: &mut [usize; parts::MEMORY_SIZE],
 )
-    requires { ⌜ Ready (now area) (now square) n m ⌝ }
+    requires { ⌜ Running (now area) (now square) n m ⌝ }
     requires { ⌜ length (now memory) ≡ memorySize ⌝ }
     ensures { λ _. ⌜ Remembers (runIn (now (area .entry))) (now (memory .exit)) ⌝ }
 {

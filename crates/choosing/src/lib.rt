@@ -8,6 +8,7 @@
 mod filling;
 mod noting;
 
+use areas::squares;
 use delivery::delivering;
 use delivery::delivering::Told;
 use lenses::links;
@@ -15,13 +16,16 @@ use marks::Beginning;
 use marks::parts;
 use steps::Message;
 ghost use mathlib.Core.Path.{_≡_};
+ghost use Prim.Native.Nat.{_≤_};
 ghost use lib.ListN.{length};
-ghost use Rattle.areas.specs.Area.{runIn, keeping};
+ghost use Rattle.areas.specs.Area.{fieldsIn, runIn, keeping};
+ghost use Rattle.areas.specs.Squares.{Linked};
 ghost use Rattle.machine.specs.Calls.{linkAt, linksOf, lowest, drawn};
-ghost use Rattle.lenses.specs.Ready.{Ready};
+ghost use Rattle.delivery.specs.Delivering.{toldAt, deliverAt};
 ghost use Rattle.marks.specs.Marks.{memorySize};
 ghost use Rattle.choosing.specs.Answers.{chosenOf, chosenAnswer, drawnOf, nextOf};
 ghost use Rattle.choosing.specs.Memory.{Remembers};
+ghost use Rattle.choosing.specs.Running.{Running};
 
 // A link with a message, or none.
 enum Chosen {
@@ -47,7 +51,7 @@ pub fn remember(
     m: usize,
     memory: &mut [usize; parts::MEMORY_SIZE],
 )
-    requires { ⌜ Ready (now area) (now square) n m ⌝ }
+    requires { ⌜ Running (now area) (now square) n m ⌝ }
     requires { ⌜ length (now memory) ≡ memorySize ⌝ }
     ensures { λ _. ⌜ Remembers (runIn (now (area .entry))) (now (memory .exit)) ⌝ }
 {
@@ -64,7 +68,7 @@ fn choose(
     place: usize,
     memory: &[usize; parts::MEMORY_SIZE],
 ) -> Chosen
-    requires { ⌜ Ready (now area) (now square) n m ⌝ }
+    requires { ⌜ Running (now area) (now square) n m ⌝ }
     requires { ⌜ Remembers (runIn (now area)) (now memory) ⌝ }
     ensures { λ r. ⌜ r ≡ chosenOf (linkAt place (linksOf (runIn (now (area .entry))))) ⌝ }
 {
@@ -81,7 +85,7 @@ fn choose(
         if left < held {
             let first = marks::ranked_in(memory, b, left);
             for a in first..end {
-                if links::waiting_on(area, square, n, m, a, b) != 0 {
+                if links::is_waiting_at(area, square, n, m, a, b) {
                     from = a;
                     to = b;
                     break 'scan;
@@ -97,6 +101,28 @@ fn choose(
     Chosen::Link { from, to }
 }
 
+// Delivers the oldest message on the link from a to b, which begins at word i, and tells what the step sent: 24 if nothing waits there, then 22.
+fn deliver_on(
+    area: &mut [i32],
+    square: &[u16; tables::SQUARE_SIZE],
+    n: usize,
+    m: usize,
+    a: usize,
+    b: usize,
+    i: usize,
+) -> Told
+    requires { ⌜ Running (now area) (now square) n m ⌝ }
+    requires { ⌜ Linked (fieldsIn (now area)) a b i ⌝ }
+    requires { ⌜ (a ≤ n) × (b ≤ n) ⌝ }
+    ensures { λ r. ⌜ r ≡ toldAt (runIn (now (area .entry))) a b 1 ⌝ }
+    ensures { λ _. ⌜ now (area .exit) ≡ keeping (now (area .entry)) (deliverAt (runIn (now (area .entry))) a b 1 .run) ⌝ }
+{
+    let first = b * tables::SIDE;
+    let last = first + tables::SIDE;
+    let cells = &square[..];
+    delivering::deliver_and_tell(area, &cells[first..last], n, m, a, b, i, links::OLDEST)
+}
+
 // Delivers the oldest message on the link that the state points to, among the links with a message (02, N13): 24 if nothing waits on any link,
 // then 22. State 0 points to the first. The area stays ready and the array what is remembered of it, so the next delivery may follow.
 pub fn deliver_drawn(
@@ -107,25 +133,27 @@ pub fn deliver_drawn(
     state: u32,
     memory: &mut [usize; parts::MEMORY_SIZE],
 ) -> ChosenDelivery
-    requires { ⌜ Ready (now area) (now square) n m ⌝ }
+    requires { ⌜ Running (now area) (now square) n m ⌝ }
     requires { ⌜ Remembers (runIn (now area)) (now memory) ⌝ }
     ensures { λ r. ⌜ r ≡ chosenAnswer (drawn state (runIn (now (area .entry)))) (drawnOf state (runIn (now (area .entry))) .answer) ⌝ }
     ensures { λ _. ⌜ now (area .exit) ≡ keeping (now (area .entry)) (drawnOf state (runIn (now (area .entry))) .run) ⌝ }
     ensures { λ _. ⌜ Remembers (runIn (now (area .exit))) (now (memory .exit)) ⌝ }
-    ensures { λ _. ⌜ Ready (now (area .exit)) (now (square .entry)) n m ⌝ }
+    ensures { λ _. ⌜ Running (now (area .exit)) (now (square .entry)) n m ⌝ }
 {
     let place = marks::place_of(memory, state);
     let Chosen::Link { from, to } = choose(area, square, n, m, place, memory) else {
         return ChosenDelivery::Refused(24);
     };
-    match delivering::deliver_and_tell(area, square, n, m, from, to, links::OLDEST) {
+    let cell = squares::cell_at(square, from, to);
+    let i = squares::place(cell);
+    match deliver_on(area, square, n, m, from, to, i) {
         Told::Refused(number) => ChosenDelivery::Refused(number),
         Told::Delivered {
             message,
             probes,
             reply,
         } => {
-            noting::note(area, square, n, m, from, to, probes, reply, memory);
+            noting::note(area, n, m, from, to, i, probes, reply, memory);
             ChosenDelivery::Delivered { from, to, message }
         }
     }
@@ -139,12 +167,12 @@ pub fn deliver_next(
     m: usize,
     memory: &mut [usize; parts::MEMORY_SIZE],
 ) -> ChosenDelivery
-    requires { ⌜ Ready (now area) (now square) n m ⌝ }
+    requires { ⌜ Running (now area) (now square) n m ⌝ }
     requires { ⌜ Remembers (runIn (now area)) (now memory) ⌝ }
     ensures { λ r. ⌜ r ≡ chosenAnswer (lowest (runIn (now (area .entry)))) (nextOf (runIn (now (area .entry))) .answer) ⌝ }
     ensures { λ _. ⌜ now (area .exit) ≡ keeping (now (area .entry)) (nextOf (runIn (now (area .entry))) .run) ⌝ }
     ensures { λ _. ⌜ Remembers (runIn (now (area .exit))) (now (memory .exit)) ⌝ }
-    ensures { λ _. ⌜ Ready (now (area .exit)) (now (square .entry)) n m ⌝ }
+    ensures { λ _. ⌜ Running (now (area .exit)) (now (square .entry)) n m ⌝ }
 {
     deliver_drawn(area, square, n, m, 0, memory)
 }

@@ -13,28 +13,30 @@ ghost use Rattle.tables.specs.Chains.{joins};
 ghost use Rattle.steps.specs.declared.TwoCounts.{TwoCounts};
 ghost use Rattle.steps.specs.declared.Reply.the-variants.{To};
 ghost use Rattle.machine.specs.Calls.{waiting};
-ghost use Rattle.areas.specs.Area.{runIn};
+ghost use Rattle.areas.specs.Area.{fieldsIn, runIn};
+ghost use Rattle.areas.specs.Squares.{Linked};
 ghost use Rattle.lenses.specs.Ready.{Ready};
-ghost use Rattle.delivery.specs.Delivering.{replyGoes};
+ghost use Rattle.delivery.specs.Delivering.{probesGo, replyGoes};
 ghost use Rattle.marks.specs.Changes.{Marked, MarkedAt, Turns};
-ghost use Rattle.choosing.specs.Noting.{takenMarks, sentMarks, goesTo, notedMarks};
+ghost use Rattle.choosing.specs.Noting.{takenMarks, sentMarks, notedMarks};
 
-// A message has come off the link from a to b: the link has fallen empty if it was the last one.
+// A message has come off the link from a to b, which begins at word i: the link has fallen empty if it was the last one.
 fn note_taken(
     area: &[i32],
-    square: &[u16; tables::SQUARE_SIZE],
     n: usize,
     m: usize,
     a: usize,
     b: usize,
+    i: usize,
     memory: &mut [usize; parts::MEMORY_SIZE],
 )
-    requires { ⌜ Ready (now area) (now square) n m ⌝ }
+    requires { ⌜ Ready (now area) n m ⌝ }
+    requires { ⌜ Linked (fieldsIn (now area)) a b i ⌝ }
     requires { ⌜ IsProcess n a × IsProcess n b ⌝ }
     requires { ⌜ MarkedAt (now memory) a b ⌝ }
     ensures { λ _. ⌜ Turns (now (memory .entry)) (takenMarks (waiting (runIn (now (area .entry)) .link a b)) a b) (now (memory .exit)) ⌝ }
 {
-    if links::waiting_on(area, square, n, m, a, b) != 0 {
+    if links::is_waiting(area, n, m, a, b, i) {
         return;
     }
     marks::unmark(memory, a, b);
@@ -56,21 +58,20 @@ fn note_reply(b: usize, reply: Reply, memory: &mut [usize; parts::MEMORY_SIZE])
 // b's probes have gone out along a chain.
 fn note_chain(
     area: &[i32],
-    square: &[u16; tables::SQUARE_SIZE],
     n: usize,
     m: usize,
     c: Chain,
     b: usize,
     memory: &mut [usize; parts::MEMORY_SIZE],
 )
-    requires { ⌜ Ready (now area) (now square) n m ⌝ }
+    requires { ⌜ Ready (now area) n m ⌝ }
     requires { ⌜ IsProcess n b ⌝ }
     requires { ⌜ Marked (now memory) ⌝ }
     ensures { λ _. ⌜ Turns (now (memory .entry)) (λ held. sentMarks held b (joins c (runIn (now (area .entry)) .waits) b)) (now (memory .exit)) ⌝ }
 {
-    let mut k = chains::first_in(area, square, n, m, c, b);
+    let mut k = chains::first_in(area, n, m, c, b);
     while k != 0 {
-        let arc = chains::arc_in(area, square, n, m, k);
+        let arc = chains::arc_in(area, n, m, k);
         marks::mark(memory, b, chains::far_of(c, arc));
         k = table_reader::next_of(c, arc);
     }
@@ -79,44 +80,44 @@ fn note_chain(
 // b's probes have gone out, if there are any.
 fn note_probes(
     area: &[i32],
-    square: &[u16; tables::SQUARE_SIZE],
     n: usize,
     m: usize,
     b: usize,
     probes: Probes,
     memory: &mut [usize; parts::MEMORY_SIZE],
 )
-    requires { ⌜ Ready (now area) (now square) n m ⌝ }
+    requires { ⌜ Ready (now area) n m ⌝ }
     requires { ⌜ IsProcess n b ⌝ }
     requires { ⌜ Marked (now memory) ⌝ }
-    ensures { λ _. ⌜ Turns (now (memory .entry)) (λ held. sentMarks held b (goesTo (runIn (now (area .entry)) .waits) probes b)) (now (memory .exit)) ⌝ }
+    ensures { λ _. ⌜ Turns (now (memory .entry)) (λ held. sentMarks held b (probesGo (runIn (now (area .entry)) .waits) probes b)) (now (memory .exit)) ⌝ }
 {
     match probes {
         Probes::Nothing => {}
-        Probes::Sucs => note_chain(area, square, n, m, Chain::Out, b, memory),
-        Probes::Pres => note_chain(area, square, n, m, Chain::In, b, memory),
+        Probes::Sucs => note_chain(area, n, m, Chain::Out, b, memory),
+        Probes::Pres => note_chain(area, n, m, Chain::In, b, memory),
     }
 }
 
-// What a delivery from a to b has left in the area.
+// What a delivery from a to b, whose link begins at word i, has left in the area.
 pub fn note(
     area: &[i32],
-    square: &[u16; tables::SQUARE_SIZE],
     n: usize,
     m: usize,
     a: usize,
     b: usize,
+    i: usize,
     probes: Probes,
     reply: Reply,
     memory: &mut [usize; parts::MEMORY_SIZE],
 )
-    requires { ⌜ Ready (now area) (now square) n m ⌝ }
+    requires { ⌜ Ready (now area) n m ⌝ }
+    requires { ⌜ Linked (fieldsIn (now area)) a b i ⌝ }
     requires { ⌜ IsProcess n a × IsProcess n b ⌝ }
     requires { ⌜ ((p : ℕ) (c : TwoCounts) → reply ≡ To p c → IsProcess mostProcesses p) ⌝ }
     requires { ⌜ MarkedAt (now memory) a b ⌝ }
     ensures { λ _. ⌜ Turns (now (memory .entry)) (notedMarks (runIn (now (area .entry))) a b probes reply) (now (memory .exit)) ⌝ }
 {
-    note_taken(area, square, n, m, a, b, memory);
+    note_taken(area, n, m, a, b, i, memory);
     note_reply(b, reply, memory);
-    note_probes(area, square, n, m, b, probes, memory);
+    note_probes(area, n, m, b, probes, memory);
 }

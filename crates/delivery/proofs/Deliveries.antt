@@ -1,8 +1,7 @@
 -- A delivery in code: what each call asks, and that each answer is the one that the promise names.
 --   Answer w a b i d      == d is a delivery from a to b, of the message at place i, before anything is changed
---   place-asks            == what is asked for what waits at a place
 --   nothing-waits, none-there, message-small, message-prepared   == the answer by what waits there
---   Sent w sq n m a b x   == what is known where x is delivered from a to b
+--   Sent w n m a b x      == what is known where x is delivered from a to b
 --   step-asks, room-asks, process-asks   == what the step, the test of room and the reading of the record ask
 --   step-refused, count-full, links-full, prepared   == the answer at each return
 --   Outcome w a b i d v   == what is told, d, and the area v that a delivery from a to b leaves
@@ -12,12 +11,11 @@
 use Prim.Native.Nat.{ℕ, _≤_, _<_}
 use mathlib.Core.Bool.{Bool, true, false, not}
 use mathlib.Core.List.{List}
-use mathlib.Core.Path.{_≡_, sym, ap, _∙_}
+use mathlib.Core.Path.{_≡_, sym, ap, _∙_, subst}
 use native.Mathlib.Omega.{arith}
 use lib.IntN.{ℤ}
 use Rattle.base.specs.Sums.{allTo}
-use Rattle.tables.specs.Table.{mostProcesses}
-use Rattle.tables.specs.Waits.{neighbours}
+use Rattle.tables.specs.Waits.{Waits, waitsOf, neighbours}
 use Rattle.tables.specs.WaitsLaws.{neighbours-ends}
 use Rattle.steps.specs.declared.Message.{Message}
 use Rattle.steps.specs.declared.Process.{Process}
@@ -37,12 +35,13 @@ use Rattle.checks.specs.Run.{mostDeliveries, accepts}
 use Rattle.checks.specs.Calls.{Picked}
 use Rattle.areas.specs.Area.{fieldsIn, runIn, keeping}
 use Rattle.areas.specs.AreaLaws.{stored-same}
+use Rattle.areas.specs.Squares.{Row}
 use Rattle.lenses.specs.declared.links.AtPlace.{AtPlace}
 use Rattle.lenses.specs.declared.links.AtPlace.the-variants.{Beyond}
 use Rattle.lenses.specs.Standing.{standing, OneAt}
 use Rattle.lenses.specs.Ready.{Ready}
 use Rattle.lenses.specs.Storable.{Storable}
-use Rattle.lenses.specs.ReadyLaws.{right-storable, ready-n, ready-sizes}
+use Rattle.lenses.specs.ReadyLaws.{right-storable, ready-n}
 use Rattle.lenses.specs.ChangeLaws.{link-message}
 use Rattle.lenses.specs.StandingLaws.{message-standing}
 use Rattle.delivery.specs.Rooms.{roomy, roomTo}
@@ -60,11 +59,7 @@ Answer w a b i d = d ≡ preparedOf (runIn w) a b i (runIn w .link a b)
 
 -- ---- by what waits at the place
 
-module _ {w : List ℤ} {sq : List ℕ} {n m : ℕ} (y : Ready w sq n m) {a b : ℕ} (j : neighbours (runIn w .waits) a b ≡ true) (lu : (a ≤ n) × (b ≤ n)) where
-  pub place-asks : Ready w sq n m × (((a ≤ mostProcesses) × (b ≤ mostProcesses)) × (neighbours (runIn w .waits) a b ≡ true))
-  place-asks = (y, (omega (arith, ready-sizes y), j))
-
-module _ {w : List ℤ} {sq : List ℕ} {n m : ℕ} (y : Ready w sq n m) (a b i : ℕ) {p : AtPlace} (e : p ≡ standing i (runIn w .link a b)) where
+module _ {w : List ℤ} {n m : ℕ} (y : Ready w n m) (a b i : ℕ) {p : AtPlace} (e : p ≡ standing i (runIn w .link a b)) where
   pub nothing-waits : p ≡ AtPlace.Nothing → Answer w a b i (Prepared.Refused 24)
   nothing-waits o = sym (prepared-nothing (runIn w) a b i (runIn w .link a b) (sym e ∙ o))
 
@@ -87,17 +82,17 @@ module _ {w : List ℤ} {sq : List ℕ} {n m : ℕ} (y : Ready w sq n m) (a b i 
 -- ---- the delivery of a message
 
 -- what is known where x is delivered from a to b
-pub record Sent (w : List ℤ) (sq : List ℕ) (n m a b : ℕ) (x : Message) : Type 0 where
-  pub ready : Ready w sq n m
+pub record Sent (w : List ℤ) (n m a b : ℕ) (x : Message) : Type 0 where
+  pub ready : Ready w n m
   pub near : neighbours (runIn w .waits) a b ≡ true
   pub ends : (a ≤ n) × (b ≤ n)
   pub small : countSmall x ≡ true
 
-module _ {w : List ℤ} {sq : List ℕ} {n m a b : ℕ} {x : Message} (h : Sent w sq n m a b x) where
+module _ {w : List ℤ} {n m a b : ℕ} {x : Message} (h : Sent w n m a b x) where
   f : Storable (fieldsIn w) (runIn w)
   f = right-storable w (h .ready .right)
 
-  pub step-asks : Ready w sq n m × (((1 ≤ a) × (a ≤ n)) × (((1 ≤ b) × (b ≤ n)) × (countSmall x ≡ true)))
+  pub step-asks : Ready w n m × (((1 ≤ a) × (a ≤ n)) × (((1 ≤ b) × (b ≤ n)) × (countSmall x ≡ true)))
   step-asks =
       let k = neighbours-ends (runIn w .waits) (f .sound) a b (h .near) in
       (h .ready, ((k .0, h .ends .0), ((k .2, h .ends .1), h .small)))
@@ -105,7 +100,7 @@ module _ {w : List ℤ} {sq : List ℕ} {n m a b : ℕ} {x : Message} (h : Sent 
   by-22 : ((rest : List Message) → Among x rest (runIn w .link a b) → accepts (runIn w) a b x rest ≡ false) → PreparedFor w a b x (Prepared.Refused 22)
   by-22 k rest l = sym (prepared-refused (runIn w) a b x rest (k rest l))
 
-  pub process-asks : Ready w sq n m × ((1 ≤ b) × (b ≤ n))
+  pub process-asks : Ready w n m × ((1 ≤ b) × (b ≤ n))
   process-asks = (h .ready, step-asks .1 .1 .0)
 
   pub step-refused : {s : Stepped} {k : ℕ} → s ≡ steppedAt (runIn w) a b x → s ≡ Stepped.Refused k → PreparedFor w a b x (Prepared.Refused 22)
@@ -119,14 +114,16 @@ module _ {w : List ℤ} {sq : List ℕ} {n m a b : ℕ} {x : Message} (h : Sent 
     room-is : {v : Bool} → v ≡ allTo n (roomTo (runIn w) a b p z) → roomy (runIn w) a b p z ≡ v
     room-is e = ap (λ (k : ℕ). allTo k (roomTo (runIn w) a b p z)) (ready-n (h .ready)) ∙ sym e
 
-    pub room-asks : Ready w sq n m × (((1 ≤ b) × (b ≤ n)) × ((i : ℕ) (c : TwoCounts) → z ≡ To i c → (1 ≤ i) × (i ≤ n)))
-    room-asks = (h .ready, (process-asks .1, λ i c e. within i c e))
+    pub room-asks : {row : List ℕ} → Row (fieldsIn w) b row → Ready w n m
+        × (Row (fieldsIn w) b row
+        × (((1 ≤ b) × (b ≤ n)) × ((i : ℕ) (c : TwoCounts) → z ≡ To i c → (1 ≤ i) × (i ≤ n) × (neighbours (waitsOf (fieldsIn w)) b i ≡ true))))
+    room-asks g = (h .ready, (g, (process-asks .1, λ i c e. within i c e)))
       where
-        within : (i : ℕ) (c : TwoCounts) → z ≡ To i c → (1 ≤ i) × (i ≤ n)
+        within : (i : ℕ) (c : TwoCounts) → z ≡ To i c → (1 ≤ i) × (i ≤ n) × (neighbours (waitsOf (fieldsIn w)) b i ≡ true)
         within i c e =
-            let k = neighbours-ends (runIn w .waits) (f .sound) b i
-            (taken-replied (runIn w) (f .formed) (f .sound) a b (h .near) x (h .small) q p z (sym t ∙ o) i c e) in
-            (k .2, omega (arith, k .3, ready-n (h .ready)))
+            let j = taken-replied (runIn w) (f .formed) (f .sound) a b (h .near) x (h .small) q p z (sym t ∙ o) i c e in
+            let k = neighbours-ends (runIn w .waits) (f .sound) b i j in
+            (k .2, omega (arith, k .3, ready-n (h .ready)), subst (λ (v : Waits). neighbours v b i ≡ true) (f .held .waits) j)
 
     pub links-full : (v : Bool) → v ≡ allTo n (roomTo (runIn w) a b p z) → not v ≡ true → PreparedFor w a b x (Prepared.Refused 22)
     links-full v e k =
@@ -144,7 +141,7 @@ module _ {w : List ℤ} {sq : List ℕ} {n m a b : ℕ} {x : Message} (h : Sent 
 abbrev pub Outcome : List ℤ → ℕ → ℕ → ℕ → Told → List ℤ → Type 0
 Outcome w a b i d v = (d ≡ toldAt (runIn w) a b i) × (v ≡ keeping w (deliverAt (runIn w) a b i .run))
 
-module _ {w : List ℤ} {sq : List ℕ} {n m : ℕ} (y : Ready w sq n m) where
+module _ {w : List ℤ} {n m : ℕ} (y : Ready w n m) where
   -- a refusal leaves the area as it was
   pub refusal : (a b i : ℕ) {d : Prepared} → Answer w a b i d → {k : ℕ} → d ≡ Prepared.Refused k → Outcome w a b i (Told.Refused k) w
   refusal a b i t {k} o =
@@ -153,8 +150,8 @@ module _ {w : List ℤ} {sq : List ℕ} {n m : ℕ} (y : Ready w sq n m) where
 
   module _ (a b i : ℕ) (j : neighbours (runIn w .waits) a b ≡ true) {d : Prepared} (t : Answer w a b i d) {g : Message} {x : Process} {p : Probes} {z : Reply}
       (o : d ≡ Go g x p z) where
-    pub carry-asks : Ready w sq n m × Carried (runIn w) a b i x p z
-    carry-asks = (y, going-of y a b i j (sym t ∙ o) .carried)
+    pub carry-asks : Carried (runIn w) a b i x p z
+    carry-asks = going-of y a b i j (sym t ∙ o) .carried
 
     pub delivery : {l : List ℤ} → l ≡ keeping w (carriedOut (runIn w) a b i x p z) → Outcome w a b i (Told.Delivered g p z) l
     delivery e = let h = going-of y a b i j (sym t ∙ o) in (ap toldOf (sym o ∙ t), e ∙ ap (keeping w) (sym (h .run)))

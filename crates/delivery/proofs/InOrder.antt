@@ -5,11 +5,11 @@
 use Prim.Native.Nat.{ℕ, _+_, _-_, _≤_}
 use mathlib.Core.Bool.{true}
 use mathlib.Core.List.{List}
-use mathlib.Core.Path.{_≡_}
+use mathlib.Core.Path.{_≡_, sym, ap, _∙_, subst}
 use native.Mathlib.Omega.{arith}
 use lib.IntN.{ℤ}
 use lib.ListN.{length}
-use Rattle.tables.specs.Table.{mostProcesses}
+use Rattle.tables.specs.Table.{Fields}
 use Rattle.tables.specs.declared.Chain.{Chain}
 use Rattle.tables.specs.Waits.{neighbours}
 use Rattle.tables.specs.Chains.{joins}
@@ -23,16 +23,17 @@ use Rattle.checks.specs.Run.{Run, mostDeliveries, fatherRight}
 use Rattle.areas.specs.Used.{linkSlots}
 use Rattle.areas.specs.Area.{fieldsIn, runIn, keeping}
 use Rattle.areas.specs.Replaced.{putProcess, putCount}
+use Rattle.areas.specs.Squares.{Linked, Row}
 use Rattle.lenses.specs.Ready.{Ready}
 use Rattle.lenses.specs.Changes.{answered, off, Spreadable, Answerable}
 use Rattle.lenses.specs.Storable.{Storable}
-use Rattle.lenses.specs.ReadyLaws.{right-storable, runIn-few, ready-n, ready-sizes}
+use Rattle.lenses.specs.ReadyLaws.{right-storable, keeping-fields, runIn-few, ready-n}
 use Rattle.delivery.specs.Delivering.{probesOf, spreadBy, changed, carriedOut, Carried}
 use Rattle.delivery.specs.CarryLaws.{carried-ends, storable-off, off-father, storable-changed, reply-room, storable-replied, probes-room}
 use Rattle.delivery.specs.CarryLaws.{storable-sent, carried-count, storable-carried}
 use Rattle.lenses.proofs.Holding.{Holding, holding-run, holding-ready, holding-next}
 
-module _ {w : List ℤ} {sq : List ℕ} {n m : ℕ} (y : Ready w sq n m) {a b i : ℕ} {x : Process} {p : Probes} {z : Reply} (k : Carried (runIn w) a b i x p z) where
+module _ {w : List ℤ} {n m : ℕ} (y : Ready w n m) {a b i : ℕ} {x : Process} {p : Probes} {z : Reply} (k : Carried (runIn w) a b i x p z) where
   abbrev r : Run
   r = runIn w
 
@@ -42,17 +43,18 @@ module _ {w : List ℤ} {sq : List ℕ} {n m : ℕ} (y : Ready w sq n m) {a b i 
   between : (1 ≤ b) × (b ≤ n)
   between = let e = carried-ends (fieldsIn w) r f a b i x p z k in (e .2, omega (arith, e .3, ready-n y))
 
-  pub take-asks : Ready w sq n m
-      × (((a ≤ mostProcesses) × (b ≤ mostProcesses)) × ((neighbours (runIn w .waits) a b ≡ true) × ((1 ≤ i) × (i ≤ linkSlots))))
-  take-asks =
-      let e = carried-ends (fieldsIn w) r f a b i x p z k in
-      (y, (omega (arith, e .1, e .3, ready-n y, ready-sizes y), (k .joined, (k .placed .0, omega (arith, k .placed .1, runIn-few w a b)))))
+  -- the row of b stays what it is
+  row-kept : {row : List ℕ} → Row (fieldsIn w) b row → {v : List ℤ} {q : Run} → Holding w v q → Row (fieldsIn v) b row
+  row-kept {row} g h = subst (λ (t : Fields). Row t b row) (sym (ap fieldsIn (h .is) ∙ keeping-fields w (y .right) _ (h .fit))) g
+
+  pub take-asks : {j : ℕ} → Linked (fieldsIn w) a b j → Ready w n m × (Linked (fieldsIn w) a b j × ((1 ≤ i) × (i ≤ linkSlots)))
+  take-asks l = (y, (l, (k .placed .0, omega (arith, k .placed .1, runIn-few w a b))))
 
   pub taken-off : {u : List ℤ} → u ≡ keeping w (off r a b i) → Holding w u (off r a b i)
   taken-off e = record { is = e; fit = storable-off (fieldsIn w) r f a b i x p z k }
 
   module _ {v : List ℤ} (h : Holding w v (off r a b i)) where
-    pub put-asks : Ready v sq n m × (((1 ≤ b) × (b ≤ n)) × ((inRange x ≡ true) × (fatherRight (runIn v .waits) b x ≡ true)))
+    pub put-asks : Ready v n m × (((1 ≤ b) × (b ≤ n)) × ((inRange x ≡ true) × (fatherRight (runIn v .waits) b x ≡ true)))
     put-asks =
         (holding-ready y h, (between, (k .range, rw (holding-run y h) (off-father (fieldsIn w) r f a b i x p z k))))
 
@@ -60,10 +62,10 @@ module _ {w : List ℤ} {sq : List ℕ} {n m : ℕ} (y : Ready w sq n m) {a b i 
     record-put e = holding-next y h (λ q. putProcess q b x) e (storable-changed (fieldsIn w) r f a b i x p z k)
 
   module _ {v : List ℤ} (h : Holding w v (changed r a b i x)) where
-    pub reply-asks : Ready v sq n m
-        × (((1 ≤ b) × (b ≤ n)) × ((replyFits z ≡ true) × Answerable (runIn v) n b z))
-    reply-asks =
-        (holding-ready y h, (between, (k .replies, rw (holding-run y h) room)))
+    pub reply-asks : {row : List ℕ} → Row (fieldsIn w) b row → Ready v n m
+        × (((1 ≤ b) × (b ≤ n)) × (Row (fieldsIn v) b row × ((replyFits z ≡ true) × Answerable (runIn v) n b z)))
+    reply-asks g =
+        (holding-ready y h, (between, (row-kept g h, (k .replies, rw (holding-run y h) room))))
       where
         room : (q : ℕ) (c : TwoCounts) → z ≡ To q c → (q ≤ n)
             × (neighbours (changed r a b i x .waits) b q ≡ true) × (length (changed r a b i x .link b q) ≤ linkSlots - 1)
@@ -73,10 +75,10 @@ module _ {w : List ℤ} {sq : List ℕ} {n m : ℕ} (y : Ready w sq n m) {a b i 
     reply-sent e = holding-next y h (λ q. answered q b z) e (storable-replied (fieldsIn w) r f a b i x p z k)
 
   module _ {v : List ℤ} (h : Holding w v (answered (changed r a b i x) b z)) where
-    pub send-asks : Ready v sq n m
-        × (((1 ≤ b) × (b ≤ n)) × ((c : Chain) → p ≡ probesOf c → Spreadable c (runIn v) n b))
-    send-asks =
-        (holding-ready y h, (between, rw (holding-run y h) room))
+    pub send-asks : {row : List ℕ} → Row (fieldsIn w) b row → Ready v n m
+        × (((1 ≤ b) × (b ≤ n)) × (Row (fieldsIn v) b row × ((c : Chain) → p ≡ probesOf c → Spreadable c (runIn v) n b)))
+    send-asks g =
+        (holding-ready y h, (between, (row-kept g h, rw (holding-run y h) room)))
       where
         room : (c : Chain) → p ≡ probesOf c → (q : ℕ) → 1 ≤ q → q ≤ n → joins c (answered (changed r a b i x) b z .waits) b q ≡ true
             → length (answered (changed r a b i x) b z .link b q) ≤ linkSlots - 1
@@ -86,7 +88,7 @@ module _ {w : List ℤ} {sq : List ℕ} {n m : ℕ} (y : Ready w sq n m) {a b i 
     probes-sent e = holding-next y h (λ q. spreadBy p q b) e (storable-sent (fieldsIn w) r f a b i x p z k)
 
   module _ {v : List ℤ} (h : Holding w v (spreadBy p (answered (changed r a b i x) b z) b)) {c : ℕ} (g : c ≡ runIn v .count) where
-    pub count-asks : Ready v sq n m × (c + 1 ≤ mostDeliveries)
+    pub count-asks : Ready v n m × (c + 1 ≤ mostDeliveries)
     count-asks =
         (holding-ready y h, rw (g, holding-run y h) (carried-count (fieldsIn w) r f a b i x p z k))
 

@@ -4,24 +4,29 @@
 --   test-named            == a test of some numbers, which are named otherwise
 --   some-fails, all-pass  == a test of 1 to n from two tests of some of them each
 --   unsent-room           == a link on which nothing is sent has room
+--   probes-by             == whether a probe goes to q, by the cell of b and q
+--   reply-room, probe-room   == one where an acknowledgement goes, and where a probe goes, has room if one or two messages more have
 -- Assumes nothing.
-use Prim.Native.Nat.{ℕ, _≤_}
-use mathlib.Core.Bool.{Bool, true, false, not, _||_, false≢true}
+use Prim.Native.Nat.{ℕ, _+_, _-_, _≤_}
+use mathlib.Core.Bool.{Bool, true, false, not, _&&_, _||_, false≢true}
 use mathlib.Core.List.{List}
 use mathlib.Core.Path.{_≡_, refl, sym, ap, _∙_, fun-ext}
 use native.Mathlib.Omega.{arith}
 use borrow.Author.Tests.{eq-eqb, ne-eqb, le-leb}
 use lib.Dec.{eqb, leb}
 use lib.IntN.{ℤ}
-use lib.ListN.{length}
+use lib.ListN.{length, getD}
 use Rattle.base.specs.Choice.{bit}
 use Rattle.base.specs.ChoiceLaws.{or-right, same?, tested}
 use Rattle.base.specs.Checks.{Same, same, apart, Tested, passed, failed}
 use Rattle.base.specs.Sums.{allTo}
 use Rattle.base.specs.SumLaws.{allTo-at, allTo-of}
 use Rattle.base.specs.PrefixLaws.{allTo-stop}
-use Rattle.tables.specs.Table.{mostProcesses}
+use Rattle.tables.specs.declared.Chain.{Chain}
 use Rattle.tables.specs.declared.Chain.the-variants.{Out, In}
+use Rattle.tables.specs.Table.{mostProcesses}
+use Rattle.tables.specs.Waits.{Waits}
+use Rattle.tables.specs.Chains.{joins}
 use Rattle.steps.specs.declared.Message.{Message}
 use Rattle.steps.specs.declared.Message.the-variants.{Suc, Pre, Ack}
 use Rattle.steps.specs.declared.Probes.{Probes}
@@ -29,11 +34,14 @@ use Rattle.steps.specs.declared.Probes.the-variants.{Sucs, Pres}
 use Rattle.steps.specs.declared.Reply.{Reply}
 use Rattle.steps.specs.declared.Reply.the-variants.{To}
 use Rattle.checks.specs.Run.{one, replyTo, probesTo}
-use Rattle.areas.specs.Area.{runIn}
-use Rattle.lenses.specs.Ready.{Ready}
-use Rattle.lenses.specs.ReadyLaws.{runIn-few, ready-sizes, ready-joins}
-use Rattle.delivery.specs.Rooms.{loadAfter}
-use Rattle.delivery.specs.Delivering.{probesGo, replyGoes}
+use Rattle.areas.specs.Area.{fieldsIn, runIn}
+use Rattle.areas.specs.Squares.{cellOf, joinsIn, Row}
+use Rattle.areas.specs.SquareLaws.{cellOf-joins}
+use Rattle.areas.specs.RunInLaws.{runIn-contained}
+use Rattle.areas.specs.Used.{linkSlots}
+use Rattle.lenses.specs.ReadyLaws.{runIn-few}
+use Rattle.delivery.specs.Rooms.{loadAfter, roomTo}
+use Rattle.delivery.specs.Delivering.{probesGo, probesBy, replyGoes}
 
 one-length : (t : Bool) (m : Message) → length (one t m) ≡ bit t
 one-length true m = refl
@@ -49,13 +57,12 @@ reply-length (To p c) q = one-length (eqb q p) (Ack c) ∙ ap bit (swap (same? q
     swap (same e f) = f ∙ sym (eq-eqb p q (sym e))
     swap (apart e f) = f ∙ sym (ne-eqb p q (λ g. e (sym g)))
 
--- by the square, how many probes of a broadcast go from b to q
-pub probes-length : {w : List ℤ} {sq : List ℕ} {n m : ℕ} → Ready w sq n m → (z : Probes) (b q : ℕ) → b ≤ mostProcesses → q ≤ mostProcesses
-    → length (probesTo (runIn w .waits) b z q) ≡ bit (probesGo sq z b q)
+-- how many probes of a broadcast go from b to q
+pub probes-length : (w : Waits) (z : Probes) (b q : ℕ) → length (probesTo w b z q) ≡ bit (probesGo w z b q)
 unfolding probesTo
-probes-length y Probes.Nothing b q l u = refl
-probes-length {w} y Sucs b q l u = rw (ready-joins y Out b q l u) (one-length (runIn w .waits .waits b q) Suc)
-probes-length {w} y Pres b q l u = rw (ready-joins y In b q l u) (one-length (runIn w .waits .waits q b) Pre)
+probes-length w Probes.Nothing b q = refl
+probes-length w Sucs b q = one-length (w .waits b q) Suc
+probes-length w Pres b q = one-length (w .waits q b) Pre
 
 module _ (n : ℕ) (v : ℕ → Bool) where
   -- the test of p alone
@@ -101,8 +108,34 @@ module _ (n : ℕ) (v : ℕ → Bool) where
       at (failed t) = t ∙ sym (some-fails g t)
 
 -- what waits on a link is at most 4, so that it has room where nothing is sent
-pub unsent-room : {w : List ℤ} {sq : List ℕ} {n m : ℕ} → Ready w sq n m → (a b : ℕ) (y : Probes) (z : Reply) → b ≤ n → (q : ℕ) → 1 ≤ q → q ≤ n
-    → replyGoes z q ≡ false → probesGo sq y b q ≡ false → leb (loadAfter (runIn w) a b y z q) 4 ≡ true
-unsent-room {w} r a b y z k q l u e f =
-    let s = ready-sizes r in
-    le-leb (loadAfter (runIn w) a b y z q) 4 (rw (reply-length z q, probes-length r y b q (omega arith) (omega arith), e, f) (omega (arith, runIn-few w b q)))
+pub unsent-room : (w : List ℤ) (a b : ℕ) (y : Probes) (z : Reply) (q : ℕ) → replyGoes z q ≡ false → probesGo (runIn w .waits) y b q ≡ false
+    → roomTo (runIn w) a b y z q ≡ true
+unsent-room w a b y z q e f =
+    le-leb (loadAfter (runIn w) a b y z q) 4 (rw (reply-length z q, probes-length (runIn w .waits) y b q, e, f) (omega (arith, runIn-few w b q)))
+
+-- what one or two messages more leave of the room, where an acknowledgement goes and where a probe does
+module _ (w : List ℤ) (a b : ℕ) (y : Probes) (z : Reply) (q : ℕ) {s : ℕ} (t : Bool) (e : s ≡ 1 + bit t) {r : Bool}
+    (h : r ≡ leb (length (runIn w .link b q) - bit (eqb b a && eqb q b) + s) linkSlots) where
+  same-room : loadAfter (runIn w) a b y z q ≡ length (runIn w .link b q) - bit (eqb b a && eqb q b) + s → r ≡ roomTo (runIn w) a b y z q
+  same-room f = h ∙ ap (λ (k : ℕ). leb k linkSlots) (sym f)
+
+  pub reply-room : replyGoes z q ≡ true → t ≡ probesGo (runIn w .waits) y b q → r ≡ roomTo (runIn w) a b y z q
+  reply-room g p =
+      same-room (rw (reply-length z q, probes-length (runIn w .waits) y b q, g, ← p) (omega (arith, e)))
+
+  pub probe-room : probesGo (runIn w .waits) y b q ≡ true → t ≡ replyGoes z q → r ≡ roomTo (runIn w) a b y z q
+  probe-room g p =
+      same-room (rw (reply-length z q, probes-length (runIn w .waits) y b q, g, ← p) (omega (arith, e)))
+
+-- whether a probe goes to q, by the cell of b and q
+pub probes-by : (w : List ℤ) {b : ℕ} {row : List ℕ} → Row (fieldsIn w) b row → (y : Probes) (q : ℕ) → q ≤ mostProcesses → {k : ℕ} → k ≡ getD row q 0
+    → probesBy y k ≡ probesGo (runIn w .waits) y b q
+probes-by w {b} {row} g y q u e = ap (probesBy y) (e ∙ g .cells q u) ∙ at y
+  where
+    by-chain : (c : Chain) → joinsIn c (cellOf (fieldsIn w) b q) ≡ joins c (runIn w .waits) b q
+    by-chain c = cellOf-joins (fieldsIn w) c b q ∙ ap (λ (v : Waits). joins c v b q) (sym (runIn-contained w .waits))
+
+    at : (y : Probes) → probesBy y (cellOf (fieldsIn w) b q) ≡ probesGo (runIn w .waits) y b q
+    at Probes.Nothing = refl
+    at Sucs = by-chain Out
+    at Pres = by-chain In

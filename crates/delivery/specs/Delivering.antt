@@ -1,7 +1,8 @@
 -- What the parts of a delivery compute.
 --   steppedAt r a b m     == the receiver's step as the answer of `step` or of the start's step
 --   probesOf c            == the probes that go along a chain
---   probesGo, replyGoes   == whether a broadcast, and an acknowledgement, goes to q
+--   probesGo, replyGoes   == whether a probe of b's broadcast, and an acknowledgement, goes to q
+--   probesBy y k          == the same of a broadcast, by the cell of b and q
 --   changed r a b k x     == the run after the message at place k is off its link and the record is changed
 --   Relinked r q          == q differs from r in its links alone
 --   carriedOut r a b k x y z   == the delivery as changes one after another; that this is `after` is a law
@@ -23,7 +24,8 @@ use lib.Dec.{eqb}
 use Rattle.base.specs.Choice.{choose}
 use Rattle.tables.specs.declared.Chain.{Chain}
 use Rattle.tables.specs.declared.Chain.the-variants.{Out, In}
-use Rattle.tables.specs.Waits.{outDegree, inDegree, neighbours}
+use Rattle.tables.specs.Waits.{Waits, outDegree, inDegree, neighbours}
+use Rattle.tables.specs.Chains.{joins}
 use Rattle.steps.specs.declared.Message.{Message}
 use Rattle.steps.specs.declared.Process.{Process}
 use Rattle.steps.specs.declared.Probes.{Probes}
@@ -39,7 +41,7 @@ use Rattle.machine.specs.Calls.{Cut, nowhere, cut, atPlace}
 use Rattle.machine.specs.Among.{Among}
 use Rattle.areas.specs.Area.{runIn}
 use Rattle.areas.specs.Replaced.{withLinks, putProcess, putCount}
-use Rattle.areas.specs.Squares.{joinsBy}
+use Rattle.areas.specs.Squares.{joinsIn}
 use Rattle.lenses.specs.Changes.{answered, spread, off}
 use Rattle.delivery.specs.Rooms.{loadAfter}
 use Rattle.delivery.specs.declared.delivering.Prepared.{Prepared}
@@ -52,10 +54,16 @@ steppedAt r a b m =
     (startStepped m a (r .process b))
     (stepped m (outDegree (r .waits) b) (inDegree (r .waits) b) a (r .process b))
 
-abbrev pub probesGo : List ℕ → Probes → ℕ → ℕ → Bool
-probesGo sq Probes.Nothing b q = false
-probesGo sq Sucs b q = joinsBy sq Out b q
-probesGo sq Pres b q = joinsBy sq In b q
+-- "sends suc to all successors"; "the same with preceding and predecessors"
+abbrev pub probesGo : Waits → Probes → ℕ → ℕ → Bool
+probesGo w Probes.Nothing b q = false
+probesGo w Sucs b q = joins Out w b q
+probesGo w Pres b q = joins In w b q
+
+abbrev pub probesBy : Probes → ℕ → Bool
+probesBy Probes.Nothing k = false
+probesBy Sucs k = joinsIn Out k
+probesBy Pres k = joinsIn In k
 
 -- the probes that go along a chain
 abbrev pub probesOf : Chain → Probes

@@ -114,7 +114,7 @@ abbrev Says : Run → ℕ → ℕ → ℕ → ℕ → Prepared → Type 0
 Says r n a b i (Go g x y z) = Going r n a b i g x y z
 Says r n a b i (Prepared.Refused k) = k ≡ k
 
-module _ {w : List ℤ} {sq : List ℕ} {n m : ℕ} (y : Ready w sq n m) (a b i : ℕ) (j : neighbours (runIn w .waits) a b ≡ true) where
+module _ {w : List ℤ} {n m : ℕ} (y : Ready w n m) (a b i : ℕ) (j : neighbours (runIn w .waits) a b ≡ true) where
   f : Storable (fieldsIn w) (runIn w)
   f = right-storable w (y .right)
 
@@ -166,7 +166,7 @@ pub told-refused : (r : Run) (a b k n : ℕ) → toldAt r a b k ≡ Told.Refused
 told-refused r a b k n e = refused-of r a b k n (r .link a b) (by-refusal (preparedOf r a b k (r .link a b)) n e)
 
 pub told-going
-    : {w : List ℤ} {sq : List ℕ} {n m : ℕ} (y : Ready w sq n m) (a b i : ℕ) → neighbours (runIn w .waits) a b ≡ true
+    : {w : List ℤ} {n m : ℕ} (y : Ready w n m) (a b i : ℕ) → neighbours (runIn w .waits) a b ≡ true
     → {g : Message} {p : Probes} {z : Reply} → toldAt (runIn w) a b i ≡ Told.Delivered g p z → (x : Process) × Going (runIn w) n a b i g x p z
 told-going {w} y a b i j {g} {p} {z} e =
     let o = by-message (preparedOf (runIn w) a b i (runIn w .link a b)) g p z e in

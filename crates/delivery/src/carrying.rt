@@ -9,54 +9,52 @@ use steps::Reply;
 use tables::Chain;
 ghost use mathlib.Core.Path.{_≡_};
 ghost use Prim.Native.Nat.{_+_, _≤_};
-ghost use Rattle.areas.specs.Area.{runIn, keeping};
+ghost use Rattle.areas.specs.Area.{fieldsIn, runIn, keeping};
+ghost use Rattle.areas.specs.Squares.{Linked, Row};
 ghost use Rattle.lenses.specs.Ready.{Ready};
 ghost use Rattle.delivery.specs.Delivering.{probesOf, spreadBy, carriedOut, Carried};
 ghost use Rattle.tables.specs.declared.Chain.{Chain};
 ghost use Rattle.lenses.specs.Changes.{Spreadable};
 
 // b sends the probes of its step, if there are any.
-fn send(
-    area: &mut [i32],
-    square: &[u16; tables::SQUARE_SIZE],
-    n: usize,
-    m: usize,
-    b: usize,
-    probes: Probes,
-)
-    requires { ⌜ Ready (now area) (now square) n m ⌝ }
+fn send(area: &mut [i32], row: &[u16], n: usize, m: usize, b: usize, probes: Probes)
+    requires { ⌜ Ready (now area) n m ⌝ }
     requires { ⌜ (1 ≤ b) × (b ≤ n) ⌝ }
+    requires { ⌜ Row (fieldsIn (now area)) b (now row) ⌝ }
     requires { ⌜ ((c : Chain) → probes ≡ probesOf c → Spreadable c (runIn (now area)) n b) ⌝ }
     ensures { λ _. ⌜ now (area .exit) ≡ keeping (now (area .entry)) (spreadBy probes (runIn (now (area .entry))) b) ⌝ }
 {
     match probes {
         Probes::Nothing => {}
-        Probes::Sucs => sending::broadcast(area, square, n, m, Chain::Out, b),
-        Probes::Pres => sending::broadcast(area, square, n, m, Chain::In, b),
+        Probes::Sucs => sending::broadcast(area, row, n, m, Chain::Out, b),
+        Probes::Pres => sending::broadcast(area, row, n, m, Chain::In, b),
     }
 }
 
 // b's step has been taken: the message comes off its link, the record changes, and the step's messages go out.
 pub fn carry_out(
     area: &mut [i32],
-    square: &[u16; tables::SQUARE_SIZE],
+    row: &[u16],
     n: usize,
     m: usize,
     a: usize,
     b: usize,
+    i: usize,
     place: usize,
     process: Process,
     probes: Probes,
     reply: Reply,
 )
-    requires { ⌜ Ready (now area) (now square) n m ⌝ }
+    requires { ⌜ Ready (now area) n m ⌝ }
+    requires { ⌜ Row (fieldsIn (now area)) b (now row) ⌝ }
+    requires { ⌜ Linked (fieldsIn (now area)) a b i ⌝ }
     requires { ⌜ Carried (runIn (now area)) a b place process probes reply ⌝ }
     ensures { λ _. ⌜ now (area .exit) ≡ keeping (now (area .entry)) (carriedOut (runIn (now (area .entry))) a b place process probes reply) ⌝ }
 {
-    links::take(area, square, n, m, a, b, place);
-    records::put_process(area, square, n, m, b, process);
-    sending::acknowledge(area, square, n, m, b, reply);
-    send(area, square, n, m, b, probes);
-    let count = heading::count_of(area, square, n, m);
-    heading::put_count(area, square, n, m, count + 1);
+    links::take(area, n, m, a, b, i, place);
+    records::put_process(area, n, m, b, process);
+    sending::acknowledge(area, row, n, m, b, reply);
+    send(area, row, n, m, b, probes);
+    let count = heading::count_of(area, n, m);
+    heading::put_count(area, n, m, count + 1);
 }

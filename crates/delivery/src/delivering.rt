@@ -16,7 +16,8 @@ ghost use mathlib.Core.Bool.{true};
 ghost use Prim.Native.Nat.{_≤_};
 ghost use Rattle.tables.specs.Waits.{neighbours};
 ghost use Rattle.steps.specs.Step.{countSmall};
-ghost use Rattle.areas.specs.Area.{runIn, keeping};
+ghost use Rattle.areas.specs.Area.{fieldsIn, runIn, keeping};
+ghost use Rattle.areas.specs.Squares.{Linked, Row};
 ghost use Rattle.lenses.specs.Ready.{Ready};
 ghost use Rattle.delivery.specs.Delivering.{PreparedFor, preparedOf, toldAt, deliverAt};
 
@@ -44,14 +45,15 @@ pub enum Told {
 // The delivery of a message from a to b, which are neighbours, before anything is changed: 22, or what the receiver's step leaves and sends.
 fn prepare_message(
     area: &[i32],
-    square: &[u16; tables::SQUARE_SIZE],
+    row: &[u16],
     n: usize,
     m: usize,
     a: usize,
     b: usize,
     message: Message,
 ) -> Prepared
-    requires { ⌜ Ready (now area) (now square) n m ⌝ }
+    requires { ⌜ Ready (now area) n m ⌝ }
+    requires { ⌜ Row (fieldsIn (now area)) b (now row) ⌝ }
     requires { ⌜ neighbours (runIn (now area) .waits) a b ≡ true ⌝ }
     requires { ⌜ (a ≤ n) × (b ≤ n) ⌝ }
     requires { ⌜ countSmall message ≡ true ⌝ }
@@ -61,14 +63,14 @@ fn prepare_message(
         process,
         probes,
         reply,
-    } = stepping::step_at(area, square, n, m, a, b, message)
+    } = stepping::step_at(area, n, m, a, b, message)
     else {
         return Prepared::Refused(22);
     };
-    if heading::count_of(area, square, n, m) >= checks::MOST_DELIVERIES {
+    if heading::count_of(area, n, m) >= checks::MOST_DELIVERIES {
         return Prepared::Refused(22);
     }
-    if !rooms::has_room(area, square, n, m, a, b, probes, reply) {
+    if !rooms::has_room(area, row, n, m, a, b, probes, reply) {
         return Prepared::Refused(22);
     }
     Prepared::Go {
@@ -83,22 +85,24 @@ fn prepare_message(
 // there, then 31 if no message is at that place, then 22, and else what the receiver's step leaves and sends.
 fn prepare(
     area: &[i32],
-    square: &[u16; tables::SQUARE_SIZE],
+    row: &[u16],
     n: usize,
     m: usize,
     a: usize,
     b: usize,
+    i: usize,
     place: usize,
 ) -> Prepared
-    requires { ⌜ Ready (now area) (now square) n m ⌝ }
-    requires { ⌜ neighbours (runIn (now area) .waits) a b ≡ true ⌝ }
+    requires { ⌜ Ready (now area) n m ⌝ }
+    requires { ⌜ Row (fieldsIn (now area)) b (now row) ⌝ }
+    requires { ⌜ Linked (fieldsIn (now area)) a b i ⌝ }
     requires { ⌜ (a ≤ n) × (b ≤ n) ⌝ }
     ensures { λ r. ⌜ r ≡ preparedOf (runIn (now (area .entry))) a b place (runIn (now (area .entry)) .link a b) ⌝ }
 {
-    match links::at_place(area, square, n, m, a, b, place) {
+    match links::at_place(area, n, m, a, b, i, place) {
         AtPlace::Nothing => Prepared::Refused(24),
         AtPlace::Beyond => Prepared::Refused(31),
-        AtPlace::Message(message) => prepare_message(area, square, n, m, a, b, message),
+        AtPlace::Message(message) => prepare_message(area, row, n, m, a, b, message),
     }
 }
 
@@ -106,20 +110,22 @@ fn prepare(
 // 31, 22.
 pub fn deliver_and_tell(
     area: &mut [i32],
-    square: &[u16; tables::SQUARE_SIZE],
+    row: &[u16],
     n: usize,
     m: usize,
     a: usize,
     b: usize,
+    i: usize,
     place: usize,
 ) -> Told
-    requires { ⌜ Ready (now area) (now square) n m ⌝ }
-    requires { ⌜ neighbours (runIn (now area) .waits) a b ≡ true ⌝ }
+    requires { ⌜ Ready (now area) n m ⌝ }
+    requires { ⌜ Row (fieldsIn (now area)) b (now row) ⌝ }
+    requires { ⌜ Linked (fieldsIn (now area)) a b i ⌝ }
     requires { ⌜ (a ≤ n) × (b ≤ n) ⌝ }
     ensures { λ r. ⌜ r ≡ toldAt (runIn (now (area .entry))) a b place ⌝ }
     ensures { λ _. ⌜ now (area .exit) ≡ keeping (now (area .entry)) (deliverAt (runIn (now (area .entry))) a b place .run) ⌝ }
 {
-    match prepare(area, square, n, m, a, b, place) {
+    match prepare(area, row, n, m, a, b, i, place) {
         Prepared::Refused(number) => Told::Refused(number),
         Prepared::Go {
             message,
@@ -127,7 +133,7 @@ pub fn deliver_and_tell(
             probes,
             reply,
         } => {
-            carrying::carry_out(area, square, n, m, a, b, place, process, probes, reply);
+            carrying::carry_out(area, row, n, m, a, b, i, place, process, probes, reply);
             Told::Delivered {
                 message,
                 probes,
@@ -140,20 +146,22 @@ pub fn deliver_and_tell(
 // The same, told by its message alone.
 pub fn deliver(
     area: &mut [i32],
-    square: &[u16; tables::SQUARE_SIZE],
+    row: &[u16],
     n: usize,
     m: usize,
     a: usize,
     b: usize,
+    i: usize,
     place: usize,
 ) -> Delivery
-    requires { ⌜ Ready (now area) (now square) n m ⌝ }
-    requires { ⌜ neighbours (runIn (now area) .waits) a b ≡ true ⌝ }
+    requires { ⌜ Ready (now area) n m ⌝ }
+    requires { ⌜ Row (fieldsIn (now area)) b (now row) ⌝ }
+    requires { ⌜ Linked (fieldsIn (now area)) a b i ⌝ }
     requires { ⌜ (a ≤ n) × (b ≤ n) ⌝ }
     ensures { λ r. ⌜ r ≡ deliverAt (runIn (now (area .entry))) a b place .answer ⌝ }
     ensures { λ _. ⌜ now (area .exit) ≡ keeping (now (area .entry)) (deliverAt (runIn (now (area .entry))) a b place .run) ⌝ }
 {
-    match deliver_and_tell(area, square, n, m, a, b, place) {
+    match deliver_and_tell(area, row, n, m, a, b, i, place) {
         Told::Refused(number) => Delivery::Refused(number),
         Told::Delivered {
             message,

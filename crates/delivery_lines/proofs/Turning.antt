@@ -45,7 +45,7 @@ module _ (a b : ℕ) {x d : Delivery} (e : x ≡ d) where
   pub pick-delivered : {z : Message} → x ≡ Delivery.Delivered z → pickLine a b d ≡ deliveryLine false a b z
   pick-delivered f = rw (← e, f)
 
-module _ {w : List ℤ} {sq : List ℕ} {n m : ℕ} (y : Ready w sq n m) where
+module _ {w : List ℤ} {n m : ℕ} (y : Ready w n m) where
   -- the run that a pick leaves
   pub picked : (a b : ℕ) → runIn (pickArea w a b 1) ≡ pick (runIn w) a b 1 .run
   unfolding pickArea
@@ -62,7 +62,7 @@ module _ (bs : List ℕ) (picks j : ℕ) where
   unfolding picksText
   picks-none r h = let z : picks - j ≡ 0 = omega arith in ap (λ (k : ℕ). picksText bs j k r) z
 
-  module _ {w : List ℤ} {sq : List ℕ} {n m : ℕ} (y : Ready w sq n m) where
+  module _ {w : List ℤ} {n m : ℕ} (y : Ready w n m) where
     pub picks-next : j < picks → (p : Pick) → p ≡ pickIn bs j → {v : List ℤ} → v ≡ pickArea w (p .from) (p .to) 1
         → picksText bs j (picks - j) (runIn w) ≡ pickLine (p .from) (p .to) (pickAnswer w (p .from) (p .to) 1) ++ picksText bs (j + 1) (picks - (j + 1)) (runIn v)
     unfolding picksText pickIn
@@ -86,7 +86,7 @@ ran-is : (r : Run) → wellFormed r ≡ true → runFrom knot fixedOrder (knot .
 unfolding Machines.runOn
 ran-is r e = rw (endRun, e)
 
-pub ran-out : {w : List ℤ} {sq : List ℕ} {n m : ℕ} (y : Ready w sq n m) {v : List ℤ}
+pub ran-out : {w : List ℤ} {n m : ℕ} (y : Ready w n m) {v : List ℤ}
     → v ≡ keeping w (runFrom knot fixedOrder (knot .most) 0 0 (runIn w) .run) → runIn v ≡ endRun (runIn w)
 ran-out {w} y e =
     let f = right-storable w (y .right) in
@@ -114,7 +114,7 @@ module _ (r : Run) (t : List ℕ) where
   none-on (pair a b) (Delivery.Delivered m) e = absurd (omega arith)
   none-on (pair a b) (Delivery.Refused n) e = refl
 
-module _ {w : List ℤ} {sq : List ℕ} {n m : ℕ} (y : Ready w sq n m) (o : over (runIn w) ≡ false) (most made : ℕ) (h : made < most) where
+module _ {w : List ℤ} {n m : ℕ} (y : Ready w n m) (o : over (runIn w) ≡ false) (most made : ℕ) (h : made < most) where
   -- the lines from the area on that the delivery leaves
   module _ {v : List ℤ} (e : v ≡ keeping w (nextOf (runIn w) .run)) where
     next-run : runIn v ≡ nextOf (runIn w) .run

@@ -17,6 +17,7 @@ ghost use Rattle.checks.specs.Calls.{deliveryNumber, deliveryMade};
 ghost use Rattle.checks.specs.Lists.{passed};
 ghost use Rattle.lenses.specs.Ready.{Ready};
 ghost use Rattle.choosing.specs.Answers.{nextOf};
+ghost use Rattle.choosing.specs.Running.{Running};
 ghost use Rattle.choosing.specs.Memory.{Remembers};
 ghost use Rattle.area_calls.specs.AreaCalls.{pickAnswer, pickArea};
 ghost use Rattle.inputs.specs.Input.{tableEnd, picksIn};
@@ -38,27 +39,18 @@ fn put_pick(
     out: &mut [u8],
     at: usize,
     area: &mut [i32],
-    square: &[u16; tables::SQUARE_SIZE],
     n: usize,
     m: usize,
     from: u32,
     to: u32,
 ) -> usize
-    requires { ⌜ Ready (now area) (now square) n m ⌝ }
+    requires { ⌜ Ready (now area) n m ⌝ }
     requires { ⌜ at + length (pickLine from to (pickAnswer (now area) from to 1)) ≤ length (now out) ⌝ }
     ensures { λ r. ⌜ Put (now (out .entry)) at (pickLine from to (pickAnswer (now (area .entry)) from to 1)) (now (out .exit)) r ⌝ }
     ensures { λ _. ⌜ now (area .exit) ≡ pickArea (now (area .entry)) from to 1 ⌝ }
-    ensures { λ _. ⌜ Ready (now (area .exit)) (now (square .entry)) n m ⌝ }
+    ensures { λ _. ⌜ Ready (now (area .exit)) n m ⌝ }
 {
-    let answer = picking::pick_in(
-        area,
-        square,
-        n,
-        m,
-        from as usize,
-        to as usize,
-        links::OLDEST,
-    );
+    let answer = picking::pick_in(area, n, m, from as usize, to as usize, links::OLDEST);
     let Delivery::Delivered(message) = answer else {
         return lines::put_refused_delivery(out, at, from, to, number_of(answer));
     };
@@ -72,22 +64,21 @@ pub fn put_picks(
     picks: usize,
     out: &mut [u8],
     area: &mut [i32],
-    square: &[u16; tables::SQUARE_SIZE],
     n: usize,
     m: usize,
 ) -> usize
     requires { ⌜ end ≡ tableEnd (now input) ⌝ }
     requires { ⌜ picks ≡ picksIn (now input) ⌝ }
-    requires { ⌜ Ready (now area) (now square) n m ⌝ }
+    requires { ⌜ Ready (now area) n m ⌝ }
     requires { ⌜ length (picksText (now input) 0 (picksIn (now input)) (runIn (now area))) ≤ length (now out) ⌝ }
     ensures { λ r. ⌜ Put (now (out .entry)) 0 (picksText (now (input .entry)) 0 (picksIn (now (input .entry))) (runIn (now (area .entry)))) (now (out .exit)) r ⌝ }
     ensures { λ _. ⌜ runIn (now (area .exit)) ≡ passed (pickCalls (now (input .entry))) (runIn (now (area .entry))) .left ⌝ }
-    ensures { λ _. ⌜ Ready (now (area .exit)) (now (square .entry)) n m ⌝ }
+    ensures { λ _. ⌜ Ready (now (area .exit)) n m ⌝ }
 {
     let mut at = 0;
     for j in 0..picks {
         let pick = inputs::pick_at(input, end, j);
-        at = put_pick(out, at, area, square, n, m, pick.from, pick.to);
+        at = put_pick(out, at, area, n, m, pick.from, pick.to);
     }
     at
 }
@@ -108,14 +99,14 @@ fn put_own(
     m: usize,
     memory: &mut [usize; parts::MEMORY_SIZE],
 ) -> Own
-    requires { ⌜ Ready (now area) (now square) n m ⌝ }
+    requires { ⌜ Running (now area) (now square) n m ⌝ }
     requires { ⌜ Remembers (runIn (now area)) (now memory) ⌝ }
     requires { ⌜ at + length (ownLine (nextChosen (runIn (now area)))) ≤ length (now out) ⌝ }
     ensures { λ r. ⌜ bit (r .made) ≡ deliveryMade (nextOf (runIn (now (area .entry))) .answer) ⌝ }
     ensures { λ r. ⌜ Put (now (out .entry)) at (ownLine (nextChosen (runIn (now (area .entry))))) (now (out .exit)) (r .end) ⌝ }
     ensures { λ _. ⌜ now (area .exit) ≡ keeping (now (area .entry)) (nextOf (runIn (now (area .entry))) .run) ⌝ }
     ensures { λ _. ⌜ Remembers (runIn (now (area .exit))) (now (memory .exit)) ⌝ }
-    ensures { λ _. ⌜ Ready (now (area .exit)) (now (square .entry)) n m ⌝ }
+    ensures { λ _. ⌜ Running (now (area .exit)) (now (square .entry)) n m ⌝ }
 {
     match choosing::deliver_next(area, square, n, m, memory) {
         ChosenDelivery::Delivered { from, to, message } => {
@@ -139,17 +130,17 @@ pub fn put_owns(
     m: usize,
     memory: &mut [usize; parts::MEMORY_SIZE],
 ) -> usize
-    requires { ⌜ Ready (now area) (now square) n m ⌝ }
+    requires { ⌜ Running (now area) (now square) n m ⌝ }
     requires { ⌜ Remembers (runIn (now area)) (now memory) ⌝ }
     requires { ⌜ at + length (ownText (knot .most) (runIn (now area))) ≤ length (now out) ⌝ }
     ensures { λ r. ⌜ Put (now (out .entry)) at (ownText (knot .most) (runIn (now (area .entry)))) (now (out .exit)) r ⌝ }
     ensures { λ _. ⌜ runIn (now (area .exit)) ≡ endRun (runIn (now (area .entry))) ⌝ }
-    ensures { λ _. ⌜ Ready (now (area .exit)) (now (square .entry)) n m ⌝ }
+    ensures { λ _. ⌜ Running (now (area .exit)) (now (square .entry)) n m ⌝ }
 {
     let mut place = at;
     let mut turns: u32 = 0;
     while turns < checks::MOST_DELIVERIES {
-        if heading::is_over(area, square, n, m) {
+        if heading::is_over(area, n, m) {
             return place;
         }
         let Own { made, end } = put_own(out, place, area, square, n, m, memory);

@@ -11,41 +11,27 @@ ghost use Rattle.lines.specs.Adding.{Put};
 ghost use Rattle.program_text.specs.Program.{processesText, reportLines, endText};
 
 // "process lines rise"
-fn put_processes(
-    out: &mut [u8],
-    at: usize,
-    area: &[i32],
-    square: &[u16; tables::SQUARE_SIZE],
-    n: usize,
-    m: usize,
-) -> usize
-    requires { ⌜ Ready (now area) (now square) n m ⌝ }
+fn put_processes(out: &mut [u8], at: usize, area: &[i32], n: usize, m: usize) -> usize
+    requires { ⌜ Ready (now area) n m ⌝ }
     requires { ⌜ at + length (processesText (runIn (now area))) ≤ length (now out) ⌝ }
     ensures { λ r. ⌜ Put (now (out .entry)) at (processesText (runIn (now (area .entry)))) (now (out .exit)) r ⌝ }
 {
     let end = n + 1;
     let mut place = at;
     for p in 1..end {
-        let process = records::process(area, square, n, m, p);
+        let process = records::process(area, n, m, p);
         place = lines::put_process(out, place, p as u32, process);
     }
     place
 }
 
 // The report.
-fn put_report(
-    out: &mut [u8],
-    at: usize,
-    area: &[i32],
-    square: &[u16; tables::SQUARE_SIZE],
-    n: usize,
-    m: usize,
-) -> usize
-    requires { ⌜ Ready (now area) (now square) n m ⌝ }
+fn put_report(out: &mut [u8], at: usize, area: &[i32], n: usize, m: usize) -> usize
+    requires { ⌜ Ready (now area) n m ⌝ }
     requires { ⌜ at + length (reportLines (report (runIn (now area)))) ≤ length (now out) ⌝ }
     ensures { λ r. ⌜ Put (now (out .entry)) at (reportLines (report (runIn (now (area .entry))))) (now (out .exit)) r ⌝ }
 {
-    match reports::report_in(area, square, n, m) {
+    match reports::report_in(area, n, m) {
         Report::Refused(number) => lines::put_refused(out, at, number),
         Report::Over {
             deliveries,
@@ -58,18 +44,11 @@ fn put_report(
 }
 
 // The processes, and then the report.
-pub fn put_end(
-    out: &mut [u8],
-    at: usize,
-    area: &[i32],
-    square: &[u16; tables::SQUARE_SIZE],
-    n: usize,
-    m: usize,
-) -> usize
-    requires { ⌜ Ready (now area) (now square) n m ⌝ }
+pub fn put_end(out: &mut [u8], at: usize, area: &[i32], n: usize, m: usize) -> usize
+    requires { ⌜ Ready (now area) n m ⌝ }
     requires { ⌜ at + length (endText (runIn (now area))) ≤ length (now out) ⌝ }
     ensures { λ r. ⌜ Put (now (out .entry)) at (endText (runIn (now (area .entry)))) (now (out .exit)) r ⌝ }
 {
-    let end = put_processes(out, at, area, square, n, m);
-    put_report(out, end, area, square, n, m)
+    let end = put_processes(out, at, area, n, m);
+    put_report(out, end, area, n, m)
 }

@@ -1,7 +1,6 @@
 -- Chains of the copied table in a tested area, arc by arc.
 --   field-is            == what `number` says of a field's word that was read back
---   ready-right, ready-process, ahead-arc, ahead-far, ready-waits   == the area's table, its processes, an arc that is met and its far end, and the
---       square's tests
+--   ready-right, ready-process, ahead-arc, ahead-far   == the area's table, its processes, an arc that is met and its far end
 --   toGo c t k          == the arcs of a chain from arc k on
 --   ends c t ks q       == how many of the arcs ks have q as their far end
 --   ArcsLeft c t b k        == arc k stands on the chain of b, or the chain is at its end: no far end comes twice from there on
@@ -27,27 +26,24 @@ use Rattle.base.specs.ChoiceLaws.{bit-≤1, same?, tested, bit-same, bit-apart,
 use Rattle.base.specs.Checks.{Same, same, apart, Tested, passed, failed}
 use Rattle.base.specs.Sums.{allTo}
 use Rattle.base.specs.SumLaws.{allTo-of}
-use Rattle.base.specs.Counts.{sumOver}
+use Rattle.base.specs.Counts.{occ, sumOver}
 use Rattle.base.specs.PrefixLaws.{allTo-stop}
 use Rattle.tables.specs.declared.Arc.{Arc}
 use Rattle.tables.specs.declared.Chain.{Chain}
 use Rattle.tables.specs.declared.Chain.the-variants.{Out, In}
-use Rattle.tables.specs.Table.{Fields, nOf, mOf, fieldTotal, IsProcess, first, arcAt, next}
+use Rattle.tables.specs.Table.{Fields, nOf, mOf, fieldTotal, IsProcess, first, arcAt, near, next}
 use Rattle.tables.specs.Layout.{IsArc, Right}
 use Rattle.tables.specs.Waits.{waitsOf}
-use Rattle.tables.specs.Chains.{Follows, along, met, far, joins, degree}
+use Rattle.tables.specs.Chains.{Follows, along, met, Own, far, joins, degree}
 use Rattle.tables.specs.ChainLaws.{follows-on, follows-end, follows-along}
 use Rattle.tables.specs.ChainFacts.{Onward}
 use Rattle.tables.specs.MetLaws.{met-listed, met-each, met-length}
 use Rattle.steps.proofs.Counts.{signed-back}
 use Rattle.areas.specs.Places.{fieldPlace}
 use Rattle.areas.specs.Area.{fieldsIn}
-use Rattle.areas.specs.Squares.{joinsBy}
 use Rattle.areas.specs.RunInLaws.{fieldsIn-at}
 use Rattle.areas.specs.AreaLaws.{areaRight-table}
-use Rattle.areas.specs.SquareLaws.{joinsBy-is}
 use Rattle.lenses.specs.Ready.{Ready}
-use Rattle.lenses.specs.ReadyLaws.{ready-sizes}
 
 -- how many of the arcs ks have q as their far end
 abbrev pub ends : Chain → Fields → List ℕ → ℕ → ℕ
@@ -62,10 +58,12 @@ pub record ArcsLeft (c : Chain) (t : Fields) (b k : ℕ) : Type 0 where
   pub short : length (toGo c t k) ≤ mOf t
   pub high : k ≤ mOf t
   pub once : (q : ℕ) → IsProcess (nOf t) q → ends c t (toGo c t k) q ≤ bit (joins c (waitsOf t) b q)
+  pub own : Own c t b (toGo c t k)
 
 -- what is known at an arc of the chain of b, and of the next
 pub record Ahead (c : Chain) (t : Fields) (b k : ℕ) : Type 0 where
   pub arc : IsArc t k
+  pub own : near c (arcAt t k) ≡ b
   pub process : IsProcess (nOf t) (far c (arcAt t k))
   pub joined : joins c (waitsOf t) b (far c (arcAt t k)) ≡ true
   pub count : (q : ℕ) → ends c t (toGo c t k) q ≡ bit (eqb q (far c (arcAt t k))) + ends c t (toGo c t (next c (arcAt t k))) q
@@ -88,10 +86,10 @@ module _ {c : Chain} {t : Fields} (g : Right t) {b : ℕ} where
   unfolding met
   left-first own =
       let l = met-listed t g c b own in
-      record { follows = l .follows; short = l .short; high = g .firsts c b own; once = λ q r. omega (arith, first-ends c g own q r) }
+      record { follows = l .follows; short = l .short; high = g .firsts c b own; once = λ q r. omega (arith, first-ends c g own q r); own = l .own }
 
   ahead : (j : ℕ) → ArcsLeft c t b (suc j) → Ahead c t b (suc j)
-  unfolding sumOver
+  unfolding sumOver occ
   ahead j l =
       let nx : ℕ = next c (arcAt t (suc j)) in
       let o : Onward c t j (toGo c t (suc j)) = follows-on (l .follows) in
@@ -106,6 +104,7 @@ module _ {c : Chain} {t : Fields} (g : Right t) {b : ℕ} where
       let one = bit-same f f refl in
       record {
         arc = a;
+        own = l .own (suc j) (rw is (omega (arith, bit-same (suc j) (suc j) refl)));
         process = p;
         joined = bit-some (joins c (waitsOf t) b f) (omega (arith, l .once f p, count f, one));
         count = count;
@@ -117,6 +116,7 @@ module _ {c : Chain} {t : Fields} (g : Right t) {b : ℕ} where
               short = rw rest few;
               high = g .nexts c (suc j) a;
               once = λ q r. omega (arith, l .once q r, count q);
+              own = λ i h. l .own i (rw is (omega arith));
             };
       }
 
@@ -136,7 +136,7 @@ next-is c t k e f = f ∙ ap (next c) e
 
 -- ---- a tested area
 
-module _ {w : List ℤ} {sq : List ℕ} {n m : ℕ} (y : Ready w sq n m) where
+module _ {w : List ℤ} {n m : ℕ} (y : Ready w n m) where
   pub ready-right : Right (fieldsIn w)
   ready-right = areaRight-table w (y .right) .right
 
@@ -149,11 +149,6 @@ module _ {w : List ℤ} {sq : List ℕ} {n m : ℕ} (y : Ready w sq n m) where
 
   pub ahead-far : {c : Chain} {b k : ℕ} → Ahead c (fieldsIn w) b k → (1 ≤ far c (arcAt (fieldsIn w) k)) × (far c (arcAt (fieldsIn w) k) ≤ n)
   ahead-far a = (a .process .0, omega (arith, a .process .1, y .n-is))
-
-  pub ready-waits : (c : Chain) (b q : ℕ) → b ≤ n → q ≤ n → joinsBy sq c b q ≡ joins c (waitsOf (fieldsIn w)) b q
-  ready-waits c b q l u =
-      let s = ready-sizes y in
-      joinsBy-is (fieldsIn w) sq (y .square) c b q (omega arith) (omega arith)
 
   -- a field's word
   pub field-is : {j : ℕ} → j < fieldTotal n m → {k : ℕ} → k ≡ fieldPlace j → {r : ℕ} → mag (getD w k (pos 0)) < 2 ^ 31
@@ -186,7 +181,7 @@ module _ {c : Chain} {t : Fields} (g : Right t) {b : ℕ} (v : ℕ → Bool) whe
       at q r j o (same e _) = rw e p
       at q r j o (apart e f) = w .tests q r j (omega (arith, left-on g k (w .here) h .count q, bit-apart q (far c (arcAt t k)) e))
 
-  -- the square's tests stand for the table's
+  -- others' tests stand for the table's
   module _ (n : ℕ) (n-is : n ≡ nOf t) (f : ℕ → Bool) (f-is : (q : ℕ) → q ≤ n → f q ≡ joins c (waitsOf t) b q) where
     pub walked-all : {k : ℕ} → Walked c t b k v → k ≡ 0 → true ≡ allTo n (λ q. not (f q) || v q)
     unfolding sumOver

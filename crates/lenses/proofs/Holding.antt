@@ -20,7 +20,7 @@ pub record Holding (w v : List ℤ) (r : Run) : Type 0 where
   pub is : v ≡ keeping w r
   pub fit : Storable (fieldsIn w) r
 
-module _ {w : List ℤ} {sq : List ℕ} {n m : ℕ} (y : Ready w sq n m) where
+module _ {w : List ℤ} {n m : ℕ} (y : Ready w n m) where
   pub holding-first : Holding w w (runIn w)
   holding-first = record { is = sym (stored-same w (y .right)); fit = right-storable w (y .right) }
 
@@ -28,8 +28,8 @@ module _ {w : List ℤ} {sq : List ℕ} {n m : ℕ} (y : Ready w sq n m) where
     pub holding-run : runIn v ≡ r
     holding-run = ap runIn (h .is) ∙ keeping-run w (y .right) r (h .fit)
 
-    pub holding-ready : Ready v sq n m
-    holding-ready = rw (h .is) (ready-kept w (y .right) r (h .fit) sq n m y)
+    pub holding-ready : Ready v n m
+    holding-ready = rw (h .is) (ready-kept w (y .right) r (h .fit) n m y)
 
     pub holding-length : length v ≡ length w
     holding-length = ap (λ (l : List ℤ). length l) (h .is) ∙ keeping-length w (y .right) r (h .fit)

@@ -4,7 +4,8 @@
 --   but-all, but-none     == nothing sent, and sent to all
 --   but-link, but-sent    == the link to one who is left; one more sent
 --   Sending w v c b k     == the area v while the arcs from k on are left
---   sending-first, sending-asks, sending-on, sending-last   == before the first arc; what a push asks; after it; after the last
+--   sending-first, sending-link, sending-room, sending-on, sending-last   == before the first arc; where a push goes and what it asks; after it;
+--       after the last
 -- Assumes nothing.
 use Prim.Native.Nat.{ℕ, _-_, _≤_, _<_}
 use mathlib.Core.Bool.{true, _&&_}
@@ -13,7 +14,7 @@ use mathlib.Core.Path.{_≡_, refl, sym, ap, _∙_, subst, fun-ext}
 use native.Mathlib.Omega.{arith}
 use borrow.Author.Tests.{eq-eqb, ne-eqb, leb-false}
 use lib.Dec.{eqb, leb}
-use lib.ListN.{length}
+use lib.ListN.{length, getD}
 use lib.IntN.{ℤ}
 use Rattle.base.specs.Choice.{choose, bit}
 use Rattle.base.specs.ChoiceLaws.{same?, tested, bit-same, bit-apart}
@@ -32,6 +33,8 @@ use Rattle.areas.specs.Used.{linkSlots}
 use Rattle.areas.specs.Area.{fieldsIn, runIn, keeping}
 use Rattle.areas.specs.Replaced.{withLinks, putLink}
 use Rattle.areas.specs.RunInLaws.{runIn-contained}
+use Rattle.areas.specs.Squares.{placeIn, Linked, Row}
+use Rattle.areas.specs.SquareLaws.{row-linked}
 use Rattle.lenses.specs.Ready.{Ready}
 use Rattle.lenses.specs.Changes.{probeOf, spreadTo, spread, HasSlot}
 use Rattle.lenses.specs.Storable.{Storable}
@@ -97,7 +100,7 @@ pub record Sending (w v : List ℤ) (c : Chain) (b k : ℕ) : Type 0 where
   pub here : ArcsLeft c (fieldsIn w) b k
   pub holds : Holding w v (spreadBut c (runIn w) b (ends c (fieldsIn w) (toGo c (fieldsIn w) k)))
 
-module _ {w : List ℤ} {sq : List ℕ} {n m : ℕ} (y : Ready w sq n m) (c : Chain) (b : ℕ) (own : (1 ≤ b) × (b ≤ n)) where
+module _ {w : List ℤ} {n m : ℕ} (y : Ready w n m) (c : Chain) (b : ℕ) (own : (1 ≤ b) × (b ≤ n)) where
   -- the run's waits are the table's
   by-table : (q : ℕ) → joins c (runIn w .waits) b q ≡ joins c (waitsOf (fieldsIn w)) b q
   by-table q = ap (λ (v : Waits). joins c v b q) (runIn-contained w .waits)
@@ -165,12 +168,18 @@ module _ {w : List ℤ} {sq : List ℕ} {n m : ℕ} (y : Ready w sq n m) (c : Ch
     pub sending-arc : {x : Arc} → x ≡ arcAt (fieldsIn v) k → x ≡ arcAt (fieldsIn w) k
     sending-arc e = e ∙ ap (λ (t : Fields). arcAt t k) (ap fieldsIn (h .holds .is) ∙ keeping-fields w (y .right) sent (h .holds .fit))
 
-    pub sending-asks : {x : Message} → x ≡ probeOf c → {q : ℕ} → q ≡ far c (arcAt (fieldsIn w) k) → Ready v sq n m
-        × (((b ≤ mostProcesses) × (q ≤ mostProcesses)) × ((neighbours (runIn v .waits) b q ≡ true) × ((countSmall x ≡ true) × HasSlot (runIn v) b q)))
-    sending-asks p e =
-        let s = ready-sizes y in
+    -- where the link to the far end stands, by b's row
+    pub sending-link : {row : List ℕ} → Row (fieldsIn w) b row → {q : ℕ} → q ≡ far c (arcAt (fieldsIn w) k)
+        → {j : ℕ} → j ≡ getD row q 0 → {i : ℕ} → i ≡ placeIn j → Linked (fieldsIn v) b q i
+    sending-link r e p f =
+        let t = ap fieldsIn (h .holds .is) ∙ keeping-fields w (y .right) sent (h .holds .fit) in
         let u = ahead-far y ahead .1 in
-        (holding-ready y (h .holds), rw (e, p, holding-run y (h .holds)) ((omega arith, omega arith), (near, (probe-small c, few))))
+        let s = ready-sizes y in
+        rw (e, t)
+        (row-linked (fieldsIn w) r (omega arith) (joins-neighbours c (waitsOf (fieldsIn w)) b to (ahead .joined)) (rw e at p) f)
+
+    pub sending-room : {x : Message} → x ≡ probeOf c → {q : ℕ} → q ≡ far c (arcAt (fieldsIn w) k) → (countSmall x ≡ true) × HasSlot (runIn v) b q
+    sending-room p e = rw (e, p, holding-run y (h .holds)) (probe-small c, few)
 
     -- the push as a change of any run
     abbrev pushed : Run → Run

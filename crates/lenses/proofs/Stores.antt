@@ -1,41 +1,42 @@
 -- What code knows of a tested area: where its records and links stand, and what a store at one of these places leaves.
 --   long                      == the area has the words for its N and M
 --   record-asks, record-within    == what is asked for the address of p's record, and that it stands inside
---   joined, link-place, link-small, link-within, link-room   == by the square, neighbours, where their link stands, that this number is small,
---                                that it stands inside, and has room
+--   link-small, link-within, link-room   == where a link stands is a small number, inside, and has room
 --   read-process, link-is, slot-word   == the words of a record, and those of a link, are those of the run
---   by-table                  == neighbours in the run are so in the table
+--   slot-some, slot-none, link-packed   == a word of a link is 0 exactly past its messages, so that behind a 0 there are only zeros
 --   store-process, store-take, store-push, store-count   == what is left by a store is the area with a changed run in it
 -- Assumes nothing.
 use Prim.Native.Nat.{ℕ, zero, suc, _+_, _-_, _≤_, _<_}
-use mathlib.Core.Bool.{true}
 use mathlib.Core.List.{List, [], _∷_, _++_}
-use mathlib.Core.Path.{_≡_, refl, sym, ap, _∙_, subst}
+use mathlib.Core.Path.{_≡_, refl, sym, ap, _∙_}
 use native.Mathlib.Omega.{arith}
 use lib.ListN.{length, getD, set}
 use lib.Seq.{sets}
-use lib.IntN.{ℤ, pos}
+use lib.IntN.{ℤ, pos, natAbs}
+use Rattle.base.specs.ChoiceLaws.{below?}
+use Rattle.base.specs.Checks.{Below, below, beyond}
 use Rattle.tables.specs.Table.{mostProcesses, mostArcs}
-use Rattle.tables.specs.Waits.{Waits, waitsOf, neighbours}
 use Rattle.steps.specs.declared.Message.{Message}
+use Rattle.steps.specs.declared.Message.the-variants.{Suc}
 use Rattle.steps.specs.declared.Process.{Process}
 use Rattle.areas.specs.Places.{countPlace, recordStart, linkSize, areaLength}
 use Rattle.areas.specs.Used.{linkSlots}
 use Rattle.areas.specs.Used.{recordUsed}
 use Rattle.areas.specs.Area.{recordPlace, linkOf, codeOf, slotWord, fieldsIn, recordAt, messagesAt, runIn, keeping}
 use Rattle.areas.specs.Replaced.{putProcess, putLink, putCount}
-use Rattle.areas.specs.Squares.{joinedBy, placeBy}
-use Rattle.areas.specs.Writes.{recordWords, movedDown}
-use Rattle.areas.specs.CodeLaws.{linkWord-slot}
+use Rattle.areas.specs.Squares.{Linked}
+use Rattle.areas.specs.Writes.{recordWords, movedDown, Packed}
+use Rattle.areas.specs.CodeLaws.{codeOf-some, linkWord-slot, slotWord-past}
+use Rattle.areas.specs.LinkLaws.{slotWord-at, countsSmall-at}
 use Rattle.areas.specs.StoredLaws.{linkOf-fits, stored-link-word}
 use Rattle.areas.specs.WriteLaws.{stored-count, stored-record, stored-taken, stored-push}
-use Rattle.areas.specs.RunInLaws.{runIn-process, runIn-link, runIn-contained}
+use Rattle.areas.specs.RunInLaws.{runIn-process, runIn-link}
 use Rattle.areas.specs.AreaLaws.{stored-same, areaRight-table}
-use Rattle.areas.specs.SquareLaws.{placeBy-is}
 use Rattle.lenses.specs.Ready.{Ready}
 use Rattle.machine.specs.Calls.{Cut, nowhere, cut, past, behind, atPlace}
 use Rattle.lenses.specs.Changes.{stays, off}
-use Rattle.lenses.specs.ReadyLaws.{right-long, runIn-few, ready-sizes, ready-joined}
+use Rattle.lenses.specs.ReadyLaws.{right-long, right-storable, runIn-few, ready-sizes}
+use Rattle.lenses.specs.ChangeLaws.{link-right}
 
 -- ---- the words of what stays on a link
 
@@ -59,7 +60,7 @@ slot-behind zero (m ∷ ms) j h = refl
 slot-behind (suc k) (m ∷ ms) zero h = absurd (omega arith)
 slot-behind (suc k) (m ∷ ms) (suc j) h = rw (stays-past m ms (behind k ms)) (slot-behind k ms j (omega arith))
 
-module _ {w : List ℤ} {sq : List ℕ} {n m : ℕ} (y : Ready w sq n m) where
+module _ {w : List ℤ} {n m : ℕ} (y : Ready w n m) where
   pub long : areaLength n m ≤ length w
   long = omega (arith, y .n-is, y .m-is, right-long w (y .right))
 
@@ -93,51 +94,65 @@ module _ {w : List ℤ} {sq : List ℕ} {n m : ℕ} (y : Ready w sq n m) where
 
   -- ---- links
 
-  module _ {a b : ℕ} (j : neighbours (runIn w .waits) a b ≡ true) (l : a ≤ mostProcesses) (u : b ≤ mostProcesses) where
-    pub by-table : neighbours (waitsOf (fieldsIn w)) a b ≡ true
-    by-table = subst (λ (v : Waits). neighbours v a b ≡ true) (runIn-contained w .waits) j
+  module _ {a b i : ℕ} (k : Linked (fieldsIn w) a b i) where
+    pub link-is : runIn w .link a b ≡ messagesAt w i linkSlots
+    link-is = rw (k .at) (runIn-link w a b (k .joined))
 
-    pub joined : joinedBy sq a b ≡ true
-    joined = ready-joined y a b l u ∙ j
+    pub slot-word : (j : ℕ) → j < linkSlots → getD w (i + j) (pos 0) ≡ slotWord (runIn w .link a b) j
+    slot-word j h =
+        rw (k .at)
+        (ap (λ (v : List ℤ). getD v (linkOf (fieldsIn w) a b + j) (pos 0)) (sym (stored-same w (y .right)))
+        ∙ stored-link-word (fieldsIn w) (runIn w) w a b j (pos 0) (k .joined) (omega arith)
+        ∙ linkWord-slot (runIn w .link a b) j h)
 
-    pub link-is : runIn w .link a b ≡ messagesAt w (linkOf (fieldsIn w) a b) linkSlots
-    link-is = runIn-link w a b by-table
+    -- a word is 0 exactly past the messages
+    pub slot-some : {j : ℕ} → j < length (runIn w .link a b) → getD w (i + j) (pos 0) ≡ pos 0 → ⊥
+    slot-some {j} h e =
+        let r = link-right (fieldsIn w) (runIn w) (right-storable w (y .right)) a b .1 in
+        let z : pos 0 ≡ codeOf (getD (runIn w .link a b) j Suc) = sym e ∙ slot-word j (omega (arith, runIn-few w a b)) ∙ slotWord-at (runIn w .link a b) j h in
+        codeOf-some (getD (runIn w .link a b) j Suc) (countsSmall-at (runIn w .link a b) j r h) (ap natAbs (sym z))
 
-    pub slot-word : (k : ℕ) → k < linkSlots → getD w (linkOf (fieldsIn w) a b + k) (pos 0) ≡ slotWord (runIn w .link a b) k
-    slot-word k h =
-        ap (λ (v : List ℤ). getD v (linkOf (fieldsIn w) a b + k) (pos 0)) (sym (stored-same w (y .right)))
-        ∙ stored-link-word (fieldsIn w) (runIn w) w a b k (pos 0) by-table (omega arith)
-        ∙ linkWord-slot (runIn w .link a b) k h
+    pub slot-none : {j : ℕ} → j < linkSlots → length (runIn w .link a b) ≤ j → getD w (i + j) (pos 0) ≡ pos 0
+    slot-none {j} u h = slot-word j u ∙ slotWord-past (runIn w .link a b) j h
 
-    module _ {i : ℕ} (e : i ≡ placeBy sq n m a b) where
-      pub link-place : i ≡ linkOf (fieldsIn w) a b
-      link-place = rw (e, y .n-is, y .m-is) (placeBy-is (fieldsIn w) sq (y .square) a b l u)
+    -- so behind a 0 there are only zeros
+    pub link-packed : (j : ℕ) → Packed w (i + j) (i + linkSlots)
+    link-packed j x z l h u e = at (below? (x - i) (length (runIn w .link a b)))
+      where
+        here : i + (x - i) ≡ x
+        here = omega arith
 
-      pub link-small : i + linkSize ≤ areaLength mostProcesses mostArcs
-      link-small = omega (arith, link-place, linkOf-fits (fieldsIn w) a b by-table, ready-sizes y, y .n-is, y .m-is)
+        there : i + (z - i) ≡ z
+        there = omega arith
 
-      pub link-within : i + linkSlots ≤ length w
-      link-within = omega (arith, link-place, linkOf-fits (fieldsIn w) a b by-table, right-long w (y .right))
+        at : Below (x - i) (length (runIn w .link a b)) → getD w z (pos 0) ≡ pos 0
+        at (below q _) = absurd (slot-some q (rw here e))
+        at (beyond q _) = rw (← there) (slot-none (omega arith) (omega arith))
 
-      pub link-room : length (runIn w .link a b) ≤ linkSlots - 1 → length (messagesAt w i linkSlots) < linkSlots
-      link-room h = rw (link-place, ← link-is) (omega arith)
+    pub link-small : i + linkSize ≤ areaLength mostProcesses mostArcs
+    link-small = omega (arith, k .at, linkOf-fits (fieldsIn w) a b (k .joined), ready-sizes y, y .n-is, y .m-is)
 
-      pub store-take : (k : ℕ) → (1 ≤ k) × (k ≤ linkSlots)
-          → movedDown w (i + k - 1) (i + linkSlots) ≡ keeping w (off (runIn w) a b k)
-      unfolding atPlace
-      store-take zero h = absurd (omega (arith, h))
-      store-take (suc k) h =
-          let c = linkOf (fieldsIn w) a b in
-          let ms = runIn w .link a b in
-          let at : i + suc k - 1 ≡ c + k = omega (arith, link-place) in
-          rw (at, link-place)
-          (ap (λ (v : List ℤ). movedDown v (c + k) (c + linkSlots)) (sym (stored-same w (y .right)))
-          ∙ stored-taken (fieldsIn w) (areaRight-table w (y .right) .right) (runIn w) w a b k (stays ms (behind k ms)) by-table (right-long w (y .right))
-          (runIn-few w a b) (omega (arith, h)) (slot-before k ms) (slot-behind k ms))
+    pub link-within : i + linkSlots ≤ length w
+    link-within = omega (arith, k .at, linkOf-fits (fieldsIn w) a b (k .joined), right-long w (y .right))
 
-      pub store-push : (x : Message) → length (runIn w .link a b) ≤ linkSlots - 1
-          → set w (i + length (messagesAt w i linkSlots)) (codeOf x) ≡ keeping w (putLink (runIn w) a b (runIn w .link a b ++ (x ∷ [])))
-      store-push x h =
-          rw (link-place, ← link-is)
-          (ap (λ (v : List ℤ). set v (linkOf (fieldsIn w) a b + length (runIn w .link a b)) (codeOf x)) (sym (stored-same w (y .right)))
-          ∙ stored-push (fieldsIn w) (areaRight-table w (y .right) .right) (runIn w) w a b x by-table h)
+    pub link-room : length (runIn w .link a b) ≤ linkSlots - 1 → length (messagesAt w i linkSlots) < linkSlots
+    link-room h = rw (← link-is) (omega arith)
+
+    pub store-take : (p : ℕ) → (1 ≤ p) × (p ≤ linkSlots) → movedDown w (i + p - 1) (i + linkSlots) ≡ keeping w (off (runIn w) a b p)
+    unfolding atPlace
+    store-take zero h = absurd (omega (arith, h))
+    store-take (suc p) h =
+        let c = linkOf (fieldsIn w) a b in
+        let ms = runIn w .link a b in
+        let at : i + suc p - 1 ≡ c + p = omega (arith, k .at) in
+        rw (at, k .at)
+        (ap (λ (v : List ℤ). movedDown v (c + p) (c + linkSlots)) (sym (stored-same w (y .right)))
+        ∙ stored-taken (fieldsIn w) (areaRight-table w (y .right) .right) (runIn w) w a b p (stays ms (behind p ms)) (k .joined) (right-long w (y .right))
+        (runIn-few w a b) (omega (arith, h)) (slot-before p ms) (slot-behind p ms))
+
+    pub store-push : (x : Message) → length (runIn w .link a b) ≤ linkSlots - 1
+        → set w (i + length (messagesAt w i linkSlots)) (codeOf x) ≡ keeping w (putLink (runIn w) a b (runIn w .link a b ++ (x ∷ [])))
+    store-push x h =
+        rw (← link-is, k .at)
+        (ap (λ (v : List ℤ). set v (linkOf (fieldsIn w) a b + length (runIn w .link a b)) (codeOf x)) (sym (stored-same w (y .right)))
+        ∙ stored-push (fieldsIn w) (areaRight-table w (y .right) .right) (runIn w) w a b x (k .joined) h)

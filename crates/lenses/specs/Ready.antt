@@ -1,5 +1,5 @@
 -- What the parts of a call stand on once an area is tested.
---   Ready w sq n m        == the area w is well formed, the square holds its arcs, and n and m are its N and M
+--   Ready w n m           == the area w is well formed, and n and m are its N and M
 -- Assumes nothing.
 use Prim.Native.Nat.{ℕ}
 use mathlib.Core.Bool.{true}
@@ -8,10 +8,8 @@ use mathlib.Core.Path.{_≡_}
 use lib.IntN.{ℤ}
 use Rattle.tables.specs.Table.{nOf, mOf}
 use Rattle.areas.specs.Area.{fieldsIn, areaRight}
-use Rattle.areas.specs.Squares.{Square}
 
-pub record Ready (w : List ℤ) (sq : List ℕ) (n m : ℕ) : Type 0 where
+pub record Ready (w : List ℤ) (n m : ℕ) : Type 0 where
   pub right : areaRight w ≡ true
-  pub square : Square (fieldsIn w) sq
   pub n-is : n ≡ nOf (fieldsIn w)
   pub m-is : m ≡ mOf (fieldsIn w)

@@ -1,11 +1,11 @@
--- What is known of a tested area and its run, by the square of arcs, and of what a change leaves.
+-- What is known of a tested area and its run, and of what a change leaves.
 --   right-long, right-storable == a well-formed area is long enough, and what is known of its run; its table is areaRight-table (areas)
 --   keeping-length, keeping-fields, keeping-run, keeping-again   == an area with another run of the same table in it is as long as it was, what is
 --                                 read from it, and two changes one after another
 --   ready-kept                 == such an area is ready too
 --   runIn-few                  == no more messages than slots wait on a link that is read from words
 --   ready-n, ready-sizes       == N of the run; N and M are small
---   ready-joins, ready-joined, ready-degree   == waits, neighbours and degrees of the run, by the square
+--   ready-near                 == neighbours in the table are so in the run
 -- Assumes nothing.
 use Prim.Native.Nat.{ℕ, _≤_}
 use mathlib.Core.Bool.{true}
@@ -13,27 +13,22 @@ use mathlib.Core.List.{List}
 use mathlib.Core.Path.{_≡_, sym, ap, _∙_, subst}
 use lib.ListN.{length}
 use lib.IntN.{ℤ}
-use Rattle.tables.specs.Table.{Fields, nOf, mOf, mostProcesses, mostArcs}
+use Rattle.tables.specs.Table.{nOf, mOf, mostProcesses, mostArcs}
 use Rattle.tables.specs.WaitsLaws.{waitsOf-sound}
 use Rattle.checks.specs.Run.{Run}
 use Rattle.areas.specs.Used.{linkSlots}
 use Rattle.areas.specs.Area.{areaOf, linkOf, fieldsIn, runIn, keeping, areaRight}
-use Rattle.areas.specs.Squares.{joinsBy, joinedBy, Square}
 use Rattle.areas.specs.StoredLaws.{stored-length, stored-again}
 use Rattle.areas.specs.ReadLaws.{fieldsIn-stored, runIn-stored}
 use Rattle.areas.specs.RunInLaws.{fieldsIn-shut, runIn-n, runIn-link, runIn-contained}
 use Rattle.areas.specs.AreaLaws.{areaRight-P, areaRight-table, areaRight-stored}
 use Rattle.areas.specs.LinkLaws.{messagesAt-length}
-use Rattle.areas.specs.SquareLaws.{joinsBy-is, joinedBy-is, degreeBy-is}
 use Rattle.lenses.specs.Ready.{Ready}
 use Rattle.lenses.specs.Storable.{Storable}
 use native.Mathlib.Omega.{arith}
 use Rattle.base.specs.ChoiceLaws.{tested}
 use Rattle.base.specs.Checks.{Tested, passed, failed}
-use Rattle.base.specs.Sums.{countTo}
-use Rattle.tables.specs.declared.Chain.{Chain}
 use Rattle.tables.specs.Waits.{Waits, waitsOf, neighbours}
-use Rattle.tables.specs.Chains.{joins, degree}
 
 pub right-long : (w : List ℤ) → areaRight w ≡ true → areaOf (fieldsIn w) ≤ length w
 right-long w e = areaRight-P w .0 e .long
@@ -59,11 +54,10 @@ module _ (w : List ℤ) (e : areaRight w ≡ true) (r : Run) (f : Storable (fiel
   pub keeping-length : length (keeping w r) ≡ length w
   keeping-length = stored-length (fieldsIn w) r w (right-long w e)
 
-  pub ready-kept : (sq : List ℕ) (n m : ℕ) → Ready w sq n m → Ready (keeping w r) sq n m
-  ready-kept sq n m y =
+  pub ready-kept : (n m : ℕ) → Ready w n m → Ready (keeping w r) n m
+  ready-kept n m y =
       record {
         right = keeping-right;
-        square = subst (λ (t : Fields). Square t sq) (sym keeping-fields) (y .square);
         n-is = y .n-is ∙ sym (ap nOf keeping-fields);
         m-is = y .m-is ∙ sym (ap mOf keeping-fields);
       }
@@ -77,21 +71,12 @@ runIn-few w a b = at (tested (neighbours (waitsOf (fieldsIn w)) a b))
     at (passed e) = rw (runIn-link w a b e) (messagesAt-length w (linkOf (fieldsIn w) a b) linkSlots)
     at (failed e) = rw (runIn-contained w .links a b e) (omega arith)
 
-module _ {w : List ℤ} {sq : List ℕ} {n m : ℕ} (y : Ready w sq n m) where
+module _ {w : List ℤ} {n m : ℕ} (y : Ready w n m) where
   pub ready-n : runIn w .waits .n ≡ n
   ready-n = runIn-n w ∙ sym (y .n-is)
 
   pub ready-sizes : (n ≤ mostProcesses) × (m ≤ mostArcs)
   ready-sizes = omega (arith, areaRight-table w (y .right) .right .sizes .1, areaRight-table w (y .right) .right .sizes .2)
 
-  pub ready-joins : (c : Chain) (b q : ℕ) → b ≤ mostProcesses → q ≤ mostProcesses → joinsBy sq c b q ≡ joins c (runIn w .waits) b q
-  ready-joins c b q l u = joinsBy-is (fieldsIn w) sq (y .square) c b q l u ∙ ap (λ (v : Waits). joins c v b q) (sym (runIn-contained w .waits))
-
-  pub ready-joined : (a b : ℕ) → a ≤ mostProcesses → b ≤ mostProcesses → joinedBy sq a b ≡ neighbours (runIn w .waits) a b
-  ready-joined a b l u = joinedBy-is (fieldsIn w) sq (y .square) a b l u ∙ ap (λ (v : Waits). neighbours v a b) (sym (runIn-contained w .waits))
-
-  pub ready-degree : (c : Chain) (b : ℕ) → b ≤ mostProcesses → countTo n (λ q. joinsBy sq c b q) ≡ degree c (runIn w .waits) b
-  ready-degree c b u =
-      rw (y .n-is)
-      (degreeBy-is (fieldsIn w) sq (y .square) c b (omega (arith, ready-sizes .0, y .n-is)) u
-      ∙ ap (λ (v : Waits). degree c v b) (sym (runIn-contained w .waits)))
+pub ready-near : (w : List ℤ) (a b : ℕ) → neighbours (waitsOf (fieldsIn w)) a b ≡ true → neighbours (runIn w .waits) a b ≡ true
+ready-near w a b j = subst (λ (v : Waits). neighbours v a b ≡ true) (sym (runIn-contained w .waits)) j

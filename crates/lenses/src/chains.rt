@@ -11,14 +11,8 @@ ghost use Rattle.areas.specs.Area.{fieldsIn, runIn};
 ghost use Rattle.lenses.specs.Ready.{Ready};
 
 // Field j of the table.
-fn field_in(
-    area: &[i32],
-    square: &[u16; tables::SQUARE_SIZE],
-    n: usize,
-    m: usize,
-    j: usize,
-) -> usize
-    requires { ⌜ Ready (now area) (now square) n m ⌝ }
+fn field_in(area: &[i32], n: usize, m: usize, j: usize) -> usize
+    requires { ⌜ Ready (now area) n m ⌝ }
     requires { ⌜ j < fieldTotal n m ⌝ }
     ensures { λ r. ⌜ r ≡ fieldsIn (now (area .entry)) j ⌝ }
 {
@@ -26,41 +20,28 @@ fn field_in(
 }
 
 // The first arc of the chain of p, or 0.
-pub fn first_in(
-    area: &[i32],
-    square: &[u16; tables::SQUARE_SIZE],
-    n: usize,
-    m: usize,
-    c: Chain,
-    p: usize,
-) -> usize
-    requires { ⌜ Ready (now area) (now square) n m ⌝ }
+pub fn first_in(area: &[i32], n: usize, m: usize, c: Chain, p: usize) -> usize
+    requires { ⌜ Ready (now area) n m ⌝ }
     requires { ⌜ (1 ≤ p) × (p ≤ n) ⌝ }
     ensures { λ r. ⌜ r ≡ first c (fieldsIn (now (area .entry))) p ⌝ }
 {
     match c {
-        Chain::Out => field_in(area, square, n, m, 2 * p),
-        Chain::In => field_in(area, square, n, m, 2 * p + 1),
+        Chain::Out => field_in(area, n, m, 2 * p),
+        Chain::In => field_in(area, n, m, 2 * p + 1),
     }
 }
 
 // Arc k.
-pub fn arc_in(
-    area: &[i32],
-    square: &[u16; tables::SQUARE_SIZE],
-    n: usize,
-    m: usize,
-    k: usize,
-) -> Arc
-    requires { ⌜ Ready (now area) (now square) n m ⌝ }
+pub fn arc_in(area: &[i32], n: usize, m: usize, k: usize) -> Arc
+    requires { ⌜ Ready (now area) n m ⌝ }
     requires { ⌜ (1 ≤ k) × (k ≤ m) ⌝ }
     ensures { λ r. ⌜ r ≡ arcAt (fieldsIn (now (area .entry))) k ⌝ }
 {
     let at = 2 * n + 4 * k - 2;
-    let from = field_in(area, square, n, m, at);
-    let to = field_in(area, square, n, m, at + 1);
-    let next_out = field_in(area, square, n, m, at + 2);
-    let next_in = field_in(area, square, n, m, at + 3);
+    let from = field_in(area, n, m, at);
+    let to = field_in(area, n, m, at + 1);
+    let next_out = field_in(area, n, m, at + 2);
+    let next_in = field_in(area, n, m, at + 3);
     Arc {
         from,
         to,
@@ -80,23 +61,16 @@ pub fn far_of(c: Chain, a: Arc) -> usize
 }
 
 // How many processes b waits for, or how many wait for b: the arcs of its chain.
-pub fn degree_in(
-    area: &[i32],
-    square: &[u16; tables::SQUARE_SIZE],
-    n: usize,
-    m: usize,
-    c: Chain,
-    b: usize,
-) -> u32
-    requires { ⌜ Ready (now area) (now square) n m ⌝ }
+pub fn degree_in(area: &[i32], n: usize, m: usize, c: Chain, b: usize) -> u32
+    requires { ⌜ Ready (now area) n m ⌝ }
     requires { ⌜ (1 ≤ b) × (b ≤ n) ⌝ }
     ensures { λ r. ⌜ r ≡ degree c (runIn (now (area .entry)) .waits) b ⌝ }
 {
-    let mut k = first_in(area, square, n, m, c, b);
+    let mut k = first_in(area, n, m, c, b);
     let mut d: u32 = 0;
     while k != 0 {
         d += 1;
-        let arc = arc_in(area, square, n, m, k);
+        let arc = arc_in(area, n, m, k);
         k = table_reader::next_of(c, arc);
     }
     d

@@ -12,14 +12,8 @@ ghost use Rattle.areas.specs.Replaced.{putProcess};
 ghost use Rattle.lenses.specs.Ready.{Ready};
 
 // The record of p.
-pub fn process(
-    area: &[i32],
-    square: &[u16; tables::SQUARE_SIZE],
-    n: usize,
-    m: usize,
-    p: usize,
-) -> Process
-    requires { ⌜ Ready (now area) (now square) n m ⌝ }
+pub fn process(area: &[i32], n: usize, m: usize, p: usize) -> Process
+    requires { ⌜ Ready (now area) n m ⌝ }
     requires { ⌜ (1 ≤ p) × (p ≤ n) ⌝ }
     ensures { λ r. ⌜ r ≡ runIn (now (area .entry)) .process p ⌝ }
 {
@@ -27,15 +21,8 @@ pub fn process(
 }
 
 // Gives p another record.
-pub fn put_process(
-    area: &mut [i32],
-    square: &[u16; tables::SQUARE_SIZE],
-    n: usize,
-    m: usize,
-    p: usize,
-    x: Process,
-)
-    requires { ⌜ Ready (now area) (now square) n m ⌝ }
+pub fn put_process(area: &mut [i32], n: usize, m: usize, p: usize, x: Process)
+    requires { ⌜ Ready (now area) n m ⌝ }
     requires { ⌜ (1 ≤ p) × (p ≤ n) ⌝ }
     requires { ⌜ inRange x ≡ true ⌝ }
     requires { ⌜ fatherRight (runIn (now area) .waits) p x ≡ true ⌝ }

@@ -5,10 +5,9 @@
 //
 // `check_standard_input` reads, calls `form` and writes. It stands on `inputs`, `delivery_lines`, `end_lines`, `reading` and below, and the kit's
 // `io` and `libc`.
-use area_tests::testing;
-use area_tests::testing::Sizes;
 use areas::places;
 use inputs::Begun;
+use lenses::heading;
 use marks::parts;
 use reading::Taken;
 ghost use Prim.Native.Nat.{_+_, _≤_};
@@ -38,25 +37,20 @@ pub enum Text {
 }
 
 // All that follows the picks.
-fn put_rest(
-    out: &mut [u8],
-    at: usize,
-    area: &mut [i32],
-    square: &[u16; tables::SQUARE_SIZE],
-    n: usize,
-    m: usize,
-) -> usize
-    requires { ⌜ Ready (now area) (now square) n m ⌝ }
+fn put_rest(out: &mut [u8], at: usize, area: &mut [i32], n: usize, m: usize) -> usize
+    requires { ⌜ Ready (now area) n m ⌝ }
     requires { ⌜ at + length (restText (runIn (now area))) ≤ length (now out) ⌝ }
     ensures { λ r. ⌜ Put (now (out .entry)) at (restText (runIn (now (area .entry)))) (now (out .exit)) r ⌝ }
 {
+    let mut square = [0u16; tables::SQUARE_SIZE];
+    rows::fill_square(area, n, m, &mut square);
     let mut memory = [0usize; parts::MEMORY_SIZE];
-    choosing::remember(area, square, n, m, &mut memory);
-    let end = delivery_lines::put_owns(out, at, area, square, n, m, &mut memory);
-    end_lines::put_end(out, end, area, square, n, m)
+    choosing::remember(area, &square, n, m, &mut memory);
+    let end = delivery_lines::put_owns(out, at, area, &square, n, m, &mut memory);
+    end_lines::put_end(out, end, area, n, m)
 }
 
-// The answer to a begun input. The area is tested once for all of it.
+// The answer to a begun input. The area that its start left is well formed, and is not tested.
 fn put_begun(input: &[u8], end: usize, picks: usize, out: &mut [u8], area: &mut [i32]) -> usize
     requires { ⌜ end ≡ tableEnd (now input) ⌝ }
     requires { ⌜ picks ≡ picksIn (now input) ⌝ }
@@ -65,12 +59,10 @@ fn put_begun(input: &[u8], end: usize, picks: usize, out: &mut [u8], area: &mut 
     requires { ⌜ length (checkText (now input)) ≤ length (now out) ⌝ }
     ensures { λ r. ⌜ Put (now (out .entry)) 0 (checkText (now (input .entry))) (now (out .exit)) r ⌝ }
 {
-    let mut square = [0u16; tables::SQUARE_SIZE];
-    let Sizes::Right { n, m } = testing::test(area, &mut square) else {
-        return 0;
-    };
-    let at = delivery_lines::put_picks(input, end, picks, out, area, &square, n, m);
-    put_rest(out, at, area, &square, n, m)
+    let n = heading::n_of(area);
+    let m = heading::m_of(area);
+    let at = delivery_lines::put_picks(input, end, picks, out, area, n, m);
+    put_rest(out, at, area, n, m)
 }
 
 // The answer to any input. The area has the most words that a check may need.

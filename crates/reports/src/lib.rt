@@ -2,11 +2,11 @@
 // changes a word. What follows the test is a function of its own (`report_in`, `read_in`), for whoever has tested the area already.
 use area_tests::testing;
 use area_tests::testing::Sizes;
-use areas::squares;
 use checks::Mark;
 use checks::Reading;
 use checks::Report;
 use checks::Verdict;
+use lenses::chains;
 use lenses::heading;
 use lenses::records;
 use steps::Process;
@@ -34,35 +34,29 @@ fn way_out(found: u32, x: Process, p: u32) -> u32
 }
 
 // 02, N1: the lowest-numbered process with subordinate 1, and 0 only where there is none.
-fn escape_of(area: &[i32], square: &[u16; tables::SQUARE_SIZE], n: usize, m: usize) -> u32
-    requires { ⌜ Ready (now area) (now square) n m ⌝ }
+fn escape_of(area: &[i32], n: usize, m: usize) -> u32
+    requires { ⌜ Ready (now area) n m ⌝ }
     ensures { λ r. ⌜ r ≡ escapeOf (runIn (now (area .entry))) ⌝ }
 {
     let mut found: u32 = 0;
     let end = n + 1;
     for p in 1..end {
-        let x = records::process(area, square, n, m, p);
+        let x = records::process(area, n, m, p);
         found = way_out(found, x, p as u32);
     }
     found
 }
 
 // 02, N4: what the edition asks of a knot in addition: nothing under the first, under the second that the start waits for somebody.
-fn edition_allows(
-    area: &[i32],
-    square: &[u16; tables::SQUARE_SIZE],
-    n: usize,
-    m: usize,
-    s: usize,
-) -> bool
-    requires { ⌜ Ready (now area) (now square) n m ⌝ }
+fn edition_allows(area: &[i32], n: usize, m: usize, s: usize) -> bool
+    requires { ⌜ Ready (now area) n m ⌝ }
     requires { ⌜ s ≡ runIn (now area) .start ⌝ }
     ensures { λ r. ⌜ r ≡ allowedIn (runIn (now (area .entry))) ⌝ }
 {
-    if heading::edition_of(area, square, n, m) != 2 {
+    if heading::edition_of(area, n, m) != 2 {
         return true;
     }
-    squares::degree(square, n, Chain::Out, s) != 0
+    chains::degree_in(area, n, m, Chain::Out, s) != 0
 }
 
 // The verdict is knot: the start's sum is 0, and the edition allows it.
@@ -112,19 +106,19 @@ fn told(start: Process, knot: bool, deliveries: u32, escape: u32) -> Report
 }
 
 // The report in a tested area: 26.
-pub fn report_in(area: &[i32], square: &[u16; tables::SQUARE_SIZE], n: usize, m: usize) -> Report
-    requires { ⌜ Ready (now area) (now square) n m ⌝ }
+pub fn report_in(area: &[i32], n: usize, m: usize) -> Report
+    requires { ⌜ Ready (now area) n m ⌝ }
     ensures { λ r. ⌜ r ≡ reportAnswer (now (area .entry)) ⌝ }
 {
-    if !heading::is_over(area, square, n, m) {
+    if !heading::is_over(area, n, m) {
         return Report::Refused(26);
     }
-    let escape = escape_of(area, square, n, m);
-    let s = heading::start_of(area, square, n, m);
-    let x = records::process(area, square, n, m, s);
-    let allowed = edition_allows(area, square, n, m, s);
+    let escape = escape_of(area, n, m);
+    let s = heading::start_of(area, n, m);
+    let x = records::process(area, n, m, s);
+    let allowed = edition_allows(area, n, m, s);
     let knot = is_knot(x, allowed);
-    let deliveries = heading::count_of(area, square, n, m);
+    let deliveries = heading::count_of(area, n, m);
     told(x, knot, deliveries, escape)
 }
 
@@ -132,37 +126,29 @@ pub fn report_in(area: &[i32], square: &[u16; tables::SQUARE_SIZE], n: usize, m:
 pub fn report(area: &[i32]) -> Report
     ensures { λ r. ⌜ r ≡ reportAnswer (now (area .entry)) ⌝ }
 {
-    let mut square = [0u16; tables::SQUARE_SIZE];
-    let Sizes::Right { n, m } = testing::test(area, &mut square) else {
+    let Sizes::Right { n, m } = testing::test(area) else {
         return Report::Refused(21);
     };
-    report_in(area, &square, n, m)
+    report_in(area, n, m)
 }
 
 // The record of process p in a tested area: 25.
-pub fn read_in(
-    area: &[i32],
-    square: &[u16; tables::SQUARE_SIZE],
-    n: usize,
-    m: usize,
-    p: usize,
-) -> Reading
-    requires { ⌜ Ready (now area) (now square) n m ⌝ }
+pub fn read_in(area: &[i32], n: usize, m: usize, p: usize) -> Reading
+    requires { ⌜ Ready (now area) n m ⌝ }
     ensures { λ r. ⌜ r ≡ readAnswer (now (area .entry)) p ⌝ }
 {
     if !is_process(p, n) {
         return Reading::Refused(25);
     }
-    Reading::Found(records::process(area, square, n, m, p))
+    Reading::Found(records::process(area, n, m, p))
 }
 
 // The record of process p: 21, 25.
 pub fn read_record(area: &[i32], p: usize) -> Reading
     ensures { λ r. ⌜ r ≡ readAnswer (now (area .entry)) p ⌝ }
 {
-    let mut square = [0u16; tables::SQUARE_SIZE];
-    let Sizes::Right { n, m } = testing::test(area, &mut square) else {
+    let Sizes::Right { n, m } = testing::test(area) else {
         return Reading::Refused(21);
     };
-    read_in(area, &square, n, m, p)
+    read_in(area, n, m, p)
 }

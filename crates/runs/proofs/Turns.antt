@@ -53,7 +53,7 @@ module _ (next : Chooser Process Message) (seed : ℕ) where
   ended : (k : ℕ) {w : List ℤ} {x : Ran} {area : List ℤ} {r : Run} → ran k w ≡ record { answer = x; run = r } → Holding w area r → Ended w k x area
   ended k {w} e h = (sym (ap (λ (o : RanOn Process Message). o .answer) e), h .is ∙ sym (ap (λ (o : RanOn Process Message). keeping w (o .run)) e))
 
-  module _ {w : List ℤ} {sq : List ℕ} {n m k : ℕ} (y : Ready w sq n m) where
+  module _ {w : List ℤ} {n m k : ℕ} (y : Ready w n m) where
     pub turn-first : Turn w k w 0 seed
     turn-first =
         let z : k ≡ k - 0 = omega arith in

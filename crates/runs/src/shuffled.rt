@@ -11,8 +11,7 @@ pub fn run_shuffled(area: &mut [i32], k: u32, seed: u32) -> Ran
     ensures { λ r. ⌜ r ≡ shuffledAnswer k seed (now (area .entry)) ⌝ }
     ensures { λ _. ⌜ now (area .exit) ≡ shuffledArea k seed (now (area .entry)) ⌝ }
 {
-    let mut square = [0u16; tables::SQUARE_SIZE];
-    let Sizes::Right { n, m } = testing::test(area, &mut square) else {
+    let Sizes::Right { n, m } = testing::test(area) else {
         return Ran::Refused {
             number: 21,
             made: 0,
@@ -24,5 +23,5 @@ pub fn run_shuffled(area: &mut [i32], k: u32, seed: u32) -> Ran
             made: 0,
         };
     }
-    running::run_in(area, &square, n, m, k, seed)
+    running::run_in(area, n, m, k, seed)
 }

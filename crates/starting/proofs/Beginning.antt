@@ -1,5 +1,6 @@
 -- Laws on the beginning of a run in its area, one for each step of the code.
---   Stage w sq n m r new   == the area new holds the run r of w's table, and is ready for the next change
+--   Stage w n m r new      == the area new holds the run r of w's table, and is ready for the next change
+--   row-kept               == the rows of its table are those of w's
 --   put-stage, suc-stage   == the area once the start's record is put, and once its suc probes are sent
 --   begin-made     == the area once its pre probes are sent
 --   laid-unbegun, laid-begun   == the area that was laid out is ready to begin, and what it becomes
@@ -12,9 +13,9 @@ use native.Mathlib.Omega.{arith}
 use lib.ListN.{length}
 use lib.IntN.{ℤ}
 use Rattle.tables.specs.declared.Chain.the-variants.{Out, In}
-use Rattle.tables.specs.Table.{Fields, fieldOf, nOf, mOf, mostProcesses, IsProcess}
+use Rattle.tables.specs.Table.{Fields, fieldOf, nOf, mOf, IsProcess}
 use Rattle.tables.specs.Sound.{Sound}
-use Rattle.tables.specs.Waits.{waitsOf}
+use Rattle.tables.specs.Waits.{Waits, waitsOf}
 use Rattle.tables.specs.WaitsLaws.{waitsOf-sound}
 use Rattle.steps.specs.declared.Process.{Process}
 use Rattle.steps.specs.Step.{inRange}
@@ -27,32 +28,39 @@ use Rattle.areas.specs.StoredLaws.{stored-again}
 use Rattle.areas.specs.ReadLaws.{fieldsIn-stored, runIn-stored}
 use Rattle.areas.specs.AreaFacts.{RightTable}
 use Rattle.areas.specs.AreaLaws.{areaRight-table, areaRight-stored}
-use Rattle.areas.specs.Squares.{Square}
+use Rattle.areas.specs.RunInLaws.{runIn-contained}
+use Rattle.areas.specs.Squares.{Row}
 use Rattle.lenses.specs.Changes.{spread}
 use Rattle.lenses.specs.Storable.{Storable}
 use Rattle.lenses.specs.Ready.{Ready}
-use Rattle.lenses.specs.ReadyLaws.{right-storable, keeping-run, keeping-again, ready-kept}
-use Rattle.starting.specs.Starting.{quiet, begun, sucSent, startedFrom, Startable, Unbegun}
+use Rattle.lenses.specs.ReadyLaws.{right-storable, keeping-fields, keeping-run, keeping-again, ready-kept}
+use Rattle.starting.specs.Starting.{quiet, begun, sucSent, Startable, Unbegun}
 use Rattle.starting.specs.StartingLaws.{quiet-fit, begun-fit, begun-room, sucSent-fit, sucSent-room, startRun-made, started-inRange}
-use Rattle.starting.specs.StartingLaws.{started-father, startedFrom-is, accepted-table}
+use Rattle.starting.specs.StartingLaws.{started-father, accepted-table}
 
 -- an area with another run of the same table in it
-pub record Stage (w : List ℤ) (sq : List ℕ) (n m : ℕ) (r : Run) (new : List ℤ) : Type 0 where
-  pub ready : Ready new sq n m
+pub record Stage (w : List ℤ) (n m : ℕ) (r : Run) (new : List ℤ) : Type 0 where
+  pub ready : Ready new n m
+  pub fields : fieldsIn new ≡ fieldsIn w
   pub run : runIn new ≡ r
   pub next : (q : Run) → keeping new q ≡ keeping w q
 
-stage-of : (w : List ℤ) (sq : List ℕ) (n m : ℕ) → Ready w sq n m → (r : Run) → Storable (fieldsIn w) r → (new : List ℤ) → new ≡ keeping w r
-    → Stage w sq n m r new
-stage-of w sq n m y r f new e =
+stage-of : (w : List ℤ) (n m : ℕ) → Ready w n m → (r : Run) → Storable (fieldsIn w) r → (new : List ℤ) → new ≡ keeping w r
+    → Stage w n m r new
+stage-of w n m y r f new e =
     rw e
     (record {
-      ready = ready-kept w (y .right) r f sq n m y;
+      ready = ready-kept w (y .right) r f n m y;
+      fields = keeping-fields w (y .right) r f;
       run = keeping-run w (y .right) r f;
       next = keeping-again w (y .right) r f;
     })
 
-module _ {w : List ℤ} {sq : List ℕ} {n m s : ℕ} (k : Unbegun w sq n m s) where
+pub row-kept : {w : List ℤ} {n m : ℕ} {r : Run} {new : List ℤ} → Stage w n m r new → (b : ℕ) (row : List ℕ) → Row (fieldsIn w) b row
+    → Row (fieldsIn new) b row
+row-kept a b row h = subst (λ (t : Fields). Row t b row) (sym (a .fields)) h
+
+module _ {w : List ℤ} {n m s : ℕ} (k : Unbegun w n m s) where
   table : RightTable (fieldsIn w)
   table = areaRight-table w (k .ready .right)
 
@@ -69,13 +77,10 @@ module _ {w : List ℤ} {sq : List ℕ} {n m s : ℕ} (k : Unbegun w sq n m s) w
   named : IsEdition edition
   named = isEdition-P edition .0 (wellFormed-P knot (runIn w) .0 (right-storable w (k .ready .right) .formed) .edition)
 
-  pub few : (n ≤ mostProcesses) × (s ≤ mostProcesses)
-  few = omega (arith, k .start-in, k .ready .n-is, table .right .sizes .1)
-
   -- the start's record, and what putting it asks
-  module _ (x : Process) (e : x ≡ startedFrom sq n s) where
+  module _ (x : Process) (e : x ≡ started (runIn w .waits) s) where
     record-is : x ≡ started (waitsOf (fieldsIn w)) s
-    record-is = e ∙ ap (λ (j : ℕ). startedFrom sq j s) (k .ready .n-is) ∙ startedFrom-is (fieldsIn w) sq (k .ready .square) (table .right .sizes .1) s (few .1)
+    record-is = e ∙ ap (λ (v : Waits). started v s) (runIn-contained w .waits)
 
     pub record-inRange : inRange x ≡ true
     record-inRange = rw record-is (started-inRange (waitsOf (fieldsIn w)) sound s)
@@ -83,25 +88,25 @@ module _ {w : List ℤ} {sq : List ℕ} {n m s : ℕ} (k : Unbegun w sq n m s) w
     pub record-father : fatherRight (runIn w .waits) s x ≡ true
     record-father = rw record-is (started-father (waitsOf (fieldsIn w)) (runIn w .waits) s)
 
-    pub put-stage : (new : List ℤ) → new ≡ keeping w (putProcess (runIn w) s x) → Stage w sq n m (begun (fieldsIn w) s edition) new
+    pub put-stage : (new : List ℤ) → new ≡ keeping w (putProcess (runIn w) s x) → Stage w n m (begun (fieldsIn w) s edition) new
     unfolding begun
     put-stage new f =
-        stage-of w sq n m (k .ready) (begun (fieldsIn w) s edition) (begun-fit (fieldsIn w) (table .right) s process edition named) new
+        stage-of w n m (k .ready) (begun (fieldsIn w) s edition) (begun-fit (fieldsIn w) (table .right) s process edition named) new
         (f
         ∙ ap (λ (r : Run). keeping w (putProcess r s x)) (k .run)
         ∙ ap (λ (z : Process). keeping w (putProcess (quiet (fieldsIn w) s edition) s z)) record-is)
 
-  module _ {one : List ℤ} (a : Stage w sq n m (begun (fieldsIn w) s edition) one) where
+  module _ {one : List ℤ} (a : Stage w n m (begun (fieldsIn w) s edition) one) where
     pub put-room : (q : ℕ) → length (runIn one .link s q) ≤ 3
     put-room q = rw (a .run) (begun-room (fieldsIn w) (table .right) s process edition named q)
 
-    pub suc-stage : (new : List ℤ) → new ≡ keeping one (spread Out (runIn one) s) → Stage w sq n m (sucSent (fieldsIn w) s edition) new
+    pub suc-stage : (new : List ℤ) → new ≡ keeping one (spread Out (runIn one) s) → Stage w n m (sucSent (fieldsIn w) s edition) new
     unfolding sucSent
     suc-stage new f =
-        stage-of w sq n m (k .ready) (sucSent (fieldsIn w) s edition) (sucSent-fit (fieldsIn w) (table .right) s process edition named) new
+        stage-of w n m (k .ready) (sucSent (fieldsIn w) s edition) (sucSent-fit (fieldsIn w) (table .right) s process edition named) new
         (f ∙ a .next (spread Out (runIn one) s) ∙ ap (λ (r : Run). keeping w (spread Out r s)) (a .run))
 
-  module _ {two : List ℤ} (b : Stage w sq n m (sucSent (fieldsIn w) s edition) two) where
+  module _ {two : List ℤ} (b : Stage w n m (sucSent (fieldsIn w) s edition) two) where
     pub suc-room : (q : ℕ) → length (runIn two .link s q) ≤ 3
     suc-room q = rw (b .run) (sucSent-room (fieldsIn w) (table .right) s process edition named q)
 
@@ -132,13 +137,12 @@ module _ {bs : List ℕ} {n m s ed : ℕ} {w : List ℤ} (k : Startable bs n m s
   unfolding quiet
   edition-is = ap (λ (r : Run). r .edition) run-is
 
-  pub laid-unbegun : (sq : List ℕ) → Square (fieldOf bs) sq → Unbegun laid sq n m s
-  laid-unbegun sq h =
+  pub laid-unbegun : Unbegun laid n m s
+  laid-unbegun =
       record {
         ready = record {
           right = rw is (areaRight-stored (fieldOf bs) (quiet (fieldOf bs) s ed) w (accepted-table bs (k .accepted)) (fit .held) (fit .formed)
               (omega (arith, k .long, k .n-is, k .m-is)));
-          square = subst (λ (t : Fields). Square t sq) (sym fields) h;
           n-is = k .n-is ∙ sym (ap nOf fields);
           m-is = k .m-is ∙ sym (ap mOf fields);
         };

@@ -3,9 +3,8 @@
 --   begun t s ed       == the same with the start's record put
 --   sucSent t s ed     == and with its suc probes sent
 --   startOf t s ed, begunIn w s   == the run that a start leaves, of the table t; the same of an area's own table and edition
---   startedFrom sq n s == the start's record, with its degrees by the square of arcs
 --   Startable bs n m s ed w   == what the checks leave: an accepted table with its N and M, a process of it, an edition, and words enough
---   Unbegun w sq n m s      == the area w holds the quiet run of its table, ready to begin
+--   Unbegun w n m s    == the area w holds the quiet run of its table, ready to begin
 --   rowMet p v l       == the first of the rows 8, 30 and 9 that is met, by the tests of the process, of the edition and of too few words
 --   Cleared old n new  == the first n words are 0, the others as before
 --   Copied t old n new == the words behind the heading are the first n fields of t, the others as before
@@ -17,18 +16,15 @@ use mathlib.Core.Path.{_≡_}
 use lib.ListN.{length, getD}
 use lib.IntN.{ℤ, pos}
 use Rattle.base.specs.Choice.{choose}
-use Rattle.base.specs.Sums.{countTo}
-use Rattle.tables.specs.declared.Chain.the-variants.{Out, In}
+use Rattle.tables.specs.declared.Chain.the-variants.{Out}
 use Rattle.tables.specs.Table.{Fields, fieldOf, nOf, mOf, IsProcess}
 use Rattle.tables.specs.Layout.{MeetsLayout}
 use Rattle.tables.specs.Waits.{waitsOf}
-use Rattle.steps.specs.declared.Process.{Process}
-use Rattle.steps.specs.Step.{idle, ownCount}
+use Rattle.steps.specs.Step.{idle}
 use Rattle.checks.specs.Run.{Run, IsEdition, started, startRun}
 use Rattle.areas.specs.Places.{headSize, fieldPlace, areaLength}
 use Rattle.areas.specs.Area.{fieldsIn, runIn}
 use Rattle.areas.specs.Replaced.{putProcess}
-use Rattle.areas.specs.Squares.{joinsBy}
 use Rattle.lenses.specs.Changes.{spread}
 use Rattle.lenses.specs.Ready.{Ready}
 
@@ -51,19 +47,6 @@ startOf t s ed = startRun (waitsOf t) s ed
 abbrev pub begunIn : List ℤ → ℕ → Run
 begunIn w s = startOf (fieldsIn w) s (runIn w .edition)
 
--- "num is the number sent"; "the start adds its own at once" (02, N3)
-unfoldable pub startedFrom : List ℕ → ℕ → ℕ → Process
-startedFrom sq n s =
-    record {
-      succeeding = 1;
-      preceding = 1;
-      subordinate = 0;
-      cs = pos 0;
-      num = countTo n (λ q. joinsBy sq Out s q) + countTo n (λ q. joinsBy sq In s q);
-      father = 0;
-      second = pos (ownCount (countTo n (λ q. joinsBy sq Out s q)));
-    }
-
 -- start "1 to 9", 30 "after 8 and before 9" (02, N4): what startNumber (StartCall) says of an accepted table
 abbrev pub rowMet : Bool → Bool → Bool → ℕ
 rowMet process named short = choose (not process) 8 (choose (not named) 30 (choose short 9 0))
@@ -76,8 +59,8 @@ pub record Startable (bs : List ℕ) (n m s ed : ℕ) (w : List ℤ) : Type 0 wh
   pub edition : IsEdition ed
   pub long : areaLength n m ≤ length w
 
-pub record Unbegun (w : List ℤ) (sq : List ℕ) (n m s : ℕ) : Type 0 where
-  pub ready : Ready w sq n m
+pub record Unbegun (w : List ℤ) (n m s : ℕ) : Type 0 where
+  pub ready : Ready w n m
   pub start-in : IsProcess n s
   pub run : runIn w ≡ quiet (fieldsIn w) s (runIn w .edition)
 

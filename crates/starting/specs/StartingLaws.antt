@@ -2,7 +2,6 @@
 --   quiet-fit, begun-fit, sucSent-fit, start-fit   == each run on the way, and the last, is one that the area holds, and well formed
 --   started-inRange, started-father, begun-room, sucSent-room   == what the changes ask of the values
 --   startRun-made     == the last is the run of `checks`' own start
---   startedFrom-is    == the start's record by the square is its record
 --   accepted-table    == the table of accepted bytes
 --   startNumber-startable   == what a start that no row refuses says of its table, its process and its words
 -- Assumes nothing.
@@ -23,7 +22,7 @@ use Rattle.base.specs.Checks.{Tested, passed, failed, Same, same, apart}
 use Rattle.base.specs.SumLaws.{countTo-most}
 use Rattle.tables.specs.declared.Chain.{Chain}
 use Rattle.tables.specs.declared.Chain.the-variants.{Out, In}
-use Rattle.tables.specs.Table.{Fields, fieldOf, nOf, mOf, mostProcesses, IsProcess, isProcess}
+use Rattle.tables.specs.Table.{Fields, fieldOf, nOf, mOf, IsProcess, isProcess}
 use Rattle.tables.specs.Reading.{readNumber}
 use Rattle.tables.specs.Layout.{Right, MeetsLayout}
 use Rattle.tables.specs.LayoutLaws.{accepted-P}
@@ -41,14 +40,12 @@ use Rattle.areas.specs.Places.{areaLength}
 use Rattle.areas.specs.Contained.{Shut}
 use Rattle.areas.specs.Replaced.{withLinks, putProcess}
 use Rattle.areas.specs.AreaFacts.{RightTable}
-use Rattle.areas.specs.Squares.{Square}
-use Rattle.areas.specs.SquareLaws.{degreeBy-is}
 use Rattle.lenses.specs.Changes.{spreadTo, spread}
 use Rattle.lenses.specs.ChangeLaws.{joins-high, storable-process, storable-spread}
 use Rattle.machine.specs.FormedLaws.{wellFormed-P}
 use Rattle.lenses.specs.Storable.{Storable}
 use Rattle.starting.specs.StartCall.{startNumber}
-use Rattle.starting.specs.Starting.{quiet, begun, sucSent, startedFrom, Startable}
+use Rattle.starting.specs.Starting.{quiet, begun, sucSent, Startable}
 
 -- ---- the values of the start's record
 
@@ -63,12 +60,6 @@ started-inRange w d s =
 pub started-father : (w v : Waits) (s : ℕ) → fatherRight v s (started w s) ≡ true
 unfolding fatherRight started
 started-father w v s = refl
-
--- by the square of arcs
-pub startedFrom-is : (t : Fields) (sq : List ℕ) → Square t sq → nOf t ≤ mostProcesses → (s : ℕ) → s ≤ mostProcesses
-    → startedFrom sq (nOf t) s ≡ started (waitsOf t) s
-unfolding startedFrom started
-startedFrom-is t sq q few s h = rw (degreeBy-is t sq q Out s few h, degreeBy-is t sq q In s few h)
 
 -- ---- the run of a start
 

@@ -1,7 +1,7 @@
 // Start: reads the table on any bytes, and makes the run area of a check in lent words, whatever they hold. It refuses by the rows 1 to 8
 // of 01, then by 30 (02, N4) and 9, and then leaves every word as it was.
 use areas::places;
-use areas::squares;
+use lenses::chains;
 use lenses::records;
 use lenses::sending;
 use steps::Process;
@@ -11,10 +11,12 @@ use tables::is_process;
 ghost use mathlib.Core.Path.{_≡_};
 ghost use Prim.Native.Nat.{_+_, _*_, _≤_};
 ghost use lib.ListN.{length};
-ghost use Rattle.tables.specs.Table.{fieldOf, mostProcesses};
+ghost use Rattle.tables.specs.Table.{fieldOf};
+ghost use Rattle.checks.specs.Run.{started};
 ghost use Rattle.areas.specs.Places.{headSize};
-ghost use Rattle.areas.specs.Area.{stored, keeping};
-ghost use Rattle.starting.specs.Starting.{Startable, Unbegun, Cleared, Copied, quiet, startOf, begunIn, startedFrom, rowMet};
+ghost use Rattle.areas.specs.Area.{stored, runIn, keeping};
+ghost use Rattle.lenses.specs.Ready.{Ready};
+ghost use Rattle.starting.specs.Starting.{Startable, Unbegun, Cleared, Copied, quiet, startOf, begunIn, rowMet};
 ghost use Rattle.starting.specs.StartCall.{startAnswer, startArea};
 
 // The answer of a start: the run area is ready, or the number of the refusal.
@@ -62,12 +64,13 @@ fn lay_out(table: &[u8], n: usize, m: usize, s: usize, edition: usize, area: &mu
 }
 
 // The start's record: both flags, the number of probes that it sends, and "the start adds its own at once" (02, N3).
-fn first_record(square: &[u16; tables::SQUARE_SIZE], n: usize, s: usize) -> Process
-    requires { ⌜ (n ≤ mostProcesses) × (s ≤ mostProcesses) ⌝ }
-    ensures { λ r. ⌜ r ≡ startedFrom (now (square .entry)) n s ⌝ }
+fn first_record(area: &[i32], n: usize, m: usize, s: usize) -> Process
+    requires { ⌜ Ready (now area) n m ⌝ }
+    requires { ⌜ (1 ≤ s) × (s ≤ n) ⌝ }
+    ensures { λ r. ⌜ r ≡ started (runIn (now (area .entry)) .waits) s ⌝ }
 {
-    let successors = squares::degree(square, n, Chain::Out, s);
-    let predecessors = squares::degree(square, n, Chain::In, s);
+    let successors = chains::degree_in(area, n, m, Chain::Out, s);
+    let predecessors = chains::degree_in(area, n, m, Chain::In, s);
     Process {
         succeeding: 1,
         preceding: 1,
@@ -80,14 +83,16 @@ fn first_record(square: &[u16; tables::SQUARE_SIZE], n: usize, s: usize) -> Proc
 }
 
 // Begins the run: the start's record, then suc to each successor, then pre to each predecessor.
-fn begin(area: &mut [i32], square: &[u16; tables::SQUARE_SIZE], n: usize, m: usize, s: usize)
-    requires { ⌜ Unbegun (now area) (now square) n m s ⌝ }
+fn begin(area: &mut [i32], n: usize, m: usize, s: usize)
+    requires { ⌜ Unbegun (now area) n m s ⌝ }
     ensures { λ _. ⌜ now (area .exit) ≡ keeping (now (area .entry)) (begunIn (now (area .entry)) s) ⌝ }
 {
-    let first = first_record(square, n, s);
-    records::put_process(area, square, n, m, s, first);
-    sending::broadcast(area, square, n, m, Chain::Out, s);
-    sending::broadcast(area, square, n, m, Chain::In, s);
+    let mut row = [0u16; tables::SIDE];
+    rows::fill_row(area, n, m, s, &mut row);
+    let first = first_record(area, n, m, s);
+    records::put_process(area, n, m, s, first);
+    sending::broadcast(area, &row, n, m, Chain::Out, s);
+    sending::broadcast(area, &row, n, m, Chain::In, s);
 }
 
 // Makes the area of a begun run, for an accepted table and enough words.
@@ -95,10 +100,8 @@ fn set_up(table: &[u8], n: usize, m: usize, s: usize, edition: usize, area: &mut
     requires { ⌜ Startable (now table) n m s edition (now area) ⌝ }
     ensures { λ _. ⌜ now (area .exit) ≡ stored (fieldOf (now (table .entry))) (startOf (fieldOf (now (table .entry))) s edition) (now (area .entry)) ⌝ }
 {
-    let mut square = [0u16; tables::SQUARE_SIZE];
-    squares::fill(table, n, m, &mut square);
     lay_out(table, n, m, s, edition, area);
-    begin(area, &square, n, m, s);
+    begin(area, n, m, s);
 }
 
 // The first of the rows 8, 30 and 9 that is met, 0 if none is.

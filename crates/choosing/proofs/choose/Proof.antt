@@ -8,14 +8,12 @@ use mathlib.Core.List.{List}
 use mathlib.Core.Path.{_≡_, refl, sym, ap, _∙_}
 use mathlib.Core.Logic.{⊎-elim}
 use native.Mathlib.Omega.{arith}
-use borrow.Author.Needs.{needs}
-use lib.ListN.{length, getD}
+use lib.ListN.{getD}
 use lib.IntN.{ℤ}
 use Rattle.base.specs.Sums.{countTo}
 use Rattle.tables.specs.Table.{mostProcesses, IsProcess}
 use Rattle.checks.specs.Run.{Run}
 use Rattle.machine.specs.Calls.{nobody, pair, waiting, linkAt, linksOf}
-use Rattle.machine.specs.ChooserLaws.{waiting-none}
 use Rattle.areas.specs.Area.{runIn}
 use Rattle.lenses.specs.Ready.{Ready}
 use Rattle.lenses.specs.ReadyLaws.{ready-n, ready-sizes}
@@ -66,11 +64,7 @@ record Here (r : Run) (place a b : ℕ) : Type 0 where
   from-in : IsProcess (r .waits .n) a
   waits : waiting (r .link a b) ≡ true
 
--- a link with a message holds some
-some-wait : {r : Run} {place a b : ℕ} → Here r place a b → length (r .link a b) ≡ 0 → ⊥
-some-wait {r} {a = a} {b = b} h e = false≢true (sym (waiting-none (r .link a b) e) ∙ h .waits)
-
-module _ {w : List ℤ} {sq : List ℕ} {n m : ℕ} (y : Ready w sq n m) {l : List ℕ} (h : Remembers (runIn w) l) where
+module _ {w : List ℤ} {n m : ℕ} (y : Ready w n m) {l : List ℕ} (h : Remembers (runIn w) l) where
   -- the count of a receiver, as it is read
   count-is : (b : ℕ) → 1 ≤ b → b < n + 1 → {i : ℕ} → i ≡ countAt b → getD l i 0 ≡ countTo mostProcesses (λ a. waiting (runIn w .link a b))
   count-is b lo hi e = ap (λ (x : ℕ). getD l x 0) e ∙ h .rows .counts b (lo, omega (arith, ready-sizes y .0))
@@ -110,7 +104,7 @@ found c =
     let i = o .before in
     let a = i .before in
     let s = a .before .before in
-    found-here (s .pre .0) (s .pre .1) (s .args .place) (a .scan .b) (a .scan .left) (a .scan .inv .0) (a .scan .inv .2)
+    found-here (s .pre .0 .ready) (s .pre .1) (s .args .place) (a .scan .b) (a .scan .left) (a .scan .inv .0) (a .scan .inv .2)
     (i .scan-test .taken) (o .count-at .ensures) (t .if1 .taken) (c .ranked-in .ensures)
 
 -- b is a process
@@ -120,21 +114,21 @@ receiver
     IsProcess mostProcesses (c .before .scan .b) × (c .before .scan .b ≤ s .args .n)
 receiver c =
     let s = c .before .before .before in
-    ((c .before .scan .inv .0, omega (arith, c .scan-test .taken, ready-sizes (s .pre .0) .0)), omega (arith, c .scan-test .taken))
+    ((c .before .scan .inv .0, omega (arith, c .scan-test .taken, ready-sizes (s .pre .0 .ready) .0)), omega (arith, c .scan-test .taken))
 
-waiting-on-requires : tie.Need-waiting-on-requires Inv-loop μ-loop Inv-scan μ-scan
-waiting-on-requires c κs =
+is-waiting-at-requires : tie.Need-is-waiting-at-requires Inv-loop μ-loop Inv-scan μ-scan
+is-waiting-at-requires c κs =
     let a = c .before in
     let f = a .before in
     let i = f .before .before .before .before in
     let s = i .before .before .before in
-    (s .pre .0, omega (arith, a .loop .inv .0, found f .from-in, receiver i, ready-n (s .pre .0)))
+    (s .pre .0 .ready, (s .pre .0 .square, omega (arith, a .loop .inv .0, found f .from-in, receiver i, ready-n (s .pre .0 .ready))))
 
 add-a : tie.Need-add-a Inv-loop μ-loop Inv-scan μ-scan
 add-a c =
     let l = c .before .before in
     let i = l .before .before .before .before .before .before in
-    omega (arith, l .loop-test .taken, ready-sizes (i .before .before .before .pre .0) .0)
+    omega (arith, l .loop-test .taken, ready-sizes (i .before .before .before .pre .0 .ready) .0)
 
 -- the inner loop is never gone through again: a message waits where it begins
 loop-again : tie.Need-loop-again Inv-loop μ-loop Inv-scan μ-scan
@@ -144,8 +138,8 @@ loop-again c =
     let f = a .before in
     let i = f .before .before .before .before in
     let r = runIn (i .before .before .before .args .area .now) in
-    let e = sym (ap (λ (x : ℕ). length (r .link x (i .before .scan .b))) (a .loop .inv .0)) ∙ sym (o .waiting-on .ensures .0) ∙ c .if2 .left in
-    absurd (some-wait (found f) e)
+    let e = sym (o .is-waiting-at .ensures) ∙ c .if2 .left in
+    absurd (false≢true (sym e ∙ ap (λ (x : ℕ). waiting (r .link x (i .before .scan .b))) (a .loop .inv .0) ∙ found f .waits))
 
 scan-again : tie.Need-scan-again Inv-loop μ-loop Inv-scan μ-scan
 scan-again c =
@@ -156,11 +150,11 @@ scan-again c =
     let s = a .before .before in
     ⊎-elim
     (λ w. let f = found (record { before = record { before = h; if1 = w .0 }; ranked-in = w .1 }) in
-    absurd (omega (arith, f .from-in, w .2 .inv .0, w .3 .left, ready-n (s .pre .0))))
+    absurd (omega (arith, f .from-in, w .2 .inv .0, w .3 .left, ready-n (s .pre .0 .ready))))
     (λ w. (
       omega arith,
       w .1 ∙ a .scan .inv .1,
-      passed-over (s .pre .0) (s .pre .1) (s .args .place) (a .scan .b) (a .scan .left) (a .scan .inv .0) (a .scan .inv .2) (i .scan-test .taken)
+      passed-over (s .pre .0 .ready) (s .pre .1) (s .args .place) (a .scan .b) (a .scan .left) (a .scan .inv .0) (a .scan .inv .2) (i .scan-test .taken)
           (o .count-at .ensures) (w .0 .left) (w .3),
     ))
     (c .if1 .came)
@@ -174,8 +168,8 @@ all-found c =
     let s = a .before .before in
     ⊎-elim
     (λ w. none (w .1 ∙ a .scan .inv .1)
-    (found-none (s .pre .0) (s .pre .1) (s .args .place) (a .scan .b) (a .scan .left) (a .scan .inv .0) (a .scan .inv .2) (w .0 .left)))
-    (λ w. let f = found-here (s .pre .0) (s .pre .1) (s .args .place) (a .scan .b) (a .scan .left) (a .scan .inv .0) (a .scan .inv .2) (w .0 .taken)
+    (found-none (s .pre .0 .ready) (s .pre .1) (s .args .place) (a .scan .b) (a .scan .left) (a .scan .inv .0) (a .scan .inv .2) (w .0 .left)))
+    (λ w. let f = found-here (s .pre .0 .ready) (s .pre .1) (s .args .place) (a .scan .b) (a .scan .left) (a .scan .inv .0) (a .scan .inv .2) (w .0 .taken)
     (w .1 .ensures) (w .3 .taken) (w .4 .ensures) in
     some (omega (arith, f .from-in, w .9, w .5 .inv .0)) (rw (w .9, w .10, w .5 .inv .0) (f .is)))
     (c .scan-test .came)
@@ -188,7 +182,7 @@ choose-spec =
     μ-loop
     Inv-scan
     μ-scan
-    (λ c. omega (arith, ready-sizes (c .pre .0) .0))
+    (λ c. omega (arith, ready-sizes (c .pre .0 .ready) .0))
     (λ c κs. c .pre .1 .rows .long)
     (λ c. let s = c .before in let b = c .begin-at .ensures (λ x y. waiting (runIn (s .args .area .now) .link x y)) (s .pre .1) in (b .0, refl, b .1))
     (λ c κs. receiver c .0 .1)
@@ -196,7 +190,7 @@ choose-spec =
     (λ c. omega (arith, receiver (c .before), c .count-at .ensures, c .before .before .before .before .pre .1 .rows .long))
     (λ c κs. let i = c .before .before .before in (i .before .before .before .pre .1 .rows .long, receiver i .0 .1))
     (λ c. (refl, c .before .before .before .before .before .scan .inv .1))
-    waiting-on-requires
+    is-waiting-at-requires
     add-a
     (λ c. omega (arith, c .before .before .loop-test .taken))
     loop-again

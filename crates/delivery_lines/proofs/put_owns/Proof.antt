@@ -14,6 +14,7 @@ use Rattle.lenses.proofs.Holding.{holding-ready, holding-length}
 use Rattle.machine.specs.Calls.{fixedOrder}
 use Rattle.choosing.specs.OrderLaws.{lowest-names}
 use Rattle.choosing.specs.Memory.{Remembers}
+use Rattle.runs.proofs.Kept.{running-holds}
 use Rattle.runs.proofs.Turns.{Turn, turn-first, turn-over, turn-full, turn-unmade, turn-made}
 use Rattle.choosing.specs.Answers.{nextOf}
 use Rattle.program_text.specs.Program.{nextChosen, ownLine, unlessRefused, ownText}
@@ -36,13 +37,13 @@ abbrev loop-of : tie.After-put-own Inv-loop μ-loop → tie.At-loop Inv-loop μ-
 loop-of d = d .before .before .before .before .before .before .before .before
 
 area-length : (a : tie.At-loop Inv-loop μ-loop) → length (a .loop .area) ≡ length (a .before .before .args .area .now)
-area-length a = holding-length (a .before .before .pre .0) (a .loop .inv .0 .holds)
+area-length a = holding-length (a .before .before .pre .0 .ready) (a .loop .inv .0 .holds)
 
 loop-holds : tie.Need-loop-holds Inv-loop μ-loop
-loop-holds c = let s = c .before in (turn-first fixedOrder 0 (s .pre .0), s .pre .1 .0, refl, partly-first)
+loop-holds c = let s = c .before in (turn-first fixedOrder 0 (s .pre .0 .ready), s .pre .1 .0, refl, partly-first)
 
 is-over-requires : tie.Need-is-over-requires Inv-loop μ-loop
-is-over-requires c κs = let a = c .before .before in holding-ready (a .before .before .pre .0) (a .loop .inv .0 .holds)
+is-over-requires c κs = let a = c .before .before in holding-ready (a .before .before .pre .0 .ready) (a .loop .inv .0 .holds)
 
 returns : tie.Need-returns Inv-loop μ-loop
 returns c =
@@ -51,7 +52,7 @@ returns c =
     let y = a .before .before .pre .0 in
     let t = a .loop .inv .0 in (
       partly-last (a .loop .inv .3) (own-over _ _ (sym (i .is-over .ensures) ∙ c .if1 .taken)),
-      (ran-out y (turn-over fixedOrder 0 y t (i .is-over .ensures) (c .if1 .taken) .1), holding-ready y (t .holds)),
+      (ran-out (y .ready) (turn-over fixedOrder 0 (y .ready) t (i .is-over .ensures) (c .if1 .taken) .1), running-holds y (t .holds)),
     )
 
 put-own-requires : tie.Need-put-own-requires Inv-loop μ-loop
@@ -61,9 +62,9 @@ put-own-requires c κs =
     let l = i .before .before in
     let a = l .before in
     let s = a .before .before in
-    let y = holding-ready (s .pre .0) (a .loop .inv .0 .holds) in
+    let y = running-holds (s .pre .0) (a .loop .inv .0 .holds) in
     let more : a .loop .turns < knot .most = omega (arith, l .loop-test .taken) in
-    let line = own-next y (sym (i .is-over .ensures) ∙ e .if1 .left) (knot .most) (a .loop .turns) more refl in
+    let line = own-next (y .ready) (sym (i .is-over .ensures) ∙ e .if1 .left) (knot .most) (a .loop .turns) more refl in
     let r = runIn (a .loop .area) in
     let rest = unlessRefused (nextChosen r) (ownText (knot .most - (a .loop .turns + 1)) (runIn (keeping (a .loop .area) (nextOf r .run)))) in
     (y, (a .loop .inv .1, partly-room (ownLine (nextChosen r)) rest (a .loop .inv .3) line (s .pre .1 .1)))
@@ -81,9 +82,9 @@ returns-2 c =
     let none = sym (own .0) ∙ ap bit (not-true (d .put-own .result .made) (c .if2 .taken)) in
     let more : a .loop .turns < knot .most = omega (arith, l .loop-test .taken) in
     let go = sym (i .is-over .ensures) ∙ e .if1 .left in
-    let line = own-next (holding-ready y (inv .0 .holds)) go (knot .most) (a .loop .turns) more (own .1 .1 .0) in
-    let end = turn-unmade fixedOrder 0 y (inv .0) (i .is-over .ensures) (e .if1 .left) lowest-names more (own .1 .1 .0) none in
-    (partly-last (partly-next (inv .3) line (own .1 .0)) (follows-none _ _ none), (ran-out y end, own .1 .1 .1 .1))
+    let line = own-next (holding-ready (y .ready) (inv .0 .holds)) go (knot .most) (a .loop .turns) more (own .1 .1 .0) in
+    let end = turn-unmade fixedOrder 0 (y .ready) (inv .0) (i .is-over .ensures) (e .if1 .left) lowest-names more (own .1 .1 .0) none in
+    (partly-last (partly-next (inv .3) line (own .1 .0)) (follows-none _ _ none), (ran-out (y .ready) end, own .1 .1 .1 .1))
 
 loop-again : tie.Need-loop-again Inv-loop μ-loop
 loop-again c =
@@ -98,8 +99,8 @@ loop-again c =
     let one = sym (own .0) ∙ ap bit (not-false (d .put-own .result .made) (c .if2 .left)) in
     let more : a .loop .turns < knot .most = omega (arith, l .loop-test .taken) in
     let go = sym (i .is-over .ensures) ∙ e .if1 .left in
-    let line = own-next (holding-ready y (inv .0 .holds)) go (knot .most) (a .loop .turns) more (own .1 .1 .0) in
-    let next = turn-made fixedOrder 0 y (inv .0) (i .is-over .ensures) (e .if1 .left) lowest-names more (own .1 .1 .0) one in
+    let line = own-next (holding-ready (y .ready) (inv .0 .holds)) go (knot .most) (a .loop .turns) more (own .1 .1 .0) in
+    let next = turn-made fixedOrder 0 (y .ready) (inv .0) (i .is-over .ensures) (e .if1 .left) lowest-names more (own .1 .1 .0) one in
     (next, own .1 .1 .1 .0, d .put-own .kept .0 ∙ inv .2, rw (follows-made _ _ one) at (partly-next (inv .3) line (own .1 .0)))
 
 returns-3 : tie.Need-returns-3 Inv-loop μ-loop
@@ -109,7 +110,7 @@ returns-3 c =
     let t = a .loop .inv .0 in
     let all : knot .most ≤ a .loop .turns = omega (arith, c .loop-test .left) in (
       partly-last (a .loop .inv .3) (own-full _ _ _ all),
-      (ran-out y (turn-full fixedOrder 0 y t all), holding-ready y (t .holds)),
+      (ran-out (y .ready) (turn-full fixedOrder 0 (y .ready) t all), running-holds y (t .holds)),
     )
 
 pub put-owns-spec : {M : Type 1} → statement M

@@ -13,12 +13,12 @@ use Rattle.delivery_lines.proofs.Turning.{pick-refused, pick-delivered}
 use Rattle.delivery_lines.proofs.put_pick.Statement.{statement}
 use Rattle.delivery_lines.proofs.put_pick.Tie as tie
 
-picked-ready : {w : List ℤ} {sq : List ℕ} {n m : ℕ} → Ready w sq n m → (a b k : ℕ) {v : List ℤ} → v ≡ pickArea w a b k → Ready v sq n m
+picked-ready : {w : List ℤ} {n m : ℕ} → Ready w n m → (a b k : ℕ) {v : List ℤ} → v ≡ pickArea w a b k → Ready v n m
 picked-ready y a b k e = rw e (pick-ready y a b k)
 
 picked : (d : tie.After-pick-in) → let s = d .before .before .before in
     (d .pick-in .last .0 ≡ pickArea (now (s .args .area)) (s .args .from) (s .args .to) 1) ×
-    Ready (d .pick-in .last .0) (now (s .args .square)) (s .args .n) (s .args .m)
+    Ready (d .pick-in .last .0) (s .args .n) (s .args .m)
 picked d =
     let s = d .before .before .before in
     (d .pick-in .ensures .1, picked-ready (s .pre .0) (s .args .from) (s .args .to) 1 (d .pick-in .ensures .1))

@@ -31,7 +31,7 @@ module _ (bs : List ℕ) (picks : ℕ) (w : List ℤ) where
 
   module _ (j : ℕ) (v : List ℤ) (r : Rest bs picks w j v) where
     -- pick j is made
-    rest-next : {sq : List ℕ} {n m : ℕ} → Ready v sq n m → j < picks → (p : Pick) → p ≡ pickIn bs j → (u : List ℤ)
+    rest-next : {n m : ℕ} → Ready v n m → j < picks → (p : Pick) → p ≡ pickIn bs j → (u : List ℤ)
         → u ≡ pickArea v (p .from) (p .to) 1 → Rest bs picks w (j + 1) u
     unfolding picksOn inTurn pickIn
     rest-next y h p e u f =
@@ -56,12 +56,12 @@ lines-all bs picks w before e =
     record { done = []; put = put-none; is = ap (λ (k : ℕ). picksText bs 0 k (runIn w)) z }
 
 abbrev Inv-loop : tie.InvT-loop
-Inv-loop input end picks out₀ area₀ square n m at₀ j₀ out area at j =
-    (j ≤ picks) × (length area ≡ length area₀) × (length out ≡ length out₀) × Ready area square n m × Rest input picks area₀ j area
+Inv-loop input end picks out₀ area₀ n m at₀ j₀ out area at j =
+    (j ≤ picks) × (length area ≡ length area₀) × (length out ≡ length out₀) × Ready area n m × Rest input picks area₀ j area
     × Lines input picks area₀ j area out₀ out at
 
 abbrev μ-loop : tie.MeasureT-loop
-μ-loop input end picks out₀ area₀ square n m at₀ j₀ out area at j = picks - j
+μ-loop input end picks out₀ area₀ n m at₀ j₀ out area at j = picks - j
 
 loop-holds : tie.Need-loop-holds Inv-loop μ-loop
 loop-holds c =

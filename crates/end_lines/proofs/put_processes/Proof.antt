@@ -9,10 +9,10 @@ use Rattle.end_lines.proofs.put_processes.Statement.{statement}
 use Rattle.end_lines.proofs.put_processes.Tie as tie
 
 abbrev Inv-loop : tie.InvT-loop
-Inv-loop out₀ at area square n m end place₀ p₀ out place p = (1 ≤ p) × (p ≤ n + 1) × Rows (runIn area) p out₀ at out place
+Inv-loop out₀ at area n m end place₀ p₀ out place p = (1 ≤ p) × (p ≤ n + 1) × Rows (runIn area) p out₀ at out place
 
 abbrev μ-loop : tie.MeasureT-loop
-μ-loop out₀ at area square n m end place₀ p₀ out place p = n + 1 - p
+μ-loop out₀ at area n m end place₀ p₀ out place p = n + 1 - p
 
 loop-holds : tie.Need-loop-holds Inv-loop μ-loop
 loop-holds c = (omega arith, omega (arith, ready-sizes (c .before .pre .0) .0), rows-first (runIn (c .before .args .area .now)))

@@ -13,10 +13,10 @@ use Rattle.reports.proofs.escape_of.Statement.{statement}
 use Rattle.reports.proofs.escape_of.Tie as tie
 
 abbrev Inv-loop : tie.InvT-loop
-Inv-loop area square n m found₀ end p₀ found p = (1 ≤ p) × (p ≤ end) × (found ≡ escapeTo (runIn area) (p - 1))
+Inv-loop area n m found₀ end p₀ found p = (1 ≤ p) × (p ≤ end) × (found ≡ escapeTo (runIn area) (p - 1))
 
 abbrev μ-loop : tie.MeasureT-loop
-μ-loop area square n m found₀ end p₀ found p = end - p
+μ-loop area n m found₀ end p₀ found p = end - p
 
 add-end : tie.Need-add-end Inv-loop μ-loop
 add-end c = omega (arith, ready-sizes (c .pre) .0)

@@ -3,12 +3,12 @@
 use lib.Dec.{lit<}
 use Rattle.areas.proofs.Signs.{word-is}
 use Rattle.checks.specs.AnswerLaws.{isZero-yes, isZero-no}
-use Rattle.area_calls.specs.TestedLaws.{word-apart}
+use Rattle.areas.proofs.Signs.{word-some}
 use Rattle.reports.proofs.is_knot.Statement.{statement}
 use Rattle.reports.proofs.is_knot.Tie as tie
 
 returns : tie.Need-returns
-returns c = rw (isZero-no (c .before .before .args .start .cs) (word-apart (c .before .before .args .start .cs) (c .if1 .taken)))
+returns c = rw (isZero-no (c .before .before .args .start .cs) (word-some (c .before .before .args .start .cs) (c .if1 .taken)))
 
 returns-2 : tie.Need-returns-2
 returns-2 c =

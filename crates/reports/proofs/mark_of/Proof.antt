@@ -3,7 +3,7 @@
 use lib.Dec.{lit<}
 use Rattle.areas.proofs.Signs.{word-is}
 use Rattle.checks.specs.AnswerLaws.{isZero-yes, isZero-no}
-use Rattle.area_calls.specs.TestedLaws.{word-apart}
+use Rattle.areas.proofs.Signs.{word-some}
 use Rattle.reports.proofs.mark_of.Statement.{statement}
 use Rattle.reports.proofs.mark_of.Tie as tie
 
@@ -14,7 +14,7 @@ returns c =
     rw (isZero-yes z (word-is z 0 h (lit< tt) (c .if1 .taken)))
 
 returns-2 : tie.Need-returns-2
-returns-2 c = rw (isZero-no (c .before .before .args .start .second) (word-apart (c .before .before .args .start .second) (c .if1 .left)))
+returns-2 c = rw (isZero-no (c .before .before .args .start .second) (word-some (c .before .before .args .start .second) (c .if1 .left)))
 
 pub mark-of-spec : {M : Type 1} → statement M
 mark-of-spec = tie.close (tie.spec returns returns-2)

@@ -12,10 +12,10 @@ use Rattle.area_tests.proofs.testing.are_arcs.Statement.{statement}
 use Rattle.area_tests.proofs.testing.are_arcs.Tie as tie
 
 abbrev Inv-loop : tie.InvT-loop
-Inv-loop area table square n m end k₀ k = (1 ≤ k) × (k ≤ end) × (allTo (k - 1) (arcTest area) ≡ true)
+Inv-loop area table waits n m end k₀ k = (1 ≤ k) × (k ≤ end) × (allTo (k - 1) (arcTest area) ≡ true)
 
 abbrev μ-loop : tie.MeasureT-loop
-μ-loop area table square n m end k₀ k = end - k
+μ-loop area table waits n m end k₀ k = end - k
 
 is-arc-requires : tie.Need-is-arc-requires Inv-loop μ-loop
 is-arc-requires c κs =

@@ -12,10 +12,10 @@ use Rattle.area_tests.proofs.testing.are_records.Statement.{statement}
 use Rattle.area_tests.proofs.testing.are_records.Tie as tie
 
 abbrev Inv-loop : tie.InvT-loop
-Inv-loop area square n m end p₀ p = (1 ≤ p) × (p ≤ end) × (allTo (p - 1) (recordTest area) ≡ true)
+Inv-loop area waits n m end p₀ p = (1 ≤ p) × (p ≤ end) × (allTo (p - 1) (recordTest area) ≡ true)
 
 abbrev μ-loop : tie.MeasureT-loop
-μ-loop area square n m end p₀ p = end - p
+μ-loop area waits n m end p₀ p = end - p
 
 is-record-requires : tie.Need-is-record-requires Inv-loop μ-loop
 is-record-requires c κs =

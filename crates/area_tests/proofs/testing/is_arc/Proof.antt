@@ -1,17 +1,19 @@
 -- `area_tests::testing::is_arc` meets its contract: zeros alone; or the first link, and then the second where no arc leads back, or zeros.
 -- Assumes nothing.
 use Prim.Native.Nat.{ℕ, _+_, _≤_}
-use mathlib.Core.Bool.{true}
+use mathlib.Core.Bool.{Bool, true}
 use mathlib.Core.Path.{_≡_, sym, ap, _∙_}
 use native.Mathlib.Omega.{arith}
 use lib.ListN.{length}
 use Rattle.base.specs.ChoiceLaws.{value-not, value-yes}
 use Rattle.tables.specs.declared.Arc.{Arc}
-use Rattle.tables.specs.Table.{Fields, mostProcesses, arcAt}
+use Rattle.tables.specs.Table.{Fields, mostProcesses, IsProcess, arcAt}
+use Rattle.tables.specs.Waits.{waitsOf}
 use Rattle.areas.specs.Places.{linkSize, arcSize}
 use Rattle.areas.specs.Used.{linkSlots}
-use Rattle.areas.specs.Area.{linkPlace, arcOf, fieldsIn}
+use Rattle.areas.specs.Area.{linkPlace, fieldsIn}
 use Rattle.area_tests.specs.AreaTests.{linkTest}
+use Rattle.area_tests.specs.WaitingLaws.{sets-in}
 use Rattle.area_tests.specs.AreaTestsLaws.{sizesTest-P}
 use Rattle.area_tests.proofs.Ways.{arcTest-empty, arcTest-no, arcTest-back, arcTest-free}
 use Rattle.area_tests.proofs.testing.is_arc.Statement.{statement}
@@ -73,26 +75,26 @@ arc-is c =
     let a = start c in
     c .arc-at .ensures ∙ ap (λ (f : ℕ → ℕ). arcAt f (a .args .k)) (a .pre .1 .0)
 
-ends : (c : tie.After-arc-at) → (c .arc-at .result .to ≤ mostProcesses) × (c .arc-at .result .from ≤ mostProcesses)
+ends : (c : tie.After-arc-at) → IsProcess mostProcesses (c .arc-at .result .to) × IsProcess mostProcesses (c .arc-at .result .from)
 ends c =
     let a = start c in
     let right = a .pre .1 .1 .1 .0 in
     let k = a .pre .1 .1 .1 .1 .1 in
     let m = a .pre .1 .1 .1 .1 .0 .1 in
     let e = right .ends (a .args .k) (k .0, omega arith) in
-    rw (arc-is c) (omega (arith, e .1 .1, right .sizes .1), omega (arith, e .0 .1, right .sizes .1))
+    rw (arc-is c) (omega (arith, e .1, right .sizes .1), omega (arith, e .0, right .sizes .1))
 
--- the arc that leads back, by the square
-abbrev Back : tie.After-arc-at → ℕ
-Back c = arcOf (table c) (arcAt (table c) (start c .args .k) .to) (arcAt (table c) (start c .args .k) .from)
+-- whether an arc leads back, by the sets
+abbrev Back : tie.After-arc-at → Bool
+Back c = waitsOf (table c) .waits (arcAt (table c) (start c .args .k) .to) (arcAt (table c) (start c .args .k) .from)
 
-back : (c : tie.After-arc) → c .arc .result ≡ Back (c .before)
+back : (c : tie.After-is-in) → c .is-in .result ≡ Back (c .before .before)
 back c =
-    let d = c .before in
+    let d = c .before .before in
     let e = ends d in
-    c .arc .ensures
-    ∙ start d .pre .1 .1 .0 .arc (d .arc-at .result .to) (d .arc-at .result .from) (e .0) (e .1)
-    ∙ ap (λ (x : Arc). arcOf (table d) (x .to) (x .from)) (arc-is d)
+    c .is-in .ensures
+    ∙ sets-in (start d .pre .1 .1 .0) (d .arc-at .result .to) (d .arc-at .result .from) (e .0 .1) (e .1)
+    ∙ ap (λ (x : Arc). waitsOf (table d) .waits (x .to) (x .from)) (arc-is d)
 
 -- the first link passed
 first : (c : tie.Else2)
@@ -102,16 +104,18 @@ first c = value-yes (c .before .is-link .ensures) (c .if2 .left)
 returns-3 : tie.Need-returns-3
 returns-3 c =
     let d = c .before .before in
-    let i = d .before .before .before .before .before .before .before in
+    let i = d .before .before .before .before .before .before .before .before in
     let a = i .before .args in
-    arcTest-back (a .area .now) (a .k) (word i) (word-is i) (first (d .before .before .before)) (sym (back d) ∙ c .before .if3 .taken) (c .is-link2 .ensures)
+    arcTest-back (a .area .now) (a .k) (word i) (word-is i) (first (d .before .before .before .before))
+    (value-not (back d) (c .before .if3 .taken)) (c .is-link2 .ensures)
 
 returns-4 : tie.Need-returns-4
 returns-4 c =
     let d = c .before .before in
-    let i = d .before .before .before .before .before .before .before in
+    let i = d .before .before .before .before .before .before .before .before in
     let a = i .before .args in
-    arcTest-free (a .area .now) (a .k) (word i) (word-is i) (first (d .before .before .before)) (λ e. c .before .if3 .left (back d ∙ e)) (c .is-free2 .ensures)
+    arcTest-free (a .area .now) (a .k) (word i) (word-is i) (first (d .before .before .before .before))
+    (value-yes (back d) (c .before .if3 .left)) (c .is-free2 .ensures)
 
 pub is-arc-spec : {M : Type 1} → statement M
 is-arc-spec =
@@ -125,9 +129,9 @@ is-arc-spec =
     returns-2
     arc-at-requires
     (λ c. omega (arith, within (c .before .before .before .before .before .before)))
-    (λ c κs. ends c)
-    (λ c κs. (omega arith, omega (arith, within (c .before .before .before .before .before .before .before .before))))
+    (λ c κs. (omega (arith, start (c .before) .pre .1 .1 .0 .long), (ends (c .before) .0 .1, ends (c .before) .1)))
+    (λ c κs. (omega arith, omega (arith, within (c .before .before .before .before .before .before .before .before .before))))
     returns-3
-    (λ c. omega (arith, within (c .before .before .before .before .before .before .before .before)))
-    (λ c κs. omega (arith, within (c .before .before .before .before .before .before .before .before)))
+    (λ c. omega (arith, within (c .before .before .before .before .before .before .before .before .before)))
+    (λ c κs. omega (arith, within (c .before .before .before .before .before .before .before .before .before)))
     returns-4)

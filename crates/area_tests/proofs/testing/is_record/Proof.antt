@@ -71,25 +71,25 @@ returns-2 : tie.Need-returns-2
 returns-2 c =
     let r = c .before .before .before .before .before in
     let a = r .before .before in
-    let over = fatherRight-over (a .args .area .now) (a .args .square .now) (a .pre .1 .1 .0) (a .pre .1 .0) (a .args .p) (r .record-at .result) in
+    let over = fatherRight-over (a .args .area .now) (a .args .waits .now) (a .pre .1 .1 .0) (a .pre .1 .0) (a .args .p) (r .record-at .result) in
     sym (tells-no (parts r) (λ s. false≢true (sym (over (omega (arith, c .if3 .taken, a .pre .1 .1 .1 .0 .0))) ∙ s .father)))
 
--- what the square says of a father that is not 0
-by-square : (c : tie.After-joined) → c .joined .result ≡ Father (c .before .before .before .before .before .before)
-by-square c =
+-- what the sets say of a father that is not 0
+by-sets : (c : tie.After-joined) → c .joined .result ≡ Father (c .before .before .before .before .before .before)
+by-sets c =
     let r = c .before .before .before .before .before .before in
     let a = r .before .before in
     let n = a .pre .1 .1 .0 .sizes .1 in
     let e = a .pre .1 .1 .1 .0 .0 in
-    fatherRight-joined (a .args .area .now) (a .args .square .now) (a .pre .1 .1 .0) (a .pre .1 .0) (a .args .p) (r .record-at .result)
+    fatherRight-joined (a .args .area .now) (a .args .waits .now) (a .pre .1 .1 .0) (a .pre .1 .0) (a .args .p) (r .record-at .result)
     (c .before .before .if2 .taken)
-    (omega (arith, a .pre .1 .1 .1 .1 .1))
-    (omega (arith, c .before .if3 .left))
+    (omega (arith, a .pre .1 .1 .1 .1))
+    (omega (arith, c .before .before .if2 .taken, c .before .if3 .left))
     (c .joined .ensures)
 
 returns-3 : tie.Need-returns-3
 returns-3 c =
-    sym (tells-no (parts (c .before .before .before .before .before .before .before)) (λ s. failing (by-square (c .before)) (c .if4 .taken) (s .father)))
+    sym (tells-no (parts (c .before .before .before .before .before .before .before)) (λ s. failing (by-sets (c .before)) (c .if4 .taken) (s .father)))
 
 -- what the ways that met there say of the father
 father : (c : tie.Joined2) → Father (c .before .before .before .before) ≡ true
@@ -97,9 +97,9 @@ father c =
     let r = c .before .before .before .before in
     let a = r .before .before in
     ⊎-elim
-    (λ v. sym (by-square (record { before = record { before = record { before = c .before; if2 = v .0 }; if3 = v .1 }; joined = v .2 }))
+    (λ v. sym (by-sets (record { before = record { before = record { before = c .before; if2 = v .0 }; if3 = v .1 }; joined = v .2 }))
     ∙ not-false (v .2 .result) (v .3 .left))
-    (λ v. fatherRight-none (a .args .area .now) (a .args .square .now) (a .pre .1 .1 .0) (a .pre .1 .0) (a .args .p) (r .record-at .result) (v .left))
+    (λ v. fatherRight-none (a .args .area .now) (a .args .waits .now) (a .pre .1 .1 .0) (a .pre .1 .0) (a .args .p) (r .record-at .result) (v .left))
     (c .if2 .came)
 
 -- ---- the words

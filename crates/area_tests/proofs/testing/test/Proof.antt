@@ -1,7 +1,7 @@
 -- `area_tests::testing::test` meets its contract: each way out fails a part of the test, and the last passes all. From the loading on the bytes hold the
--- area's table, from the filling on the square holds its arcs.
+-- area's table, from the filling on the sets hold who waits for whom.
 -- Assumes nothing.
-use Prim.Native.Nat.{ℕ, _+_, _-_, _*_}
+use Prim.Native.Nat.{ℕ, _-_}
 use mathlib.Core.List.{List}
 use lib.IntN.{ℤ}
 use mathlib.Core.Bool.{false≢true}
@@ -17,10 +17,10 @@ use Rattle.tables.specs.Reading.{fieldsNumber}
 use Rattle.tables.specs.Layout.{Right}
 use Rattle.tables.specs.LayoutLaws.{fieldsNumber-P}
 use Rattle.areas.specs.Area.{fieldTotalOf, fieldsIn}
-use Rattle.tables.specs.Pairs.{squareSide}
-use Rattle.areas.specs.Squares.{Square}
+use Rattle.sets.specs.Sets.{setsSize}
 use Rattle.areas.specs.RunInLaws.{fieldsIn-n}
 use Rattle.area_tests.specs.AreaTests.{mostBytes, fieldTest, recordTest, arcTest}
+use Rattle.area_tests.specs.Testing.{Waiting}
 use Rattle.area_tests.specs.AreaTestsLaws.{sizesTest-P}
 use Rattle.area_tests.proofs.Loading.{copied-fields}
 use Rattle.area_tests.proofs.Ways.{failing}
@@ -120,13 +120,12 @@ right c =
 fill-requires : tie.Need-fill-requires
 fill-requires c κs =
     let d = copying (c .before .before .before) in
-    let start = found (d .before) .before .before .before in
     let b = bounds _ _ _ (sized (found (d .before))) in (
       subst Right (sym (copied d)) (right (c .before .before)),
-      (of-bytes d, (omega (arith, d .before .fields-to-bytes .ensures .1 .1), (λ x y p q. start .pre .1 (x * squareSide + y), start .pre .0))),
+      (of-bytes d, (omega (arith, d .before .fields-to-bytes .ensures .1 .1), (refl, λ k. replicate-zero setsSize k))),
     )
 
--- ---- the square
+-- ---- the sets
 
 -- the table that was met, and the sizes
 abbrev met : tie.After-fill → tie.Else2
@@ -135,12 +134,12 @@ met c = c .before .before .before
 abbrev sizes : tie.After-fill → tie.After-n
 sizes c = found (copying (met c .before) .before)
 
--- the square holds the table's arcs
-abbrev arcs-of : tie.After-fill → List ℕ
-arcs-of c = c .fill .last .1 .1 .1 .0
+-- they hold who waits for whom
+abbrev sets-of : tie.After-fill → List ℕ
+sets-of c = c .fill .last .1 .1 .1 .0
 
-squared : (c : tie.After-fill) → Square (fieldsIn (area (sizes c))) (arcs-of c)
-squared c = subst (λ (t : Fields). Square t (arcs-of c)) (copied (copying (met c .before))) (c .fill .ensures)
+waiting : (c : tie.After-fill) → Waiting (fieldsIn (area (sizes c))) (sets-of c)
+waiting c = subst (λ (t : Fields). Waiting t (sets-of c)) (copied (copying (met c .before))) (c .fill .ensures)
 
 -- ---- the regions
 
@@ -156,7 +155,7 @@ are-records-requires : tie.Need-are-records-requires
 are-records-requires c κs =
     let f = c .before .before .before in
     let s = sized (sizes f) in
-    (s .test, (squared f, (right (met f), (s .processes, s .arcs))))
+    (s .test, (waiting f, (right (met f), (s .processes, s .arcs))))
 
 -- the filling before the records, and before the arcs
 abbrev filling : tie.After-are-records → tie.After-fill
@@ -178,7 +177,7 @@ are-arcs-requires : tie.Need-are-arcs-requires
 are-arcs-requires c κs =
     let f = filling (c .before .before .before) in
     let s = sized (sizes f) in
-    (s .test, (copied (copying (met f .before)), (squared f, (right (met f), (s .processes, s .arcs)))))
+    (s .test, (copied (copying (met f .before)), (waiting f, (right (met f), (s .processes, s .arcs)))))
 
 arcs : (c : tie.After-are-arcs) → c .are-arcs .result ≡ allTo (mOf (fieldsIn (area (sizes (filled c))))) (arcTest (area (sizes (filled c))))
 arcs c =
@@ -195,17 +194,15 @@ returns-7 c =
     let f = h .before in
     let e = met f in
     let l = copying (e .before) in
-    let s = sized (sizes f) in (
-      accepted _ _ _ s (record {
-        sizes = s .test;
-        fields = sym (fields (l .before)) ∙ not-false (l .before .fields-to-bytes .result) (l .if1 .left);
-        table = sym (number (e .before)) ∙ e .if2 .left;
-        head = value-yes (h .is-head .ensures) (r .before .before .if3 .left);
-        records = sym (records r) ∙ not-false (r .are-records .result) (c .before .before .before .before .if4 .left);
-        arcs = sym (arcs (c .before)) ∙ not-false (c .before .are-arcs .result) (c .if5 .left);
-      }),
-      λ _. squared f,
-    )
+    let s = sized (sizes f) in
+    accepted _ _ _ s (record {
+      sizes = s .test;
+      fields = sym (fields (l .before)) ∙ not-false (l .before .fields-to-bytes .result) (l .if1 .left);
+      table = sym (number (e .before)) ∙ e .if2 .left;
+      head = value-yes (h .is-head .ensures) (r .before .before .if3 .left);
+      records = sym (records r) ∙ not-false (r .are-records .result) (c .before .before .before .before .if4 .left);
+      arcs = sym (arcs (c .before)) ∙ not-false (c .before .are-arcs .result) (c .if5 .left);
+    })
 
 pub test-spec : {M : Type 1} → statement M
 test-spec =

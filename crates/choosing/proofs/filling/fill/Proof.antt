@@ -39,7 +39,7 @@ returns c =
     let a = c .before in
     let s = a .before .before .before in
     let w = s .args .area .now in
-    filled-last (fieldsIn w) (runIn w) (runIn-contained w) (omega (arith, s .pre .0 .m-is)) (a .loop .inv .2)
+    filled-last (fieldsIn w) (runIn w) (runIn-contained w) (omega (arith, s .pre .0 .ready .m-is)) (a .loop .inv .2)
 
 pub fill-spec : {M : Type 1} → statement M
 fill-spec =
@@ -48,10 +48,10 @@ fill-spec =
     Inv-loop
     μ-loop
     (λ c κs. c .before .pre .1)
-    (λ c. omega (arith, ready-sizes (c .before .before .pre .0)))
+    (λ c. omega (arith, ready-sizes (c .before .before .pre .0 .ready)))
     loop-holds
     look-along-requires
-    (λ c. omega (arith, ready-sizes (c .before .before .before .before .before .before .pre .0)))
+    (λ c. omega (arith, ready-sizes (c .before .before .before .before .before .before .pre .0 .ready)))
     (λ c. omega arith)
     loop-again
     returns)

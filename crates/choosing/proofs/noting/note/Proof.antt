@@ -8,9 +8,9 @@ use Rattle.checks.specs.Run.{Run}
 use Rattle.areas.specs.Area.{runIn}
 use Rattle.steps.specs.declared.Probes.{Probes}
 use Rattle.steps.specs.declared.Reply.{Reply}
-use Rattle.delivery.specs.Delivering.{replyGoes}
+use Rattle.delivery.specs.Delivering.{probesGo, replyGoes}
 use Rattle.marks.specs.Changes.{Marked, MarkedAt, Turns}
-use Rattle.choosing.specs.Noting.{takenMarks, sentMarks, goesTo, notedMarks}
+use Rattle.choosing.specs.Noting.{takenMarks, sentMarks, notedMarks}
 use Rattle.choosing.proofs.Following.{process-most, turns-marked}
 use Rattle.choosing.proofs.noting.note.Statement.{statement}
 use Rattle.choosing.proofs.noting.note.Tie as tie
@@ -18,7 +18,7 @@ use Rattle.choosing.proofs.noting.note.Tie as tie
 all-parts : (r : Run) (a b : ℕ) (y : Probes) (z : Reply) {l i j k : List ℕ}
     → Turns l (takenMarks (waiting (r .link a b)) a b) i
     → Turns i (λ held. sentMarks held b (replyGoes z)) j
-    → Turns j (λ held. sentMarks held b (goesTo (r .waits) y b)) k
+    → Turns j (λ held. sentMarks held b (probesGo (r .waits) y b)) k
     → Turns l (notedMarks r a b y z) k
 all-parts r a b y z t u v held h = v _ (u _ (t held h))
 
@@ -34,15 +34,15 @@ note-reply-requires : tie.Need-note-reply-requires
 note-reply-requires c κs =
     let o = c .before in
     let s = o .before .before in
-    (process-most (s .pre .0) (s .pre .1 .0 .1), (s .pre .1 .1 .0, after-taken (s .args .area .now) (s .pre .1 .1 .1) (o .note-taken .ensures)))
+    (process-most (s .pre .0) (s .pre .1 .1 .0 .1), (s .pre .1 .1 .1 .0, after-taken (s .args .area .now) (s .pre .1 .1 .1 .1) (o .note-taken .ensures)))
 
 note-probes-requires : tie.Need-note-probes-requires
 note-probes-requires c κs =
     let p = c .before in
     let o = p .before .before in
     let s = o .before .before in
-    let marked = after-reply (s .args .area .now) (s .pre .1 .1 .1) (o .note-taken .ensures) (s .args .reply) (p .note-reply .ensures) in
-    (s .pre .0, (s .pre .1 .0 .1, marked))
+    let marked = after-reply (s .args .area .now) (s .pre .1 .1 .1 .1) (o .note-taken .ensures) (s .args .reply) (p .note-reply .ensures) in
+    (s .pre .0, (s .pre .1 .1 .0 .1, marked))
 
 returns : tie.Need-returns
 returns c =
@@ -55,7 +55,7 @@ pub note-spec : {M : Type 1} → statement M
 note-spec =
     tie.close
     (tie.spec
-    (λ c κs. let s = c .before in (s .pre .0, (s .pre .1 .0, s .pre .1 .1 .1)))
+    (λ c κs. let s = c .before in (s .pre .0, (s .pre .1 .0, (s .pre .1 .1 .0, s .pre .1 .1 .1 .1))))
     note-reply-requires
     note-probes-requires
     returns)

@@ -15,10 +15,10 @@ use Rattle.choosing.proofs.noting.note_chain.Statement.{statement}
 use Rattle.choosing.proofs.noting.note_chain.Tie as tie
 
 abbrev Inv-loop : tie.InvT-loop
-Inv-loop area square n m c b memory₀ k₀ memory k = (before : ℕ → ℕ → Bool) → Marks before memory₀ → Sent c (fieldsIn area) b k before memory
+Inv-loop area n m c b memory₀ k₀ memory k = (before : ℕ → ℕ → Bool) → Marks before memory₀ → Sent c (fieldsIn area) b k before memory
 
 abbrev μ-loop : tie.MeasureT-loop
-μ-loop area square n m c b memory₀ k₀ memory k = length (toGo c (fieldsIn area) k)
+μ-loop area n m c b memory₀ k₀ memory k = length (toGo c (fieldsIn area) k)
 
 loop-holds : tie.Need-loop-holds Inv-loop μ-loop
 loop-holds c =

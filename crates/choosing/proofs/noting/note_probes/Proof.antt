@@ -10,21 +10,22 @@ use Rattle.tables.specs.Chains.{joins}
 use Rattle.steps.specs.declared.Probes.{Probes}
 use Rattle.steps.specs.declared.Probes.the-variants.{Sucs, Pres}
 use Rattle.areas.specs.Area.{runIn}
+use Rattle.delivery.specs.Delivering.{probesGo}
 use Rattle.marks.specs.Changes.{Turns}
-use Rattle.choosing.specs.Noting.{sentMarks, goesTo}
+use Rattle.choosing.specs.Noting.{sentMarks}
 use Rattle.choosing.proofs.Following.{sent-nobody}
 use Rattle.choosing.proofs.noting.note_probes.Statement.{statement}
 use Rattle.choosing.proofs.noting.note_probes.Tie as tie
 
 module _ (w : Waits) (b : ℕ) {y : Probes} {l : List ℕ} where
-  nothing : y ≡ Probes.Nothing → Turns l (λ held. sentMarks held b (goesTo w y b)) l
+  nothing : y ≡ Probes.Nothing → Turns l (λ held. sentMarks held b (probesGo w y b)) l
   nothing e = rw e (sent-nobody b)
 
   module _ {k : List ℕ} where
-    sucs : y ≡ Sucs → Turns l (λ held. sentMarks held b (joins Out w b)) k → Turns l (λ held. sentMarks held b (goesTo w y b)) k
+    sucs : y ≡ Sucs → Turns l (λ held. sentMarks held b (joins Out w b)) k → Turns l (λ held. sentMarks held b (probesGo w y b)) k
     sucs e t = rw e t
 
-    pres : y ≡ Pres → Turns l (λ held. sentMarks held b (joins In w b)) k → Turns l (λ held. sentMarks held b (goesTo w y b)) k
+    pres : y ≡ Pres → Turns l (λ held. sentMarks held b (joins In w b)) k → Turns l (λ held. sentMarks held b (probesGo w y b)) k
     pres e t = rw e t
 
 returns : tie.Need-returns

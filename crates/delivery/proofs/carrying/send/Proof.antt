@@ -9,16 +9,16 @@ use Rattle.delivery.proofs.carrying.send.Tie as tie
 
 broadcast-requires : tie.Need-broadcast-requires
 broadcast-requires c κs =
-    let s = c .before .before .before in
-    (s .pre .0, (s .pre .1 .0, s .pre .1 .1 Out (c .before .enum-told2 .given .1)))
+    let s = c .before .before .before .before in
+    (s .pre .0, (s .pre .1 .0, (s .pre .1 .1 .0, s .pre .1 .1 .1 Out (c .before .enum-told2 .given .1))))
 
 broadcast-requires-2 : tie.Need-broadcast-requires-2
 broadcast-requires-2 c κs =
-    let s = c .before .before .before in
-    (s .pre .0, (s .pre .1 .0, s .pre .1 .1 In (c .before .enum-told3 .given .1)))
+    let s = c .before .before .before .before in
+    (s .pre .0, (s .pre .1 .0, (s .pre .1 .1 .0, s .pre .1 .1 .1 In (c .before .enum-told3 .given .1))))
 
 returns : tie.Need-returns
-returns c = rw (c .enum-told .given .1) (sym (stored-same (c .before .before .args .area .now) (c .before .before .pre .0 .right)))
+returns c = rw (c .enum-told .given .1) (sym (stored-same (c .before .before .before .args .area .now) (c .before .before .before .pre .0 .right)))
 
 returns-2 : tie.Need-returns-2
 returns-2 c = rw (c .before .before .before .enum-told2 .given .1) (c .before .broadcast .ensures)

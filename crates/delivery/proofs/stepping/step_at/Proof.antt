@@ -8,18 +8,15 @@ use native.Mathlib.Omega.{arith}
 use borrow.Author.Needs.{needs}
 use borrow.Author.Tests.{eq-eqb, ne-eqb}
 use lib.IntN.{ℤ}
-use Rattle.base.specs.Sums.{countTo}
 use Rattle.tables.specs.Table.{mostProcesses, IsProcess}
-use Rattle.tables.specs.declared.Chain.the-variants.{Out, In}
 use Rattle.tables.specs.Waits.{outDegree, inDegree}
 use Rattle.steps.specs.declared.Message.{Message}
 use Rattle.steps.specs.declared.Process.{Process}
 use Rattle.steps.specs.declared.Stepped.{Stepped}
 use Rattle.steps.specs.Step.{countSmall, lentInRange, stepped, startStepped}
 use Rattle.areas.specs.Area.{runIn}
-use Rattle.areas.specs.Squares.{joinsBy}
 use Rattle.lenses.specs.Ready.{Ready}
-use Rattle.lenses.specs.ReadyLaws.{right-storable, ready-n, ready-sizes, ready-degree}
+use Rattle.lenses.specs.ReadyLaws.{right-storable, ready-n, ready-sizes}
 use Rattle.steps.specs.Effect.{outNeeded, inNeeded}
 use Rattle.delivery.specs.AcceptLaws.{outDegree-most, inDegree-most, lent}
 use Rattle.steps.specs.StepLaws.{lent-needed, stepped-needed}
@@ -49,17 +46,14 @@ cast-other-step c =
     omega (arith, ready-sizes (s .pre .0), s .pre .1 .0)
 
 -- the step by the degrees that it needs, of which no other is known
-module _ {w : List ℤ} {sq : List ℕ} {n m : ℕ} (y : Ready w sq n m) (v : Message) (b : ℕ) (k : IsProcess n b) {x : Process}
-    (e : x ≡ runIn w .process b) {o i : ℕ} (f : o ≡ outNeeded v x (countTo n (λ q. joinsBy sq Out b q)))
-    (g : i ≡ inNeeded v x (countTo n (λ q. joinsBy sq In b q))) where
+module _ {w : List ℤ} {n m : ℕ} (y : Ready w n m) (v : Message) (b : ℕ) (k : IsProcess n b) {x : Process}
+    (e : x ≡ runIn w .process b) {o i : ℕ} (f : o ≡ outNeeded v x (outDegree (runIn w .waits) b))
+    (g : i ≡ inNeeded v x (inDegree (runIn w .waits) b)) where
   abbrev out : ℕ
   out = outDegree (runIn w .waits) b
 
   abbrev into : ℕ
   into = inDegree (runIn w .waits) b
-
-  few : b ≤ mostProcesses
-  few = omega (arith, ready-sizes y, k)
 
   out-few : out ≤ mostProcesses
   out-few = omega (arith, outDegree-most (runIn w .waits) b, right-storable w (y .right) .sound .few)
@@ -70,13 +64,13 @@ module _ {w : List ℤ} {sq : List ℕ} {n m : ℕ} (y : Ready w sq n m) (v : Me
   in-range : countSmall v ≡ true → lentInRange v o i x ≡ true
   in-range c =
       let h = right-storable w (y .right) in
-      rw (f, g, ready-degree y Out b few, ready-degree y In b few)
+      rw (f, g)
       (lent-needed v out into x out-few in-few ∙ ap (lentInRange v out into) e
       ∙ lent (runIn w) (h .formed) (h .sound) b (k .0, omega (arith, k .1, ready-n y)) v c)
 
   step-is : (p : ℕ) {r : Stepped} → r ≡ stepped v o i p x → r ≡ stepped v out into p (runIn w .process b)
   step-is p h =
-      h ∙ rw (f, g, ready-degree y Out b few, ready-degree y In b few) (stepped-needed v out into p x out-few in-few) ∙ ap (stepped v out into p) e
+      h ∙ rw (f, g) (stepped-needed v out into p x out-few in-few) ∙ ap (stepped v out into p) e
 
 other-step-requires : tie.Need-other-step-requires
 other-step-requires c κs =

@@ -14,10 +14,10 @@ use Rattle.lenses.proofs.chains.degree_in.Statement.{statement}
 use Rattle.lenses.proofs.chains.degree_in.Tie as tie
 
 abbrev Inv-loop : tie.InvT-loop
-Inv-loop area square n m c b k₀ d₀ k d = Counted c (fieldsIn area) b k d
+Inv-loop area n m c b k₀ d₀ k d = Counted c (fieldsIn area) b k d
 
 abbrev μ-loop : tie.MeasureT-loop
-μ-loop area square n m c b k₀ d₀ k d = length (toGo c (fieldsIn area) k)
+μ-loop area n m c b k₀ d₀ k d = length (toGo c (fieldsIn area) k)
 
 loop-holds : tie.Need-loop-holds Inv-loop μ-loop
 loop-holds c =

@@ -1,18 +1,22 @@
--- `runs::picking::pick_in` meets its contract: each way out is a law of CallLaws.
+-- `runs::picking::pick_in` meets its contract: who is no process has no link, and no more have two whose cell is 0.
 -- Assumes nothing.
 use mathlib.Core.Bool.{true}
-use mathlib.Core.Path.{_≡_, sym, _∙_}
+use mathlib.Core.Path.{_≡_, refl, sym, ap, _∙_, subst}
 use native.Mathlib.Omega.{arith}
 use borrow.Author.Needs.{needs}
-use borrow.Author.Tests.{not-true, not-false}
 use Rattle.base.specs.ChoiceLaws.{value-not, value-yes}
+use Rattle.tables.specs.Pairs.{squareSide}
 use Rattle.tables.specs.Table.{IsProcess}
 use Rattle.tables.specs.TableLaws.{isProcess-P}
-use Rattle.tables.specs.Waits.{neighbours}
-use Rattle.areas.specs.Area.{runIn}
-use Rattle.lenses.specs.ReadyLaws.{ready-sizes, ready-joined}
-use Rattle.area_calls.specs.CallLaws.{pick-25, pick-23, pick-on}
-use Rattle.area_calls.specs.TestedLaws.{none-from, none-to}
+use Rattle.tables.specs.Waits.{Waits, waitsOf, neighbours}
+use Rattle.tables.specs.WaitsLaws.{neighbours-swap}
+use Rattle.areas.specs.Area.{fieldsIn, runIn}
+use Rattle.areas.specs.RunInLaws.{runIn-contained}
+use Rattle.areas.specs.Squares.{cellOf}
+use Rattle.areas.specs.SquareLaws.{cell-linked, cell-apart}
+use Rattle.lenses.specs.ReadyLaws.{ready-sizes}
+use Rattle.area_calls.specs.CallLaws.{pick-25}
+use Rattle.area_calls.specs.TestedLaws.{fresh-long, fresh-empty, none-from, none-to}
 use Rattle.runs.proofs.picking.pick_in.Statement.{statement}
 use Rattle.runs.proofs.picking.pick_in.Tie as tie
 
@@ -36,49 +40,48 @@ both c =
       isProcess-P _ _ .0 (value-yes (c .before .is-process2 .ensures) (c .if2 .left)),
     )
 
-joined-requires : tie.Need-joined-requires
-joined-requires c κs =
-    let few = ready-sizes (c .before .before .before .before .pre) .0 in
-    (omega (arith, few, both c .0 .1), omega (arith, few, both c .1 .1))
+fill-row-requires : tie.Need-fill-row-requires
+fill-row-requires c κs =
+    let e = c .before .before in
+    (e .before .before .before .before .pre, (both e .1, (fresh-long squareSide _ refl, fresh-empty squareSide _ refl)))
 
--- whether the link is there, as the square says
-abbrev start : tie.After-joined → tie.Start
-start c = c .before .before .before .before .before
+-- where both are known, and the start
+abbrev ends : tie.After-cell-of → tie.Else2
+ends c = c .before .before .before .before .before
 
-linked : (c : tie.After-joined) → c .joined .result ≡ neighbours (runIn (start c .args .area .now) .waits) (start c .args .from) (start c .args .to)
-linked c =
+abbrev start : tie.After-cell-of → tie.Start
+start c = ends c .before .before .before .before
+
+cell-of-requires : tie.Need-cell-of-requires
+cell-of-requires c κs =
+    let f = c .before in
+    let e = f .before .before .before in
+    omega (arith, both e .0 .1, ready-sizes (e .before .before .before .before .pre) .0, f .fill-row .ensures .long)
+
+-- the cell of the second and the first
+cell-is : (c : tie.After-cell-of) → let a = start c .args in c .cell-of .result ≡ cellOf (fieldsIn (a .area .now)) (a .to) (a .from)
+cell-is c =
     let s = start c in
-    let few = ready-sizes (s .pre) .0 in
-    let in-table = both (c .before) in
-    c .joined .ensures
-    ∙ ready-joined (s .pre) (s .args .from) (s .args .to) (omega (arith, few, in-table .0 .1)) (omega (arith, few, in-table .1 .1))
+    c .cell-of .ensures .0
+    ∙ c .before .before .fill-row .ensures .cells (s .args .from) (omega (arith, both (ends c) .0 .1, ready-sizes (s .pre) .0))
 
 returns-3 : tie.Need-returns-3
 returns-3 c =
-    let s = start (c .before) in
-    pick-25 _ (s .pre .right) (s .args .from) (s .args .to) (s .args .place) (sym (linked (c .before)) ∙ not-true _ (c .if3 .taken))
+    let k = c .before in
+    let a = start k .args in
+    let w = a .area .now in
+    pick-25 _ (start k .pre .right) (a .from) (a .to) (a .place)
+    (ap (λ (v : Waits). neighbours v (a .from) (a .to)) (runIn-contained w .waits) ∙ neighbours-swap (waitsOf (fieldsIn w)) (a .from) (a .to)
+    ∙ cell-apart (fieldsIn w) (a .to) (a .from) (cell-is k) (c .if3 .taken))
 
-joined : (c : tie.Else3) → let s = start (c .before) in neighbours (runIn (s .args .area .now) .waits) (s .args .from) (s .args .to) ≡ true
-joined c = sym (linked (c .before)) ∙ not-false _ (c .if3 .left)
-
-returns-4 : tie.Need-returns-4
-returns-4 c =
-    let three = c .before .before .before in
-    pick-23 _ (start (three .before) .pre .right) _ _ _ (joined three) (sym (c .before .is-over .ensures) ∙ c .if4 .taken)
-
-deliver-requires : tie.Need-deliver-requires
-deliver-requires c κs =
-    let three = c .before .before .before .before in
-    let in-table = both (three .before .before) in
-    (start (three .before) .pre, (joined three, (in-table .0 .1, in-table .1 .1)))
-
-returns-5 : tie.Need-returns-5
-returns-5 c =
-    let call = c .before in
-    let four = call .before .before in
-    let three = four .before .before .before in
-    let on = pick-on _ (start (three .before) .pre .right) _ _ _ (joined three) (sym (four .before .is-over .ensures) ∙ four .if4 .left) in
-    (call .deliver .ensures .0 ∙ on .0, call .deliver .ensures .1 ∙ on .1)
+pick-on-requires : tie.Need-pick-on-requires
+pick-on-requires c κs =
+    let e = c .before .before in
+    let k = e .before in
+    let s = start k in
+    let w = s .args .area .now in
+    let near = cell-linked (fieldsIn w) (cell-is k) (e .if3 .left) refl .joined in
+    (s .pre, (k .before .before .fill-row .ensures, (both (ends k), neighbours-swap (waitsOf (fieldsIn w)) (s .args .from) (s .args .to) ∙ near)))
 
 pub pick-in-spec : {M : Type 1} → statement M
 pick-in-spec =
@@ -88,11 +91,12 @@ pick-in-spec =
     returns
     (λ c κs. search needs)
     returns-2
-    joined-requires
+    fill-row-requires
+    (λ c. search needs)
+    cell-of-requires
+    (λ c. search needs)
     returns-3
-    (λ c κs. start (c .before .before) .pre)
     (λ c. search needs)
-    returns-4
-    deliver-requires
+    pick-on-requires
     (λ c. search needs)
-    returns-5)
+    (λ c. search needs))

@@ -15,6 +15,7 @@ use Rattle.choosing.specs.declared.ChosenDelivery.{ChosenDelivery}
 use Rattle.choosing.specs.Memory.{Remembers}
 use Rattle.choosing.specs.OrderLaws.{drawn-names}
 use Rattle.choosing.proofs.OnLink.{Left, left-refusal, left-message}
+use Rattle.runs.proofs.Kept.{running-holds}
 use Rattle.runs.proofs.Turns.{Turn, turn-first, turn-over, turn-spent, turn-refused, turn-next}
 use Rattle.runs.proofs.running.drive.Statement.{statement}
 use Rattle.runs.proofs.running.drive.Tie as tie
@@ -27,38 +28,38 @@ abbrev μ-loop : tie.MeasureT-loop
 μ-loop area₀ square n m k seed memory₀ made₀ state₀ area memory made state = k - made
 
 loop-holds : tie.Need-loop-holds Inv-loop μ-loop
-loop-holds c = (turn-first shuffledOrder (c .args .seed) (c .pre .0), c .pre .1)
+loop-holds c = (turn-first shuffledOrder (c .args .seed) (c .pre .0 .ready), c .pre .1)
 
 is-over-requires : tie.Need-is-over-requires Inv-loop μ-loop
-is-over-requires c κs = let a = c .before in holding-ready (a .before .pre .0) (a .loop .inv .0 .holds)
+is-over-requires c κs = let a = c .before in holding-ready (a .before .pre .0 .ready) (a .loop .inv .0 .holds)
 
 same-length : tie.Need-same-length Inv-loop μ-loop
-same-length c = let a = c .before .before .before in holding-length (a .before .pre .0) (a .loop .inv .0 .holds)
+same-length c = let a = c .before .before .before in holding-length (a .before .pre .0 .ready) (a .loop .inv .0 .holds)
 
 returns : tie.Need-returns Inv-loop μ-loop
 returns c =
     let a = c .before .before .before in
-    turn-over shuffledOrder (a .before .args .seed) (a .before .pre .0) (a .loop .inv .0) (c .before .is-over .ensures) (c .if1 .taken)
+    turn-over shuffledOrder (a .before .args .seed) (a .before .pre .0 .ready) (a .loop .inv .0) (c .before .is-over .ensures) (c .if1 .taken)
 
 same-length-2 : tie.Need-same-length-2 Inv-loop μ-loop
-same-length-2 c = let a = c .before .before .before .before in holding-length (a .before .pre .0) (a .loop .inv .0 .holds)
+same-length-2 c = let a = c .before .before .before .before in holding-length (a .before .pre .0 .ready) (a .loop .inv .0 .holds)
 
 returns-2 : tie.Need-returns-2 Inv-loop μ-loop
 returns-2 c =
     let i = c .before .before in
     let a = i .before .before in
-    turn-spent shuffledOrder (a .before .args .seed) (a .before .pre .0) (a .loop .inv .0) (i .is-over .ensures) (c .before .if1 .left) (c .if2 .taken)
+    turn-spent shuffledOrder (a .before .args .seed) (a .before .pre .0 .ready) (a .loop .inv .0) (i .is-over .ensures) (c .before .if1 .left) (c .if2 .taken)
 
 deliver-drawn-requires : tie.Need-deliver-drawn-requires Inv-loop μ-loop
 deliver-drawn-requires c κs =
     let a = c .before .before .before .before .before .before .before in
-    (holding-ready (a .before .pre .0) (a .loop .inv .0 .holds), a .loop .inv .1)
+    (running-holds (a .before .pre .0) (a .loop .inv .0 .holds), a .loop .inv .1)
 
 same-length-3 : tie.Need-same-length-3 Inv-loop μ-loop
 same-length-3 c =
     let d = c .before .before .before .before in
     let a = d .before .before .before .before .before .before .before .before in
-    d .deliver-drawn .kept .0 ∙ holding-length (a .before .pre .0) (a .loop .inv .0 .holds)
+    d .deliver-drawn .kept .0 ∙ holding-length (a .before .pre .0 .ready) (a .loop .inv .0 .holds)
 
 -- what a delivery leaves, by the state that was moved on
 left : (w : List ℤ) {sq : List ℕ} {n m : ℕ} {x : ChosenDelivery} {v : List ℤ} {l : List ℕ} {s t : ℕ} → s ≡ t
@@ -75,8 +76,8 @@ returns-3 c =
     let t = a .loop .inv .0 in
     let s = movedOn (a .loop .state) in
     let h = left (a .loop .area) (d .before .before .before .moved-on .ensures) (d .deliver-drawn .ensures) in
-    turn-refused shuffledOrder (a .before .args .seed) y t (i .is-over .ensures) (o .before .if1 .left) (drawn-names s) (o .if2 .left) (h .1 .0)
-    (left-refusal (drawn s) (drawn-names s) (holding-ready y (t .holds)) h (c .before .number .given .1))
+    turn-refused shuffledOrder (a .before .args .seed) (y .ready) t (i .is-over .ensures) (o .before .if1 .left) (drawn-names s) (o .if2 .left) (h .1 .0)
+    (left-refusal (drawn s) (drawn-names s) (running-holds y (t .holds)) h (c .before .number .given .1))
 
 loop-again : tie.Need-loop-again Inv-loop μ-loop
 loop-again c =
@@ -88,8 +89,8 @@ loop-again c =
     let t = a .loop .inv .0 in
     let s = movedOn (a .loop .state) in
     let h = left (a .loop .area) (d .before .before .before .moved-on .ensures) (d .deliver-drawn .ensures) in
-    let next = turn-next shuffledOrder (a .before .args .seed) y t (i .is-over .ensures) (o .before .if1 .left) (drawn-names s) (o .if2 .left) (h .1 .0)
-    (left-message (drawn s) (drawn-names s) (holding-ready y (t .holds)) h (c .enum-told .given .1)) in
+    let next = turn-next shuffledOrder (a .before .args .seed) (y .ready) t (i .is-over .ensures) (o .before .if1 .left) (drawn-names s) (o .if2 .left) (h .1 .0)
+    (left-message (drawn s) (drawn-names s) (running-holds y (t .holds)) h (c .enum-told .given .1)) in
     (rw (d .before .before .before .moved-on .ensures) next, h .1 .1 .0)
 
 pub drive-spec : {M : Type 1} → statement M

@@ -1,8 +1,8 @@
--- `delivery::rooms::goes_to` meets its contract, by the kind of probes.
+-- `delivery::rooms::goes_by` meets its contract, by the kind of probes.
 -- Assumes nothing.
 use borrow.Author.Needs.{needs}
-use Rattle.delivery.proofs.rooms.goes_to.Statement.{statement}
-use Rattle.delivery.proofs.rooms.goes_to.Tie as tie
+use Rattle.delivery.proofs.rooms.goes_by.Statement.{statement}
+use Rattle.delivery.proofs.rooms.goes_by.Tie as tie
 
 returns-2 : tie.Need-returns-2
 returns-2 c = rw (c .before .enum-told2 .given .1) (c .joins .ensures)
@@ -10,8 +10,8 @@ returns-2 c = rw (c .before .enum-told2 .given .1) (c .joins .ensures)
 returns-3 : tie.Need-returns-3
 returns-3 c = rw (c .before .enum-told3 .given .1) (c .joins2 .ensures)
 
-pub goes-to-spec : {M : Type 1} → statement M
-goes-to-spec =
+pub goes-by-spec : {M : Type 1} → statement M
+goes-by-spec =
     tie.close
     (tie.spec
     (λ c. search needs)

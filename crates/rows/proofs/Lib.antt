@@ -1,0 +1,4 @@
+pub mod Cells
+pub mod Fills
+pub mod Squaring
+pub mod Searches
