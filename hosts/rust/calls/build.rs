@@ -1,5 +1,6 @@
 //! Links libpickledune.a from PICKLEDUNE_LIB_DIR, by default the repository's target/staticlib, and the
-//! C comparator, hosts/c/fast.c, which it compiles with the compiler that CC names, by default gcc.
+//! C comparator, hosts/c/fast.c, which it compiles with the compiler that CC names, by default gcc, and
+//! the flags that CFLAGS adds.
 
 use std::path::{Path, PathBuf};
 use std::process::{exit, Command};
@@ -39,10 +40,13 @@ fn link_comparator(sources: &Path, out: &Path) {
         println!("cargo:rerun-if-changed={}", sources.join(file).display());
     }
     println!("cargo:rerun-if-env-changed=CC");
+    println!("cargo:rerun-if-env-changed=CFLAGS");
     let compiler = env::var_os("CC").unwrap_or_else(|| "gcc".into());
+    let flags = env::var("CFLAGS").unwrap_or_default();
     let (object, archive) = (out.join("fast.o"), out.join("libfast.a"));
     run(Command::new(compiler)
         .args(["-std=c11", "-O3", "-Wall", "-Wextra", "-Werror", "-c"])
+        .args(flags.split_whitespace())
         .arg(sources.join("fast.c"))
         .arg("-o")
         .arg(&object));

@@ -201,3 +201,13 @@ fn arguments_are_known_or_named() {
     assert!(refused("--seed x").contains("no seed: x"));
     assert!(refused("--family x").contains("no family x; there are: valid tables"));
 }
+
+/// A part of what hosts/test.sh compares.
+#[test]
+fn the_c_comparator_is_as_the_plain_rust() {
+    let options = Options { library: Library::C, seed: 7, ..Options::default() };
+    let mut driver = Driver::new(&Fast, options.seed);
+    if let Err(difference) = compare(&mut driver, &options, 50) {
+        panic!("{difference}");
+    }
+}
