@@ -9,7 +9,7 @@
  *   area at the end. So no link has to be looked for.
  * - A process keeps its two sums as the acknowledgement that it would send.
  *
- * For gcc or clang: it uses their vectors of four words and __builtin_ctzll. */
+ * For gcc: it uses its vectors of four words, __builtin_shuffle and __builtin_ctzll. */
 #include "fast.h"
 
 #include <stdbool.h>
@@ -166,7 +166,7 @@ typedef struct {
     Table table;
     int32_t *records, *links;
     uint32_t start;
-    uint32_t loaded;               /* how many arcs have a message on a link of theirs, .. */
+    uint32_t loaded;                 /* how many arcs have a message on a link of theirs, .. */
     uint16_t loaded_arcs[MOST_ARCS]; /* .. and which */
     Waits waits;
 } Area;
@@ -194,7 +194,7 @@ static inline bool small(uint32_t ack)
     return ((ack & 511) - 128 <= 256) & ((ack >> 9) - 128 <= 256);
 }
 
-/* Whether two links' four words of messages have, in a sign bit, one that is no message and not 0, or one behind a 0. */
+/* A sign bit for each of a link's four messages that is neither a message nor 0, or stands behind a 0. */
 static inline Four messages_wrong(Four words)
 {
     Four count = (words & 511) - 128, second = (words >> 9) - 128;
@@ -693,7 +693,7 @@ static __attribute__((noinline)) uint64_t behind(const Square *square, uint32_t 
     return queue >> BITS;
 }
 
-/* The square of an area, which has its messages from then on. */
+/* Takes the messages of one link of an arc, the first or the one back, out of the area. */
 INLINE void take_messages(Square *square, const Area *area, uint32_t arc, uint32_t end, Order *order)
 {
     int32_t *link = first_link(area, arc) + LINK_SIZE * end;
@@ -704,6 +704,7 @@ INLINE void take_messages(Square *square, const Area *area, uint32_t arc, uint32
     }
 }
 
+/* The square of a well-formed area. */
 INLINE void fill_square(Square *square, const Area *area, Order *order)
 {
     /* By flags: a probe whose flag is not set, and every probe if subordinate is not what the other two say. */
@@ -737,6 +738,7 @@ INLINE void put_messages(const Square *square, int32_t *link, uint32_t from, uin
     }
 }
 
+/* Puts all that the square holds into the area, its messages too if any are waiting. */
 static void empty_square(const Square *square, const Area *area, bool waiting)
 {
     for (uint32_t p = 0; p < area->table.n; p++)
