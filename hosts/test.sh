@@ -1,6 +1,6 @@
 #!/bin/sh
 # Builds what hosts use and runs all tests of hosts: the program where reads and writes fail, the C example, the stack, the installed files, the
-# Rust side, and the comparison.
+# Rust side, and the comparison, of the library and of the C comparator of the benchmarks.
 #
 #   hosts/test.sh
 #
@@ -10,7 +10,7 @@
 # for proofs. What it makes stands in target/.
 #
 # Needed: rt (the Rattle kit), gcc and g++ with the run-time of their sanitizers, pkg-config, cargo (as new as the packages of hosts/rust ask
-# for). Optional: cargo's fmt and clippy, python3 for the tools in Python, clang-14 for a short fuzzing.
+# for). Optional: cargo's fmt and clippy, python3 for the tools in Python, clang-14 for a short fuzzing, valgrind for counts of instructions.
 set -u
 cd "$(dirname "$0")/.." || exit 1
 
@@ -94,10 +94,12 @@ fmt=
 clippy=
 python=
 fuzz=
+valgrind=
 optional "cargo fmt" "rustup component add rustfmt" cargo fmt --version && fmt=yes
 optional "cargo clippy" "rustup component add clippy" cargo clippy --version && clippy=yes
 optional python3 "Debian: python3" python3 --version && python=yes
 optional "clang-14 and its libFuzzer" "Debian: clang-14 libclang-rt-14-dev" fuzzer && fuzz=yes
+optional valgrind "Debian: valgrind" valgrind --version && valgrind=yes
 
 # ---- running a test
 
@@ -267,7 +269,7 @@ helps() {
 }
 
 tools_help() {
-    for tool in hosts/test.sh hosts/c/stack.sh hosts/fuzz/run.sh tools/*.sh ${python:+tools/*.py}; do
+    for tool in hosts/test.sh hosts/instructions.sh hosts/c/stack.sh hosts/fuzz/run.sh tools/*.sh ${python:+tools/*.py}; do
         helps "$tool" "$tool" || return 1
     done
     helps target/stack-runs/stack stack
@@ -289,12 +291,36 @@ programs_help() {
     done
 }
 
-# The last line is 'no difference in N calls'.
-comparison() {
-    "$CARGO_TARGET_DIR/release/compare" --program target/bin/knot_check > "$work/compared"
+# compares PROGRAM ARGUMENT ..: the last line is 'no difference in N calls'.
+compares() {
+    "$@" > "$work/compared"
     status=$?
     tail -n 20 "$work/compared"
     [ "$status" -eq 0 ] && tail -n 1 "$work/compared" | grep -q '^no difference in [0-9]* calls$'
+}
+
+comparison() {
+    compares "$CARGO_TARGET_DIR/release/compare" --program target/bin/knot_check
+}
+
+c_comparison() {
+    compares "$CARGO_TARGET_DIR/release/compare" --library c
+}
+
+# The same with the C compiled so that it stops where C leaves open what happens. It is built apart, since it is slower.
+sanitized_comparison() {
+    (
+        CARGO_TARGET_DIR=$here/target/host-sanitized
+        CFLAGS="-fsanitize=undefined -fsanitize-undefined-trap-on-error"
+        export CFLAGS
+        rust build --release --package compare && compares "$CARGO_TARGET_DIR/release/compare" --library c
+    )
+}
+
+# Counts of instructions on the smallest of the timed checks: a line for each shape and library, with four numbers.
+instructions() {
+    BENCH=$CARGO_TARGET_DIR/release/bench hosts/instructions.sh 16 > "$work/instructions" && cat "$work/instructions" &&
+        [ "$(grep -cE '^\| [a-z ]* \| (proved|plain Rust|C)( \| [1-9][0-9]*){4} \|$' "$work/instructions")" -eq 15 ]
 }
 
 # The programs of the Rust side over the plain Rust in the archive's place. They are built apart, since they compare nothing.
@@ -314,5 +340,8 @@ done
 [ -z "$clippy" ] || run "cargo clippy, warnings as errors" rust clippy --release --all-targets -- -D warnings
 run "the Rust side without the archive" standin
 run "the comparison, call by call and with the program" comparison
+run "the comparison of the C comparator" c_comparison
+run "the comparison of the C comparator with the sanitizer undefined" sanitized_comparison
+[ -z "$valgrind" ] || run "instructions are counted" instructions
 
 finish

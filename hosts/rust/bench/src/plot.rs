@@ -45,10 +45,16 @@ struct Plot {
     legend: f64,
 }
 
+/// There is C of all that is plotted.
+fn in_c(row: &Row) -> f64 {
+    row.c.unwrap_or(row.plain)
+}
+
 pub fn draw(growth: &[[Row; 4]]) -> String {
     let arcs = |rows: &[Row; 4]| rows[0].size.map_or(1.0, |size| size.m as f64);
-    let times =
-        || growth.iter().flat_map(|rows| &rows[1..]).flat_map(|row| [row.proved, row.plain]);
+    let times = || {
+        growth.iter().flat_map(|rows| &rows[1..]).flat_map(|row| [row.proved, row.plain, in_c(row)])
+    };
     let low = times().fold(f64::MAX, f64::min).log10().floor();
     let high = times().fold(0.0, f64::max).log10().ceil();
     let x = Axis {
@@ -65,9 +71,11 @@ pub fn draw(growth: &[[Row; 4]]) -> String {
             growth.iter().map(|rows| (arcs(rows), of(&rows[thing]))).collect()
         };
         let plain = Style { colour, dashes: "6 4", marks: Some("white") };
+        let c = Style { colour, dashes: "2 3", marks: Some("white") };
         let proved = Style { colour, dashes: "none", marks: Some(colour) };
         plot.curve(&format!("{label}, proved"), &points(|row| row.proved), proved);
         plot.curve(&format!("{label}, plain Rust"), &points(|row| row.plain), plain);
+        plot.curve(&format!("{label}, C"), &points(in_c), c);
         plot.legend += 12.0;
     }
     let (low, least) = (plot.x.low, 2.0 * plot.y.low);

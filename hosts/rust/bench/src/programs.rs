@@ -1,6 +1,7 @@
 //! The check program from process start to exit.
 
-use crate::timing::Timed;
+use crate::inputs::Inputs;
+use crate::timing::{Library, Timed};
 use std::env;
 use std::io::Write;
 use std::path::{Path, PathBuf};
@@ -18,44 +19,55 @@ pub fn input_of(table: &[u8], start: usize) -> Vec<u8> {
     [&[start as u8, 0, 1, 0], table].concat()
 }
 
-/// An input without picks, and the longest input, most of it picks.
-pub fn timed(table: &[u8], picks: &[(usize, usize)]) -> Result<[Timed<'static>; 2], String> {
-    let proved = env::var_os("KNOT_CHECK").map(PathBuf::from).ok_or("KNOT_CHECK is not set")?;
-    let programs = [plain_program()?, proved];
-    let short = input_of(table, 1);
-    let mut long = short.clone();
-    // The whole check by picks, then picks that are refused.
+/// The longest input, most of it picks: the whole check by picks, then picks that are refused.
+fn with_picks(mut input: Vec<u8>, picks: &[(usize, usize)]) -> Vec<u8> {
     for &(from, to) in picks.iter().cycle() {
-        if long.len() + 4 > plain::LARGEST_INPUT {
+        if input.len() + 4 > plain::LARGEST_INPUT {
             break;
         }
-        long.extend((from as u16).to_le_bytes());
-        long.extend((to as u16).to_le_bytes());
+        input.extend((from as u16).to_le_bytes());
+        input.extend((to as u16).to_le_bytes());
     }
+    input
+}
+
+/// Inputs without picks, and the longest inputs.
+pub fn timed(inputs: &Inputs) -> Result<[Timed<'static>; 2], String> {
+    let proved = env::var_os("KNOT_CHECK").map(PathBuf::from).ok_or("KNOT_CHECK is not set")?;
+    let programs = [proved, plain_program()?];
+    let short: Vec<_> =
+        inputs.variants.iter().map(|input| input_of(&input.table, input.start)).collect();
+    let picks = inputs.variants.iter().map(|input| &input.picks);
+    let long = short.iter().zip(picks).map(|(input, picks)| with_picks(input.clone(), picks));
+    let long = long.collect();
     Ok([
-        on_input("the program, start to exit, input without picks", programs.clone(), short)?,
-        on_input("the program, start to exit, longest input", programs, long)?,
+        on_inputs("the program, start to exit, input without picks", programs.clone(), short)?,
+        on_inputs("the program, start to exit, longest input", programs, long)?,
     ])
 }
 
-fn on_input(
+fn on_inputs(
     what: &'static str,
     programs: [PathBuf; 2],
-    input: Vec<u8>,
+    inputs: Vec<Vec<u8>>,
 ) -> Result<Timed<'static>, String> {
-    let mut expected = Vec::new();
-    plain::check_program(&input, &mut expected);
-    for program in &programs {
-        let (output, _) = run(program, &input)?;
-        if output != expected {
-            return Err(format!("{} prints something else than the plain Rust", program.display()));
+    for input in &inputs {
+        let mut expected = Vec::new();
+        plain::check_program(input, &mut expected);
+        for program in &programs {
+            let (output, _) = run(program, input)?;
+            if output != expected {
+                let program = program.display();
+                return Err(format!("{program} prints something else than the plain Rust"));
+            }
         }
     }
-    let once = move |proved: bool| {
-        let (_, time) = run(&programs[usize::from(proved)], &input).expect("it ran before");
+    let once = move |library: Library, turn: usize| {
+        let input = &inputs[turn % inputs.len()];
+        let (_, time) = run(&programs[library as usize], input).expect("it ran before");
         time
     };
-    Ok(Timed::new(what, None, once))
+    Ok(Timed::new(what, None, &[Library::Proved, Library::Plain], once))
 }
 
 fn run(program: &Path, input: &[u8]) -> Result<(Vec<u8>, Duration), String> {

@@ -1,60 +1,95 @@
-//! Repetitions in which the two libraries take turns, and their medians.
+//! Repetitions in which the libraries take turns, and their medians.
 
 use crate::rows::{Row, Size};
+use calls::{Calls, Fast, Plain, Proved};
 use std::time::{Duration, Instant};
 
-/// Something to time: `once` does it on the proved library or the plain Rust.
+/// What is timed.
+#[derive(Clone, Copy, Debug, PartialEq)]
+pub enum Library {
+    Proved,
+    Plain,
+    C,
+}
+
+impl Library {
+    pub const ALL: [Library; 3] = [Library::Proved, Library::Plain, Library::C];
+
+    pub fn calls(self) -> &'static dyn Calls {
+        match self {
+            Library::Proved => &Proved,
+            Library::Plain => &Plain,
+            Library::C => &Fast,
+        }
+    }
+}
+
+/// Something to time: `once` does it with a library, in the turn of that number.
 pub struct Timed<'a> {
     what: &'static str,
     size: Option<Size>,
-    once: Box<dyn FnMut(bool) -> Duration + 'a>,
-    proved: Vec<f64>,
-    plain: Vec<f64>,
+    libraries: &'static [Library],
+    once: Box<dyn FnMut(Library, usize) -> Duration + 'a>,
+    turns: usize,
+    /// By library.
+    times: [Vec<f64>; 3],
 }
 
 /// How often all things are timed one after another: what else the machine does in some seconds
 /// then falls on all of them.
-const ROUNDS: usize = 12;
-const TIME_PER_ROUND: Duration = Duration::from_millis(100);
+const ROUNDS: usize = 30;
+const TIME_PER_ROUND: Duration = Duration::from_millis(60);
 const LEAST_PER_ROUND: usize = 3;
-const MOST_PER_ROUND: usize = 400;
+const MOST_PER_ROUND: usize = 256;
 
 impl<'a> Timed<'a> {
     pub fn new(
         what: &'static str,
         size: Option<Size>,
-        once: impl FnMut(bool) -> Duration + 'a,
+        libraries: &'static [Library],
+        once: impl FnMut(Library, usize) -> Duration + 'a,
     ) -> Timed<'a> {
-        Timed { what, size, once: Box::new(once), proved: Vec::new(), plain: Vec::new() }
+        let times = [const { Vec::new() }; 3];
+        Timed { what, size, libraries, once: Box::new(once), turns: 0, times }
+    }
+
+    /// Each library once, on the same input. Who goes first changes from turn to turn.
+    fn turn(&mut self) -> impl Iterator<Item = (Library, f64)> {
+        self.turns += 1;
+        let turn = self.turns;
+        let order = (0..self.libraries.len()).map(|place| (turn + place) % self.libraries.len());
+        let times: Vec<_> = order
+            .map(|place| self.libraries[place])
+            .map(|library| (library, (self.once)(library, turn).as_secs_f64()))
+            .collect();
+        times.into_iter()
     }
 
     fn round(&mut self) {
-        for proved in [true, false] {
-            (self.once)(proved);
-        }
+        // What was timed before has left the caches and the predictors to itself.
+        let _ = self.turn();
         let began = Instant::now();
-        for turn in 0..MOST_PER_ROUND {
-            if turn >= LEAST_PER_ROUND && began.elapsed() > TIME_PER_ROUND {
+        for made in 0..MOST_PER_ROUND {
+            if made >= LEAST_PER_ROUND && began.elapsed() > TIME_PER_ROUND {
                 break;
             }
-            // Who goes first changes too.
-            let first = turn % 2 == 0;
-            for proved in [first, !first] {
-                let time = (self.once)(proved).as_secs_f64();
-                if proved { &mut self.proved } else { &mut self.plain }.push(time);
+            for (library, time) in self.turn() {
+                self.times[library as usize].push(time);
             }
         }
     }
 
-    fn row(mut self) -> Row {
-        let Timed { what, size, .. } = self;
-        Row { what, size, proved: median(&mut self.proved), plain: median(&mut self.plain) }
+    fn row(self) -> Row {
+        let Timed { what, size, times, .. } = self;
+        let [proved, plain, c] = times.map(median);
+        let missing = "each is timed but for C";
+        Row { what, size, proved: proved.expect(missing), plain: plain.expect(missing), c }
     }
 }
 
-fn median(times: &mut [f64]) -> f64 {
+fn median(mut times: Vec<f64>) -> Option<f64> {
     times.sort_by(f64::total_cmp);
-    times[times.len() / 2]
+    times.get(times.len() / 2).copied()
 }
 
 pub fn time_all(mut things: Vec<Timed>) -> Vec<Row> {

@@ -74,14 +74,66 @@ impl<T: Given> Slot<T> {
     }
 }
 
+/// The types of the calls that the C comparator has, too.
+pub(crate) type ReadTable = unsafe extern "C" fn(*const u8, usize, *mut usize, *mut usize) -> u32;
+pub(crate) type Start =
+    unsafe extern "C" fn(*const u8, usize, usize, usize, *mut i32, usize) -> u32;
+pub(crate) type Pick =
+    unsafe extern "C" fn(*mut i32, usize, usize, usize, usize, *mut u32, *mut i32, *mut i32) -> u32;
+pub(crate) type RunOn = unsafe extern "C" fn(*mut i32, usize, u32, *mut u32, *mut u32) -> u32;
+pub(crate) type RunShuffled =
+    unsafe extern "C" fn(*mut i32, usize, u32, u32, *mut u32, *mut u32) -> u32;
+
 // SAFETY of every call below: the pointers come from slices with their lengths, and from slots
 // that live until the call is back; the interface asks nothing else of its caller.
+
+#[inline]
+pub(crate) fn read_table(call: ReadTable, table: &mut [u8]) -> Answer {
+    let (mut n, mut m) = (Slot::unset(), Slot::unset());
+    let number = unsafe { call(table.as_mut_ptr(), table.len(), n.place(), m.place()) };
+    Answer::new(number, [n.get(), m.get()])
+}
+
+#[inline]
+pub(crate) fn start(
+    call: Start,
+    table: &mut [u8],
+    start: usize,
+    edition: usize,
+    area: &mut [i32],
+) -> Answer {
+    let (area, words) = (area.as_mut_ptr(), area.len());
+    let number = unsafe { call(table.as_mut_ptr(), table.len(), start, edition, area, words) };
+    Answer::new(number, [])
+}
+
+#[inline]
+pub(crate) fn pick(call: Pick, area: &mut [i32], from: usize, to: usize, place: usize) -> Answer {
+    let (mut kind, mut count, mut second) = (Slot::unset(), Slot::unset(), Slot::unset());
+    let (area, words) = (area.as_mut_ptr(), area.len());
+    let number =
+        unsafe { call(area, words, from, to, place, kind.place(), count.place(), second.place()) };
+    Answer::new(number, [kind.get(), count.get(), second.get()])
+}
+
+#[inline]
+pub(crate) fn run_on(call: RunOn, area: &mut [i32], k: u32) -> Answer {
+    let (mut over, mut made) = (Slot::unset(), Slot::unset());
+    let number = unsafe { call(area.as_mut_ptr(), area.len(), k, over.place(), made.place()) };
+    Answer::new(number, [over.get(), made.get()])
+}
+
+#[inline]
+pub(crate) fn run_shuffled(call: RunShuffled, area: &mut [i32], k: u32, seed: u32) -> Answer {
+    let (mut over, mut made) = (Slot::unset(), Slot::unset());
+    let (area, words) = (area.as_mut_ptr(), area.len());
+    let number = unsafe { call(area, words, k, seed, over.place(), made.place()) };
+    Answer::new(number, [over.get(), made.get()])
+}
+
 impl Calls for Proved {
     fn read_table(&self, table: &mut [u8]) -> Answer {
-        let (mut n, mut m) = (Slot::unset(), Slot::unset());
-        let number =
-            unsafe { pickledune_read_table(table.as_mut_ptr(), table.len(), n.place(), m.place()) };
-        Answer::new(number, [n.get(), m.get()])
+        read_table(pickledune_read_table, table)
     }
 
     fn write_table(&self, n: usize, list: &mut [u16], out: &mut [u8]) -> Answer {
@@ -112,58 +164,20 @@ impl Calls for Proved {
         Answer::new(0, [arc as i64])
     }
 
-    fn start(&self, table: &mut [u8], start: usize, edition: usize, area: &mut [i32]) -> Answer {
-        let number = unsafe {
-            pickledune_start(
-                table.as_mut_ptr(),
-                table.len(),
-                start,
-                edition,
-                area.as_mut_ptr(),
-                area.len(),
-            )
-        };
-        Answer::new(number, [])
+    fn start(&self, table: &mut [u8], process: usize, edition: usize, area: &mut [i32]) -> Answer {
+        start(pickledune_start, table, process, edition, area)
     }
 
     fn pick(&self, area: &mut [i32], from: usize, to: usize, place: usize) -> Answer {
-        let (mut kind, mut count, mut second) = (Slot::unset(), Slot::unset(), Slot::unset());
-        let number = unsafe {
-            pickledune_pick(
-                area.as_mut_ptr(),
-                area.len(),
-                from,
-                to,
-                place,
-                kind.place(),
-                count.place(),
-                second.place(),
-            )
-        };
-        Answer::new(number, [kind.get(), count.get(), second.get()])
+        pick(pickledune_pick, area, from, to, place)
     }
 
     fn run_on(&self, area: &mut [i32], k: u32) -> Answer {
-        let (mut over, mut made) = (Slot::unset(), Slot::unset());
-        let number = unsafe {
-            pickledune_run_on(area.as_mut_ptr(), area.len(), k, over.place(), made.place())
-        };
-        Answer::new(number, [over.get(), made.get()])
+        run_on(pickledune_run_on, area, k)
     }
 
     fn run_shuffled(&self, area: &mut [i32], k: u32, seed: u32) -> Answer {
-        let (mut over, mut made) = (Slot::unset(), Slot::unset());
-        let number = unsafe {
-            pickledune_run_shuffled(
-                area.as_mut_ptr(),
-                area.len(),
-                k,
-                seed,
-                over.place(),
-                made.place(),
-            )
-        };
-        Answer::new(number, [over.get(), made.get()])
+        run_shuffled(pickledune_run_shuffled, area, k, seed)
     }
 
     fn report(&self, area: &mut [i32]) -> Answer {

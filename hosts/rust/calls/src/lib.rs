@@ -1,13 +1,15 @@
 //! 01's calls behind one trait, so that programs can make the same call on the proved library
-//! (`Proved`, by its C interface) and on the plain Rust (`Plain`).
+//! (`Proved`, by its C interface), on the plain Rust (`Plain`) and on the C comparator (`Fast`).
 
 #![deny(missing_docs)]
 
+mod fast;
 mod interface;
 mod plain_calls;
 #[cfg(feature = "standin")]
 mod standin;
 
+pub use fast::Fast;
 pub use interface::Proved;
 pub use plain_calls::Plain;
 

@@ -1,5 +1,5 @@
-//! Compares the proved library with the plain Rust, call by call, on more than two million calls
-//! drawn from a seeded generator. `HELP` says how it is called.
+//! Compares the proved library, or the C comparator, with the plain Rust, call by call, on more than two
+//! million calls drawn from a seeded generator. `HELP` says how it is called.
 
 mod driver;
 mod families;
@@ -14,7 +14,7 @@ mod running;
 #[cfg(test)]
 mod seconds;
 
-use calls::{Calls, Proved, STANDIN};
+use calls::{Calls, Fast, Proved, STANDIN};
 use driver::{Driver, Outcome};
 use rng::Rng;
 use std::io::Write;
@@ -25,8 +25,10 @@ use std::time::Instant;
 const HELP: &str = "\
 Compares the proved library with the plain Rust, call by call.
 
-  compare [--seed NUMBER] [--family NAME] [--program PATH]
+  compare [--library NAME] [--seed NUMBER] [--family NAME] [--program PATH]
 
+  --library NAME   compares the library named: proved, which is meant without this, or c, the
+                   comparator of the benchmarks, which has no calls but those that are timed
   --seed NUMBER    draws the calls from another seed than 1982
   --family NAME    makes the calls of one family only
   --program PATH   compares the built check program, knot_check, too
@@ -36,19 +38,34 @@ comparison with status 1 and is printed with all that is needed to make its call
 argument that is wrong is named with status 2. The families are:
 ";
 
+/// What is compared with the plain Rust.
+#[derive(Clone, Copy, Debug, PartialEq)]
+enum Library {
+    Proved,
+    C,
+}
+
 struct Options {
+    library: Library,
     seed: u64,
     family: Option<String>,
     program: Option<PathBuf>,
 }
 
+impl Default for Options {
+    fn default() -> Options {
+        Options { library: Library::Proved, seed: 1982, family: None, program: None }
+    }
+}
+
 /// The options, or `None` if help is asked for.
 fn options(mut words: impl Iterator<Item = String>) -> Result<Option<Options>, String> {
-    let mut options = Options { seed: 1982, family: None, program: None };
+    let mut options = Options::default();
     while let Some(word) = words.next() {
         let mut value = || words.next().ok_or_else(|| format!("{word} wants a value"));
         match word.as_str() {
             "-h" | "--help" => return Ok(None),
+            "--library" => options.library = library(&value()?)?,
             "--seed" => options.seed = seed(&value()?)?,
             "--family" => options.family = Some(known_family(value()?)?),
             "--program" => options.program = Some(value()?.into()),
@@ -58,6 +75,14 @@ fn options(mut words: impl Iterator<Item = String>) -> Result<Option<Options>, S
         }
     }
     Ok(Some(options))
+}
+
+fn library(value: &str) -> Result<Library, String> {
+    match value {
+        "proved" => Ok(Library::Proved),
+        "c" => Ok(Library::C),
+        _ => Err(format!("no library {value}; there are: proved; c")),
+    }
 }
 
 fn seed(value: &str) -> Result<u64, String> {
@@ -126,11 +151,23 @@ fn main() -> ExitCode {
             return ExitCode::from(2);
         }
     };
-    if STANDIN {
-        println!("STAND-IN: the plain Rust is compared with itself, not with the proved library");
+    match options.library {
+        Library::Proved => {
+            if STANDIN {
+                println!(
+                    "STAND-IN: the plain Rust is compared with itself, not with the proved library"
+                );
+            }
+            compare_all(&Proved, &options)
+        }
+        Library::C => compare_all(&Fast, &options),
     }
-    let mut driver = Driver::new(&Proved, options.seed);
-    if let Err(difference) = compare(&mut driver, &options, 1000) {
+}
+
+/// Compares all that the options ask for, and prints what came of it.
+fn compare_all<L: Calls>(library: &L, options: &Options) -> ExitCode {
+    let mut driver = Driver::new(library, options.seed);
+    if let Err(difference) = compare(&mut driver, options, 1000) {
         println!("\n{difference}");
         return ExitCode::FAILURE;
     }
@@ -156,8 +193,21 @@ fn arguments_are_known_or_named() {
     assert!(given("--seed 7 --help").unwrap().is_none());
     let options = given("--program a/b --seed 7").unwrap().unwrap();
     assert_eq!((options.seed, options.program), (7, Some("a/b".into())));
+    assert_eq!(options.library, Library::Proved);
+    assert_eq!(given("--library c").unwrap().unwrap().library, Library::C);
+    assert!(refused("--library x").contains("no library x; there are: proved; c"));
     assert!(refused("--sed 7").contains("unknown argument --sed"));
     assert!(refused("--seed").contains("--seed wants a value"));
     assert!(refused("--seed x").contains("no seed: x"));
     assert!(refused("--family x").contains("no family x; there are: valid tables"));
+}
+
+/// A part of what hosts/test.sh compares.
+#[test]
+fn the_c_comparator_is_as_the_plain_rust() {
+    let options = Options { library: Library::C, seed: 7, ..Options::default() };
+    let mut driver = Driver::new(&Fast, options.seed);
+    if let Err(difference) = compare(&mut driver, &options, 50) {
+        panic!("{difference}");
+    }
 }

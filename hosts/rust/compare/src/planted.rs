@@ -848,7 +848,7 @@ fn add_to_step(answer: &mut Answer, lent: LentRecord, more: i64) {
 
 /// The name of the call in which the comparison, of all families or of one, sees the fault.
 fn call_that_shows(fault: Fault, family: Option<&str>) -> Option<String> {
-    let options = Options { seed: 7, family: family.map(str::to_string), program: None };
+    let options = Options { seed: 7, family: family.map(str::to_string), ..Options::default() };
     let library = Planted::new(fault);
     let mut driver = Driver::new(&library, options.seed);
     let outcome = compare(&mut driver, &options, 20);
@@ -1024,7 +1024,7 @@ fn the_order_of_21_and_37_is_found_in_damaged_areas() {
 
 /// What one family calls.
 fn noted_in(family: &str, per_mille: u64) -> Noted {
-    let options = Options { seed: 7, family: Some(family.into()), program: None };
+    let options = Options { seed: 7, family: Some(family.into()), ..Options::default() };
     let library = Planted::new(Sound);
     let mut driver = Driver::new(&library, options.seed);
     compare(&mut driver, &options, per_mille).expect("no fault is planted");
@@ -1209,7 +1209,7 @@ fn the_rows_of_01_are_judged_under_both_editions() {
 
 #[test]
 fn every_refusal_of_every_call_occurs() {
-    let options = Options { seed: 7, family: None, program: None };
+    let options = Options { seed: 7, ..Options::default() };
     let library = Planted::new(Sound);
     let mut driver = Driver::new(&library, options.seed);
     compare(&mut driver, &options, 100).expect("no fault is planted");

@@ -1,0 +1,914 @@
+/* fast.c: reading a table, start, pick, running on and running on with a seed, as fast as we can write them in C, for the benchmarks to compare the
+ * proved library with (docs/BENCHMARKS.md). It is written from the specification (01, 02) and docs/LAYOUT.md, apart from the proved library, and
+ * is held to the plain Rust call by call (hosts/rust/compare --library c). It takes any bytes and words, as the library does.
+ *
+ * What makes it fast:
+ * - The test of an area asks few questions in branches: range tests are collected as sign bits, links are looked at only where a message waits.
+ * - A table whose chains are as the writer makes them is known as such in one pass over the arcs; only others are walked along.
+ * - A running on works in a square of its own, a word for each pair of processes that holds up to three messages, and puts what is left into the
+ *   area at the end. So no link has to be looked for.
+ * - A process keeps its two sums as the acknowledgement that it would send.
+ *
+ * For gcc: it uses its vectors of four words, __builtin_shuffle and __builtin_ctzll. */
+#include "fast.h"
+
+#include <stdbool.h>
+#include <string.h>
+
+enum {
+    MOST_PROCESSES = 128,
+    MOST_ARCS = 512,
+    MOST_FIELDS = 2 + 2 * MOST_PROCESSES + 4 * MOST_ARCS,
+    MOST_WAITING = 4,
+    MOST_NUM = 256,
+    MOST_DELIVERIES = 2048,
+};
+
+/* docs/LAYOUT.md: the words of the heading, of a record and of a link. */
+enum { CHECK, START, DELIVERIES, EDITION, FREE, TABLE = 14 };
+enum { FLAGS, CS, NUM, FATHER, SECOND, RECORD_FREE, RECORD_SIZE };
+enum { LINK_SIZE = 8, KNOT_CHECK = 2 };
+
+/* Messages as the layout has them. An acknowledgement with count c and second count d is ACK + c + 512 d, so that counts are added in one sum. */
+enum { SUC = 1, PRE = 2, ACK = 256 + 512 * 256 };
+
+/* The chains of a process; a chain's number is also that of the end of an arc, from or to, that is the process's. */
+enum { OUT, IN };
+
+typedef uint32_t Four __attribute__((vector_size(16), aligned(4), may_alias));
+typedef uint64_t Two __attribute__((vector_size(16)));
+
+#define RARE(condition) __builtin_expect((condition), 0)
+#define INLINE static inline __attribute__((always_inline))
+
+/* ---- tables */
+
+/* A table's fields as words, processes and arcs counted from 1. */
+typedef struct {
+    uint32_t n, m;
+    const int32_t *firsts; /* of each process first-out, first-in */
+    const int32_t *arcs;   /* of each arc from, to, next-out, next-in */
+} Table;
+
+static inline uint32_t first_arc(const Table *table, uint32_t chain, uint32_t process)
+{
+    return (uint32_t)table->firsts[2 * process - 2 + chain];
+}
+
+static inline uint32_t next_arc(const Table *table, uint32_t chain, uint32_t arc)
+{
+    return (uint32_t)table->arcs[4 * arc - 2 + chain];
+}
+
+static inline uint32_t end_of(const Table *table, uint32_t end, uint32_t arc)
+{
+    return (uint32_t)table->arcs[4 * arc - 4 + end];
+}
+
+/* Who waits for whom: a byte for each pair, 1 if the first waits for the second. */
+typedef uint8_t Waits[MOST_PROCESSES * MOST_PROCESSES + 1];
+
+static inline uint32_t pair(uint32_t from, uint32_t to)
+{
+    return MOST_PROCESSES * from + to - MOST_PROCESSES;
+}
+
+/* Check 6 by walking: chains that hold only their own arcs are disjoint, so they meet every arc once exactly if they meet M in all. */
+static bool walked_right(const Table *table, uint32_t chain)
+{
+    uint32_t met = 0;
+    for (uint32_t process = 1; process <= table->n; process++)
+        for (uint32_t arc = first_arc(table, chain, process); arc; arc = next_arc(table, chain, arc)) {
+            if (met == table->m || end_of(table, chain, arc) != process)
+                return false;
+            met++;
+        }
+    return met == table->m;
+}
+
+/* Checks 4 to 7, and who waits for whom. A number is out of its range if a sign bit is left: every limit is small, so that one of the two
+ * differences has it. */
+static uint32_t check(const Table *table, Waits waits)
+{
+    uint32_t n = table->n, m = table->m;
+    const int32_t *firsts = table->firsts, *arcs = table->arcs;
+    Four low = {1, 1, 0, 0}, high = {n, n, m, m}, wrong = {0, 0, 0, 0};
+    for (uint32_t k = 0; k < m; k++) {
+        Four arc = *(const Four *)(arcs + 4 * k);
+        wrong |= (arc - low) | (high - arc);
+    }
+    if ((wrong[0] | wrong[1]) >> 31)
+        return 4;
+    uint32_t places = wrong[2] | wrong[3];
+    for (uint32_t i = 0; i < 2 * n; i++)
+        places |= (uint32_t)firsts[i] | (m - (uint32_t)firsts[i]);
+    if (places >> 31)
+        return 5;
+    /* The writer puts each arc at the front of its chains: its next is the last one before it with the same end, and a first the last of all. */
+    int32_t last[2][MOST_PROCESSES + 1], other = 0;
+    memset(last, 0, sizeof last);
+    memset(waits, 0, pair(n, n) + 1);
+    uint8_t twice = 0;
+    for (uint32_t k = 0; k < m; k++) {
+        const int32_t *arc = arcs + 4 * k;
+        uint32_t from = (uint32_t)arc[0], to = (uint32_t)arc[1];
+        twice |= waits[pair(from, to)];
+        waits[pair(from, to)] = 1;
+        other |= (last[OUT][from] ^ arc[2]) | (last[IN][to] ^ arc[3]);
+        last[OUT][from] = last[IN][to] = (int32_t)k + 1;
+    }
+    for (uint32_t p = 0; p < n; p++)
+        other |= (last[OUT][p + 1] ^ firsts[2 * p]) | (last[IN][p + 1] ^ firsts[2 * p + 1]);
+    if (other && !(walked_right(table, OUT) && walked_right(table, IN)))
+        return 6;
+    return twice ? 7 : 0;
+}
+
+/* Checks 1 to 7. The table's fields go to `fields`. */
+static uint32_t read_fields(const uint8_t *bytes, size_t length, int32_t *fields, Table *table, Waits waits)
+{
+    if (length < 4)
+        return 1;
+    uint32_t n = bytes[0] | (uint32_t)bytes[1] << 8, m = bytes[2] | (uint32_t)bytes[3] << 8;
+    if (n - 1 >= MOST_PROCESSES || m > MOST_ARCS)
+        return 2;
+    if (length != 4 + 4 * n + 8 * m)
+        return 3;
+    for (uint32_t i = 0; i < 2 + 2 * n + 4 * m; i++) {
+#if __BYTE_ORDER__ == __ORDER_LITTLE_ENDIAN__
+        uint16_t field;
+        memcpy(&field, bytes + 2 * i, 2);
+        fields[i] = field;
+#else
+        fields[i] = bytes[2 * i] | bytes[2 * i + 1] << 8;
+#endif
+    }
+    *table = (Table){n, m, fields + 2, fields + 2 + 2 * n};
+    return check(table, waits);
+}
+
+uint32_t fast_read_table(const uint8_t *bytes, size_t length, size_t *n, size_t *m)
+{
+    int32_t fields[MOST_FIELDS];
+    Table table;
+    Waits waits;
+    uint32_t refused = read_fields(bytes, length, fields, &table, waits);
+    *n = refused ? 0 : table.n;
+    *m = refused ? 0 : table.m;
+    return refused;
+}
+
+/* ---- areas */
+
+/* A well-formed area. */
+typedef struct {
+    int32_t *words;
+    Table table;
+    int32_t *records, *links;
+    uint32_t start;
+    uint32_t loaded;                 /* how many arcs have a message on a link of theirs, .. */
+    uint16_t loaded_arcs[MOST_ARCS]; /* .. and which */
+    Waits waits;
+} Area;
+
+static inline int32_t *record_of(const Area *area, uint32_t process)
+{
+    return area->records + RECORD_SIZE * (process - 1);
+}
+
+/* The link of an arc from its from to its to, and the one back. */
+static inline int32_t *first_link(const Area *area, uint32_t arc)
+{
+    return area->links + 2 * LINK_SIZE * (arc - 1);
+}
+
+static inline int32_t *second_link(const Area *area, uint32_t arc)
+{
+    return first_link(area, arc) + LINK_SIZE;
+}
+
+/* Whether both numbers of an acknowledgement are -128 to 128. A sum of two such acknowledgements less ACK is seen to be out of range, too: a count
+ * of 256 carries into the second count, but leaves -256. */
+static inline bool small(uint32_t ack)
+{
+    return ((ack & 511) - 128 <= 256) & ((ack >> 9) - 128 <= 256);
+}
+
+/* A sign bit for each of a link's four messages that is neither a message nor 0, or stands behind a 0. */
+static inline Four messages_wrong(Four words)
+{
+    Four count = (words & 511) - 128, second = (words >> 9) - 128;
+    Four no_ack = count | (256 - count) | second | (256 - second), no_probe = words | (2 - words);
+    Four none = (Four)(words == 0), before = {0, 0, 0, 0};
+    before = __builtin_shuffle(none, before, (Four){4, 0, 1, 2});
+    return (no_ack & no_probe) | (before & ~none);
+}
+
+static inline bool is_zero(Four words)
+{
+    Two halves = (Two)words;
+    return (halves[0] | halves[1]) == 0;
+}
+
+static bool records_right(const Area *area)
+{
+    uint32_t n = area->table.n, wrong = 0;
+    for (uint32_t p = 1; p <= n; p++) {
+        const uint32_t *record = (const uint32_t *)record_of(area, p);
+        uint32_t father = record[FATHER], neighbour = father <= n ? father : 0;
+        bool near = area->waits[pair(p, neighbour)] | area->waits[pair(neighbour ? neighbour : p, p)];
+        wrong |= (record[FLAGS] > 7) | (record[CS] + 128 > 256) | (record[NUM] > MOST_NUM) | (record[SECOND] + 128 > 256);
+        wrong |= record[RECORD_FREE] | (father ^ neighbour) | ((father != 0) & !near);
+    }
+    return wrong == 0;
+}
+
+static bool links_right(Area *area)
+{
+    uint32_t m = area->table.m, loaded = 0;
+    for (uint32_t arc = 1; arc <= m; arc++) {
+        const Four *words = (const Four *)first_link(area, arc);
+        /* Most links are empty at most moments. */
+        if (is_zero(words[0] | words[1] | words[2] | words[3]))
+            continue;
+        area->loaded_arcs[loaded++] = (uint16_t)arc;
+        Four wrong = messages_wrong(words[0]) | messages_wrong(words[2]);
+        /* The second link is not used if there is an arc back; a loop is its own. */
+        bool back = area->waits[pair(end_of(&area->table, IN, arc), end_of(&area->table, OUT, arc))];
+        Four free = words[1] | words[3] | (words[2] & -(uint32_t)back);
+        if (!is_zero(free | (wrong >> 31)))
+            return false;
+    }
+    area->loaded = loaded;
+    return true;
+}
+
+/* Whether any words are a well-formed area, whose parts are then in `area`. */
+static bool test(Area *area, int32_t *words, size_t length)
+{
+    if (length < TABLE + 2)
+        return false;
+    uint32_t n = (uint32_t)words[TABLE], m = (uint32_t)words[TABLE + 1];
+    if (n - 1 >= MOST_PROCESSES || m > MOST_ARCS || length < 8 * n + 20 * m + 16)
+        return false;
+    uint32_t wrong = (uint32_t)words[CHECK] ^ KNOT_CHECK;
+    wrong |= ((uint32_t)words[START] - 1 >= n) | ((uint32_t)words[DELIVERIES] > MOST_DELIVERIES) | ((uint32_t)words[EDITION] - 1 >= 2);
+    for (int i = FREE; i < TABLE; i++)
+        wrong |= (uint32_t)words[i];
+    if (wrong)
+        return false;
+    area->words = words;
+    area->table = (Table){n, m, words + TABLE + 2, words + TABLE + 2 + 2 * n};
+    area->records = words + TABLE + 2 + 2 * n + 4 * m;
+    area->links = area->records + RECORD_SIZE * n;
+    area->start = (uint32_t)words[START];
+    return check(&area->table, area->waits) == 0 && records_right(area) && links_right(area);
+}
+
+static bool is_over(const Area *area)
+{
+    return record_of(area, area->start)[NUM] == 0;
+}
+
+/* ---- start */
+
+uint32_t fast_start(const uint8_t *bytes, size_t length, size_t start, size_t edition, int32_t *words, size_t words_lent)
+{
+    int32_t fields[MOST_FIELDS];
+    Table table;
+    Waits waits;
+    uint32_t refused = read_fields(bytes, length, fields, &table, waits);
+    if (refused)
+        return refused;
+    uint32_t n = table.n, m = table.m, s = (uint32_t)start, num = 0;
+    if (start - 1 >= n)
+        return 8;
+    if (edition - 1 >= 2)
+        return 30;
+    if (words_lent < 8 * n + 20 * m + 16)
+        return 9;
+    uint32_t head = TABLE + 2 + 2 * n + 4 * m;
+    memset(words, 0, TABLE * sizeof *words);
+    memcpy(words + TABLE, fields, (head - TABLE) * sizeof *words);
+    memset(words + head, 0, (RECORD_SIZE * n + 2 * LINK_SIZE * m) * sizeof *words);
+    words[CHECK] = KNOT_CHECK;
+    words[START] = (int32_t)s;
+    words[EDITION] = (int32_t)edition;
+    int32_t *record = words + head + RECORD_SIZE * (s - 1), *links = words + head + RECORD_SIZE * n;
+    /* Where the suc probe to a process stands, and behind it the pre probe if it waits for the start in turn. */
+    int32_t *suc[MOST_PROCESSES + 1];
+    for (uint32_t arc = first_arc(&table, OUT, s); arc; arc = next_arc(&table, OUT, arc), num++) {
+        int32_t *link = links + 2 * LINK_SIZE * (arc - 1);
+        link[0] = SUC;
+        suc[end_of(&table, IN, arc)] = link;
+    }
+    record[SECOND] = num == 0;
+    for (uint32_t arc = first_arc(&table, IN, s); arc; arc = next_arc(&table, IN, arc), num++) {
+        uint32_t to = end_of(&table, OUT, arc);
+        if (waits[pair(s, to)])
+            suc[to][1] = PRE;
+        else
+            links[2 * LINK_SIZE * (arc - 1) + LINK_SIZE] = PRE;
+    }
+    record[FLAGS] = 3;
+    record[NUM] = (int32_t)num;
+    return 0;
+}
+
+/* ---- the step */
+
+/* A process's values, the sums as the acknowledgement that it would send. */
+typedef struct {
+    uint32_t flags, num, father, sums;
+} Process;
+
+/* What a step sends: an acknowledgement, if `to` is not 0, and probes, if `probes` is not. */
+typedef struct {
+    uint32_t to, ack, probes;
+} Sent;
+
+/* A process other than the start receives a probe. `degree` says to how many the probe goes on. False for 22. */
+INLINE bool take_probe(Process *x, uint32_t probe, uint32_t sender, uint32_t degree, Sent *sent)
+{
+    *sent = (Sent){0, 0, 0};
+    if (x->num == 0) {
+        x->father = sender;
+    } else {
+        *sent = (Sent){sender, x->sums, 0};
+        x->sums = ACK;
+    }
+    if (!(x->flags & probe)) {
+        x->flags |= probe;
+        x->num += degree;
+        x->sums += probe == SUC && degree == 0 ? 512 : 0;
+        sent->probes = probe;
+    }
+    uint32_t subordinate = (x->flags & 3) == 1;
+    x->sums += subordinate - (x->flags >> 2);
+    x->flags = (x->flags & 3) | subordinate << 2;
+    if (!small(x->sums) || x->num > MOST_NUM)
+        return false;
+    if (x->num == 0) {
+        sent->to = x->father;
+        sent->ack = x->sums;
+        x->sums = ACK;
+    }
+    return true;
+}
+
+/* Any process receives an acknowledgement. False for 22. */
+static inline bool take_ack(Process *x, uint32_t ack)
+{
+    x->sums += ack - ACK;
+    x->num -= 1;
+    return small(x->sums) & (x->num < MOST_NUM);
+}
+
+static Process process_in(const int32_t *record)
+{
+    return (Process){(uint32_t)record[FLAGS], (uint32_t)record[NUM], (uint32_t)record[FATHER], (uint32_t)(ACK + record[CS] + 512 * record[SECOND])};
+}
+
+static void put_process(int32_t *record, const Process *x)
+{
+    record[FLAGS] = (int32_t)x->flags;
+    record[CS] = (int32_t)(x->sums & 511) - 256;
+    record[NUM] = (int32_t)x->num;
+    record[FATHER] = (int32_t)x->father;
+    record[SECOND] = (int32_t)(x->sums >> 9) - 256;
+}
+
+/* ---- one delivery, in the area itself */
+
+/* The arc between two, of which the first waits for the second. */
+static uint32_t arc_between(const Area *area, uint32_t from, uint32_t to)
+{
+    uint32_t arc = first_arc(&area->table, OUT, from);
+    while (end_of(&area->table, IN, arc) != to)
+        arc = next_arc(&area->table, OUT, arc);
+    return arc;
+}
+
+/* The link between two neighbours. */
+static int32_t *link_between(const Area *area, uint32_t from, uint32_t to)
+{
+    return area->waits[pair(from, to)] ? first_link(area, arc_between(area, from, to)) : second_link(area, arc_between(area, to, from));
+}
+
+/* The link of a probe along an arc of its chain. */
+static int32_t *probe_link(const Area *area, uint32_t probe, uint32_t arc)
+{
+    uint32_t from = end_of(&area->table, OUT, arc), to = end_of(&area->table, IN, arc);
+    return probe == SUC ? first_link(area, arc) : link_between(area, to, from);
+}
+
+static uint32_t load_of(const int32_t *link)
+{
+    return (uint32_t)(link[0] != 0) + (link[1] != 0) + (link[2] != 0) + (link[3] != 0);
+}
+
+static uint32_t degree_of(const Table *table, uint32_t chain, uint32_t process)
+{
+    uint32_t degree = 0;
+    for (uint32_t arc = first_arc(table, chain, process); arc; arc = next_arc(table, chain, arc))
+        degree++;
+    return degree;
+}
+
+/* Whether what is sent leaves every link with at most four messages. */
+static bool has_room(const Area *area, uint32_t from, const Sent *sent, const int32_t *ack_link)
+{
+    if (ack_link && load_of(ack_link) == MOST_WAITING)
+        return false;
+    uint32_t chain = sent->probes - SUC;
+    if (sent->probes)
+        for (uint32_t arc = first_arc(&area->table, chain, from); arc; arc = next_arc(&area->table, chain, arc)) {
+            const int32_t *link = probe_link(area, sent->probes, arc);
+            if (load_of(link) + (link == ack_link) >= MOST_WAITING)
+                return false;
+        }
+    return true;
+}
+
+/* Delivers the message at a place, counted from 0, where one waits. False for 22. */
+static bool deliver(Area *area, uint32_t from, uint32_t to, int32_t *link, size_t place)
+{
+    int32_t *record = record_of(area, to), before[MOST_WAITING];
+    Process x = process_in(record);
+    uint32_t message = (uint32_t)link[place];
+    Sent sent = {0, 0, 0};
+    bool right = area->words[DELIVERIES] != MOST_DELIVERIES;
+    if (message > PRE) {
+        right &= take_ack(&x, message);
+        if (to != area->start && x.num == 0) {
+            right &= x.father != 0;
+            sent = (Sent){x.father, x.sums, 0};
+            x.sums = ACK;
+        }
+    } else if (to == area->start) {
+        sent = (Sent){from, ACK, 0};
+    } else {
+        right &= take_probe(&x, message, from, degree_of(&area->table, message - SUC, to), &sent);
+    }
+    if (!right)
+        return false;
+    memcpy(before, link, sizeof before);
+    memmove(link + place, link + place + 1, (MOST_WAITING - 1 - place) * sizeof *link);
+    link[MOST_WAITING - 1] = 0;
+    int32_t *ack_link = sent.to ? link_between(area, to, sent.to) : NULL;
+    if (!has_room(area, to, &sent, ack_link)) {
+        memcpy(link, before, sizeof before);
+        return false;
+    }
+    if (ack_link)
+        ack_link[load_of(ack_link)] = (int32_t)sent.ack;
+    uint32_t chain = sent.probes - SUC;
+    if (sent.probes)
+        for (uint32_t arc = first_arc(&area->table, chain, to); arc; arc = next_arc(&area->table, chain, arc)) {
+            int32_t *probed = probe_link(area, sent.probes, arc);
+            probed[load_of(probed)] = (int32_t)sent.probes;
+        }
+    put_process(record, &x);
+    area->words[DELIVERIES] += 1;
+    return true;
+}
+
+uint32_t fast_pick(
+    int32_t *words, size_t length, size_t from, size_t to, size_t place, uint32_t *kind, int32_t *count, int32_t *second)
+{
+    Area area;
+    *kind = 0;
+    *count = *second = 0;
+    if (!test(&area, words, length))
+        return 21;
+    uint32_t n = area.table.n, p = (uint32_t)from, q = (uint32_t)to;
+    if (from - 1 >= n || to - 1 >= n || !(area.waits[pair(p, q)] | area.waits[pair(q, p)]))
+        return 25;
+    if (is_over(&area))
+        return 23;
+    int32_t *link = link_between(&area, p, q);
+    uint32_t load = load_of(link);
+    if (load == 0)
+        return 24;
+    if (place - 1 >= load)
+        return 31;
+    int32_t message = link[place - 1];
+    if (!deliver(&area, p, q, link, place - 1))
+        return 22;
+    if (message <= PRE) {
+        *kind = (uint32_t)message;
+    } else {
+        *kind = 3;
+        *count = (message & 511) - 256;
+        *second = (message >> 9) - 256;
+    }
+    return 0;
+}
+
+/* ---- many deliveries, in a square of queues */
+
+/* The messages on the link from p to q, processes counted from 0, stand in queue[q][p], the oldest lowest, 20 bits each: a probe as 1 or 2, an
+ * acknowledgement four times, so that its two lowest bits are 0. A fourth message stands in `fourth`, and the highest bit tells that there is one.
+ * An entry counts only while its bit in `senders` is set, so that none has to be cleared. The rows are a bit longer than 128, lest they all
+ * fall on the same lines of the cache. */
+enum { BITS = 20, ROW = MOST_PROCESSES + 8 };
+
+static const uint64_t MESSAGE = (1ull << BITS) - 1, HAS_FOURTH = 1ull << 63;
+
+typedef struct {
+    uint64_t queue[MOST_PROCESSES][ROW];
+    uint64_t senders[MOST_PROCESSES][2]; /* bit p of row q: a message waits on the link from p to q */
+    Process processes[MOST_PROCESSES];
+    uint8_t changing[MOST_PROCESSES]; /* the probes that would change the process's flags; none for the start */
+    uint8_t degrees[2][MOST_PROCESSES];
+    uint32_t fourth[MOST_PROCESSES][ROW];
+} Square;
+
+INLINE uint32_t packed(int32_t message)
+{
+    return message <= PRE ? (uint32_t)message : (uint32_t)message << 2;
+}
+
+INLINE int32_t unpacked(uint64_t message)
+{
+    return (int32_t)(message <= PRE ? message : message >> 2);
+}
+
+/* The receivers with a message, for the fixed order. */
+typedef struct {
+    uint64_t low, high;
+} Receivers;
+
+INLINE void add_receiver(Receivers *set, uint32_t process)
+{
+    uint64_t bit = 1ull << (process & 63), high = -(uint64_t)(process >> 6);
+    set->low |= bit & ~high;
+    set->high |= bit & high;
+}
+
+INLINE void remove_receiver(Receivers *set, uint32_t process)
+{
+    uint64_t bit = 1ull << (process & 63), high = -(uint64_t)(process >> 6);
+    set->low &= ~(bit & ~high);
+    set->high &= ~(bit & high);
+}
+
+/* How many links have a message, for a shuffled order: all of them; those to receivers of the groups before each group of 16; of each group those to
+ * its receivers before each; and of each receiver those from the senders 0 to 63. */
+enum { GROUP = 16, GROUPS = MOST_PROCESSES / GROUP };
+
+typedef uint16_t Eight __attribute__((vector_size(16), may_alias));
+
+typedef struct {
+    uint32_t all;
+    uint16_t groups[GROUPS] __attribute__((aligned(16)));
+    uint16_t receivers[GROUPS][GROUP] __attribute__((aligned(16)));
+    uint8_t low[MOST_PROCESSES];
+} Counts;
+
+/* One link more (1), or less (-1), has a message. */
+INLINE void count_link(Counts *counts, uint32_t from, uint32_t to, int more)
+{
+    /* From place 15 - p on: 0 up to lane p, and 1 behind it. */
+    static const uint16_t step[2 * GROUP] = {[GROUP] = 1, 1, 1, 1, 1, 1, 1, 1, 1, 1, 1, 1, 1, 1, 1, 1};
+    typedef uint16_t Any __attribute__((vector_size(16), aligned(2), may_alias));
+    Eight *groups = (Eight *)counts->groups, *receivers = (Eight *)counts->receivers[to / GROUP];
+    const Any *behind_group = (const Any *)(step + GROUP - 1 - to / GROUP), *behind = (const Any *)(step + GROUP - 1 - to % GROUP);
+    counts->all += (uint32_t)more;
+    counts->low[to] += (uint8_t)((from < 64) * more);
+    if (more > 0) {
+        groups[0] += behind_group[0];
+        receivers[0] += behind[0];
+        receivers[1] += behind[1];
+    } else {
+        groups[0] -= behind_group[0];
+        receivers[0] -= behind[0];
+        receivers[1] -= behind[1];
+    }
+}
+
+/* The last of so many sums, which rise from 0, that is at most the rank. A lane's highest bit stays set if its sum is at most the rank. */
+INLINE uint32_t last_upto(const uint16_t *sums, uint32_t lanes, uint32_t rank)
+{
+    const uint64_t each = 0x0001000100010001;
+    uint64_t ranks = (rank | 0x8000) * each, found = 0, four;
+    for (uint32_t i = 0; i < lanes; i += 4) {
+        memcpy(&four, sums + i, sizeof four);
+        found += (ranks - four) >> 15 & each;
+    }
+    return (uint32_t)(found * each >> 48) - 1;
+}
+
+/* The place of the set bit with so many set bits below it. The counts of the bits of every two, every four and every byte lead to it; a byte's sum
+ * with all below it is at most 64, so that bit 7 tells which sums are more than the rank. */
+static uint32_t set_bit(uint64_t set, uint32_t rank)
+{
+    const uint64_t each = 0x0101010101010101;
+    uint64_t twos = set - (set >> 1 & 0x55 * each), fours = (twos & 0x33 * each) + (twos >> 2 & 0x33 * each);
+    uint64_t sums = ((fours + (fours >> 4)) & 0x0F * each) * each, more = ((sums | 0x80 * each) - (rank + 1) * each) & 0x80 * each;
+    uint32_t place = (uint32_t)__builtin_ctzll(more) & ~7u, count, beyond;
+    rank -= (uint32_t)(sums << 8 >> place & 0xFF);
+    count = fours >> place & 0xF;
+    beyond = rank >= count;
+    rank -= count & -beyond;
+    place += 4 * beyond;
+    count = twos >> place & 3;
+    beyond = rank >= count;
+    rank -= count & -beyond;
+    place += 2 * beyond;
+    return place + (rank >= (set >> place & 1));
+}
+
+/* The order of a running on, and what it keeps of the links with a message. */
+typedef struct {
+    Receivers set;
+    Counts *counts; /* only if it is shuffled */
+    uint32_t state;
+} Order;
+
+INLINE void note_filled(Order *order, uint32_t from, uint32_t to)
+{
+    if (order->counts)
+        count_link(order->counts, from, to, 1);
+    else
+        add_receiver(&order->set, to);
+}
+
+INLINE void note_emptied(Order *order, uint32_t from, uint32_t to, bool last)
+{
+    if (order->counts)
+        count_link(order->counts, from, to, -1);
+    else if (last)
+        remove_receiver(&order->set, to);
+}
+
+/* A further message on a link; false if it has four. */
+static __attribute__((noinline)) bool send_behind(Square *square, uint32_t from, uint32_t to, uint32_t message)
+{
+    uint64_t *queue = &square->queue[to][from];
+    if (*queue >> BITS == 0) {
+        *queue |= (uint64_t)message << BITS;
+    } else if (*queue >> 2 * BITS == 0) {
+        *queue |= (uint64_t)message << 2 * BITS;
+    } else if (!(*queue & HAS_FOURTH)) {
+        *queue |= HAS_FOURTH;
+        square->fourth[to][from] = message;
+    } else {
+        return false;
+    }
+    return true;
+}
+
+INLINE bool send(Square *square, Order *order, uint32_t from, uint32_t to, uint32_t message)
+{
+    uint64_t *senders = &square->senders[to][from >> 6], bit = 1ull << (from & 63);
+    if (RARE(*senders & bit))
+        return send_behind(square, from, to, message);
+    square->queue[to][from] = message;
+    *senders |= bit;
+    note_filled(order, from, to);
+    return true;
+}
+
+/* Takes the newest message off a link again, in a run that ends with 22 there. */
+static void unsend(Square *square, uint32_t from, uint32_t to)
+{
+    uint64_t *queue = &square->queue[to][from];
+    if (*queue & HAS_FOURTH)
+        *queue &= ~HAS_FOURTH;
+    else if (*queue >> 2 * BITS)
+        *queue &= (1ull << 2 * BITS) - 1;
+    else if (*queue >> BITS)
+        *queue &= MESSAGE;
+    else
+        square->senders[to][from >> 6] &= ~(1ull << (from & 63));
+}
+
+/* What is behind a queue's oldest message. */
+static __attribute__((noinline)) uint64_t behind(const Square *square, uint32_t from, uint32_t to)
+{
+    uint64_t queue = square->queue[to][from];
+    if (queue & HAS_FOURTH)
+        return (queue & ~HAS_FOURTH) >> BITS | (uint64_t)square->fourth[to][from] << 2 * BITS;
+    return queue >> BITS;
+}
+
+/* Takes the messages of one link of an arc, the first or the one back, out of the area. */
+INLINE void take_messages(Square *square, const Area *area, uint32_t arc, uint32_t end, Order *order)
+{
+    int32_t *link = first_link(area, arc) + LINK_SIZE * end;
+    uint32_t from = end_of(&area->table, end, arc) - 1, to = end_of(&area->table, 1 - end, arc) - 1;
+    for (int i = 0; i < MOST_WAITING && link[i]; i++) {
+        send(square, order, from, to, packed(link[i]));
+        link[i] = 0;
+    }
+}
+
+/* The square of a well-formed area. */
+INLINE void fill_square(Square *square, const Area *area, Order *order)
+{
+    /* By flags: a probe whose flag is not set, and every probe if subordinate is not what the other two say. */
+    static const uint8_t changing[8] = {3, 3, 1, 0, 3, 2, 3, 3};
+    uint32_t n = area->table.n, m = area->table.m;
+    memset(square->senders, 0, sizeof square->senders);
+    memset(square->degrees, 0, sizeof square->degrees);
+    for (uint32_t p = 0; p < n; p++) {
+        square->processes[p] = process_in(record_of(area, p + 1));
+        square->changing[p] = changing[square->processes[p].flags];
+    }
+    square->changing[area->start - 1] = 0;
+    for (uint32_t arc = 1; arc <= m; arc++) {
+        square->degrees[OUT][end_of(&area->table, OUT, arc) - 1]++;
+        square->degrees[IN][end_of(&area->table, IN, arc) - 1]++;
+    }
+    for (uint32_t i = 0; i < area->loaded; i++) {
+        take_messages(square, area, area->loaded_arcs[i], OUT, order);
+        take_messages(square, area, area->loaded_arcs[i], IN, order);
+    }
+}
+
+/* The messages of a link back into the area. */
+INLINE void put_messages(const Square *square, int32_t *link, uint32_t from, uint32_t to)
+{
+    if (square->senders[to][from >> 6] >> (from & 63) & 1) {
+        uint64_t queue = square->queue[to][from];
+        for (int i = 0; i < MOST_WAITING - 1; i++)
+            link[i] = unpacked(queue >> BITS * i & MESSAGE);
+        link[MOST_WAITING - 1] = queue & HAS_FOURTH ? unpacked(square->fourth[to][from]) : 0;
+    }
+}
+
+/* Puts all that the square holds into the area, its messages too if any are waiting. */
+static void empty_square(const Square *square, const Area *area, bool waiting)
+{
+    for (uint32_t p = 0; p < area->table.n; p++)
+        put_process(record_of(area, p + 1), &square->processes[p]);
+    if (waiting)
+        for (uint32_t arc = 1; arc <= area->table.m; arc++) {
+            uint32_t from = end_of(&area->table, OUT, arc), to = end_of(&area->table, IN, arc);
+            put_messages(square, first_link(area, arc), from - 1, to - 1);
+            if (!area->waits[pair(to, from)])
+                put_messages(square, second_link(area, arc), to - 1, from - 1);
+        }
+}
+
+/* A probe that changes the flags of its receiver, which is not the start. False for 22, with nothing sent. */
+INLINE bool deliver_changing(Square *square, const Area *area, Order *order, uint32_t from, uint32_t to, uint32_t probe)
+{
+    Process x = square->processes[to];
+    Sent sent;
+    uint32_t chain = probe - SUC;
+    if (RARE(!take_probe(&x, probe, from + 1, square->degrees[chain][to], &sent)))
+        return false;
+    if (sent.to && RARE(!send(square, order, to, sent.to - 1, sent.ack << 2)))
+        return false;
+    if (sent.probes)
+        for (uint32_t arc = first_arc(&area->table, chain, to + 1); arc; arc = next_arc(&area->table, chain, arc))
+            if (RARE(!send(square, order, to, end_of(&area->table, 1 - chain, arc) - 1, probe))) {
+                for (uint32_t sent_on = first_arc(&area->table, chain, to + 1); sent_on != arc; sent_on = next_arc(&area->table, chain, sent_on))
+                    unsend(square, to, end_of(&area->table, 1 - chain, sent_on) - 1);
+                if (sent.to)
+                    unsend(square, to, sent.to - 1);
+                return false;
+            }
+    square->processes[to] = x;
+    /* The flags are now as the last probe left them. */
+    square->changing[to] = 3 & ~x.flags;
+    return true;
+}
+
+/* The link that is next, or none. */
+INLINE bool choose(const Square *square, Order *order, uint32_t *from, uint32_t *to)
+{
+    if (order->counts) {
+        const Counts *counts = order->counts;
+        order->state ^= order->state << 13;
+        order->state ^= order->state >> 17;
+        order->state ^= order->state << 5;
+        if (RARE(counts->all == 0))
+            return false;
+        uint32_t rank = order->state % counts->all, group = last_upto(counts->groups, GROUPS, rank);
+        rank -= counts->groups[group];
+        uint32_t place = last_upto(counts->receivers[group], GROUP, rank);
+        rank -= counts->receivers[group][place];
+        *to = GROUP * group + place;
+        uint32_t low = counts->low[*to], high = rank >= low;
+        uint64_t senders = square->senders[*to][high];
+        rank -= low & -high;
+        /* Most receivers have one message or two. */
+        if (RARE(rank >= 2))
+            *from = 64 * high + set_bit(senders, rank);
+        else
+            *from = 64 * high + (uint32_t)__builtin_ctzll(senders & (senders - rank));
+        return true;
+    }
+    uint64_t low = order->set.low, high = order->set.high;
+    if (RARE((low | high) == 0))
+        return false;
+    *to = low ? (uint32_t)__builtin_ctzll(low) : 64 + (uint32_t)__builtin_ctzll(high);
+    low = square->senders[*to][0];
+    *from = low ? (uint32_t)__builtin_ctzll(low) : 64 + (uint32_t)__builtin_ctzll(square->senders[*to][1]);
+    return true;
+}
+
+/* Delivers the oldest message from p to q. False for 22, with nothing changed. */
+INLINE bool deliver_oldest(Square *square, const Area *area, Order *order, uint32_t p, uint32_t q)
+{
+    uint64_t queue = square->queue[q][p], *senders = square->senders[q];
+    uint32_t message = (uint32_t)(queue & MESSAGE);
+    bool is_start = q == area->start - 1;
+    Process *x = &square->processes[q];
+    if (RARE(queue >> BITS)) {
+        square->queue[q][p] = behind(square, p, q);
+    } else {
+        senders[p >> 6] &= ~(1ull << (p & 63));
+        note_emptied(order, p, q, (senders[0] | senders[1]) == 0);
+    }
+    if (RARE(square->changing[q] & message)) {
+        if (RARE(!deliver_changing(square, area, order, p, q, message)))
+            goto refused;
+    } else if (message <= PRE) {
+        /* With its flags as they are it acknowledges at once: by rule 1, or by rule 4 to p as its father. The start sends none of its sums. */
+        if (RARE(!send(square, order, q, p, (is_start ? ACK : x->sums) << 2)))
+            goto refused;
+        if (!is_start) {
+            x->father = x->num ? x->father : p + 1;
+            x->sums = ACK;
+        }
+    } else {
+        uint32_t sums = x->sums + (message >> 2) - ACK, num = x->num - 1;
+        if (RARE(!small(sums) | (num >= MOST_NUM)))
+            goto refused;
+        if (num == 0 && !is_start) {
+            if (RARE(x->father == 0) || RARE(!send(square, order, q, x->father - 1, sums << 2)))
+                goto refused;
+            sums = ACK;
+        }
+        x->sums = sums;
+        x->num = num;
+    }
+    return true;
+refused:
+    /* A fourth message became the third, and one that was sent on a loop may have taken its place since. */
+    if (queue & HAS_FOURTH)
+        square->fourth[q][p] = (uint32_t)(square->queue[q][p] >> 2 * BITS & MESSAGE);
+    square->queue[q][p] = queue;
+    senders[p >> 6] |= 1ull << (p & 63);
+    return false;
+}
+
+/* Running on in a well-formed area: over, spent, 24, 22. */
+INLINE uint32_t run(Area *area, uint32_t k, Order order, uint32_t *over, uint32_t *made)
+{
+    if (is_over(area) || k == 0) {
+        *over = is_over(area);
+        return 0;
+    }
+    Square square;
+    fill_square(&square, area, &order);
+    const uint32_t *num = &square.processes[area->start - 1].num;
+    uint32_t left = (uint32_t)(MOST_DELIVERIES - area->words[DELIVERIES]), most = k < left ? k : left, done = 0, refused = 0, p, q;
+    while (done < most) {
+        if (RARE(!choose(&square, &order, &p, &q))) {
+            refused = 24;
+            break;
+        }
+        if (RARE(!deliver_oldest(&square, area, &order, p, q))) {
+            refused = 22;
+            break;
+        }
+        done++;
+        if (RARE(*num == 0))
+            break;
+    }
+    *over = *num == 0;
+    /* One more delivery than are counted is refused, if there is a message for it. */
+    if (!refused && *num && done < k)
+        refused = choose(&square, &order, &p, &q) ? 22 : 24;
+    empty_square(&square, area, refused || (order.counts ? order.counts->all : order.set.low | order.set.high));
+    area->words[DELIVERIES] += (int32_t)done;
+    *made = done;
+    return refused;
+}
+
+uint32_t fast_run_on(int32_t *words, size_t length, uint32_t k, uint32_t *over, uint32_t *made)
+{
+    Area area;
+    *over = *made = 0;
+    if (!test(&area, words, length))
+        return 21;
+    return run(&area, k, (Order){{0, 0}, NULL, 0}, over, made);
+}
+
+uint32_t fast_run_shuffled(int32_t *words, size_t length, uint32_t k, uint32_t seed, uint32_t *over, uint32_t *made)
+{
+    Area area;
+    Counts counts;
+    *over = *made = 0;
+    if (!test(&area, words, length))
+        return 21;
+    if (seed == 0)
+        return 37;
+    memset(&counts, 0, sizeof counts);
+    return run(&area, k, (Order){{0, 0}, &counts, seed}, over, made);
+}
