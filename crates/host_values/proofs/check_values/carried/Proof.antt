@@ -1,7 +1,7 @@
--- `pickledune::check_values::carried` meets its contract, by the message. Assumes nothing.
+-- `host_values::check_values::carried` meets its contract, by the message. Assumes nothing.
 use borrow.Author.Needs.{needs}
-use Rattle.pickledune.proofs.check_values.carried.Statement.{statement}
-use Rattle.pickledune.proofs.check_values.carried.Tie as tie
+use Rattle.host_values.proofs.check_values.carried.Statement.{statement}
+use Rattle.host_values.proofs.check_values.carried.Tie as tie
 
 returns : tie.Need-returns
 returns c = rw (c .before .enum-told .given .1) (c .no-counts .ensures)

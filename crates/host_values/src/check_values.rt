@@ -11,12 +11,12 @@ use steps::Message;
 use steps::Process;
 use steps::TwoCounts;
 ghost use mathlib.Core.Path.{_≡_};
-ghost use Rattle.pickledune.specs.Values.{kindOf, deliveryKind, deliveryCounts, knotBit, returnedBit};
-ghost use Rattle.pickledune.specs.Values.{reportCount, reportKnot, reportOutside, reportEscape, reportReturned, readingProcess, ranOver};
+ghost use Rattle.host_values.specs.Values.{kindOf, deliveryKind, deliveryCounts, knotBit, returnedBit};
+ghost use Rattle.host_values.specs.Values.{reportCount, reportKnot, reportOutside, reportEscape, reportReturned, readingProcess, ranOver};
 ghost use Rattle.steps.specs.Effect.{countsOf};
 ghost use Rattle.checks.specs.Calls.{deliveryNumber, reportNumber, readingNumber};
 ghost use Rattle.machine.specs.Calls.{ranNumber, ranMade};
-ghost use Rattle.pickledune.specs.TableValues.{startedNumber};
+ghost use Rattle.host_values.specs.TableValues.{startedNumber};
 
 // Of a pick: the kind and the counts of the message.
 pub struct DeliveryValues {

@@ -1,8 +1,8 @@
--- `pickledune::step_values::message_of` meets its contract, by the kind. Assumes nothing.
+-- `host_values::step_values::message_of` meets its contract, by the kind. Assumes nothing.
 use borrow.Author.Tests.{ne-eqb}
-use Rattle.pickledune.specs.Interface.{messageOf}
-use Rattle.pickledune.proofs.step_values.message_of.Statement.{statement}
-use Rattle.pickledune.proofs.step_values.message_of.Tie as tie
+use Rattle.host_values.specs.Interface.{messageOf}
+use Rattle.host_values.proofs.step_values.message_of.Statement.{statement}
+use Rattle.host_values.proofs.step_values.message_of.Tie as tie
 
 returns : tie.Need-returns
 unfolding messageOf

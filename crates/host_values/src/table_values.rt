@@ -5,9 +5,9 @@ use tables::Next;
 use tables::Opened;
 use tables::Reading;
 ghost use mathlib.Core.Path.{_≡_};
-ghost use Rattle.pickledune.specs.TableValues.{numberOf, nFound, mFound, writingNumber, writtenLength};
+ghost use Rattle.host_values.specs.TableValues.{numberOf, nFound, mFound, writingNumber, writtenLength};
 ghost use Rattle.tables.specs.Walking.{openedNumber, openedArc, nextArc};
-ghost use Rattle.pickledune.specs.Interface.{chainOf};
+ghost use Rattle.host_values.specs.Interface.{chainOf};
 
 // Of reading: N and M.
 pub struct ReadValues {

@@ -12,9 +12,9 @@ use Rattle.steps.specs.declared.Process.{Process}
 use Rattle.steps.specs.declared.Stepped.the-variants.{Refused}
 use Rattle.steps.specs.declared.TwoCounts.{TwoCounts}
 use Rattle.steps.specs.Step.{small, bothSmall, countSmall, lentInRange, stepNumber, answer, stepped}
-use Rattle.pickledune.specs.Values.{kindOf}
+use Rattle.host_values.specs.Values.{kindOf}
 use Rattle.steps.specs.Effect.{countsOf}
-use Rattle.pickledune.specs.Interface.{messageOf}
+use Rattle.host_values.specs.Interface.{messageOf}
 
 pub messageOf-kindOf : (m : Message) → messageOf (kindOf m) (countsOf m) ≡ m
 unfolding messageOf

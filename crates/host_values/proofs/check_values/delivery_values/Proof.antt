@@ -1,10 +1,10 @@
--- `pickledune::check_values::delivery_values` meets its contract: a delivered message gives its kind and its counts. Assumes nothing.
+-- `host_values::check_values::delivery_values` meets its contract: a delivered message gives its kind and its counts. Assumes nothing.
 use mathlib.Core.Path.{sym, ap, _∙_}
 use borrow.Author.Needs.{needs}
 use Rattle.checks.specs.Calls.{deliveryNumber}
-use Rattle.pickledune.specs.Values.{deliveryKind, deliveryCounts}
-use Rattle.pickledune.proofs.check_values.delivery_values.Statement.{statement}
-use Rattle.pickledune.proofs.check_values.delivery_values.Tie as tie
+use Rattle.host_values.specs.Values.{deliveryKind, deliveryCounts}
+use Rattle.host_values.proofs.check_values.delivery_values.Statement.{statement}
+use Rattle.host_values.proofs.check_values.delivery_values.Tie as tie
 
 returns : tie.Need-returns
 returns c =

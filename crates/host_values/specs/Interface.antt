@@ -22,7 +22,7 @@ use Rattle.steps.specs.declared.Reply.the-variants.{To}
 use Rattle.steps.specs.declared.TwoCounts.{TwoCounts}
 use Rattle.steps.specs.Step.{mostCount, stepped}
 use Rattle.steps.specs.Effect.{replyCounts}
-use Rattle.pickledune.specs.Values.{steppedNumber, steppedProbes, steppedReply}
+use Rattle.host_values.specs.Values.{steppedNumber, steppedProbes, steppedReply}
 use Rattle.lending.specs.Lent.{lentRecord}
 
 -- "its out- or in-chain"

@@ -1,7 +1,7 @@
--- `pickledune::step_values::reply_counts` meets its contract, by the reply. Assumes nothing.
+-- `host_values::step_values::reply_counts` meets its contract, by the reply. Assumes nothing.
 use borrow.Author.Needs.{needs}
-use Rattle.pickledune.proofs.step_values.reply_counts.Statement.{statement}
-use Rattle.pickledune.proofs.step_values.reply_counts.Tie as tie
+use Rattle.host_values.proofs.step_values.reply_counts.Statement.{statement}
+use Rattle.host_values.proofs.step_values.reply_counts.Tie as tie
 
 returns : tie.Need-returns
 returns c = rw (c .before .enum-told .given .1) (c .no-counts .ensures)

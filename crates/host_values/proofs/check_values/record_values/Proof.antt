@@ -1,10 +1,10 @@
--- `pickledune::check_values::record_values` meets its contract: zeros on a refusal. Assumes nothing.
+-- `host_values::check_values::record_values` meets its contract: zeros on a refusal. Assumes nothing.
 use mathlib.Core.Path.{sym, ap}
 use borrow.Author.Needs.{needs}
 use Rattle.checks.specs.Calls.{readingNumber}
-use Rattle.pickledune.specs.Values.{readingProcess}
-use Rattle.pickledune.proofs.check_values.record_values.Statement.{statement}
-use Rattle.pickledune.proofs.check_values.record_values.Tie as tie
+use Rattle.host_values.specs.Values.{readingProcess}
+use Rattle.host_values.proofs.check_values.record_values.Statement.{statement}
+use Rattle.host_values.proofs.check_values.record_values.Tie as tie
 
 returns-2 : tie.Need-returns-2
 returns-2 c =

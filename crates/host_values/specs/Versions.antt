@@ -1,4 +1,4 @@
--- The version of the library. That of the layout of areas is knotCheck (areas, Area), which every area holds (LayoutLaws).
+-- The version of the library. That of the layout of areas is knotCheck (areas, Area), which every area holds (pickledune, LayoutLaws).
 --   versionNumber a b c   == the version a.b.c as one number
 --   libraryVersion        == the version of this library, 1.0.0
 -- Assumes nothing.

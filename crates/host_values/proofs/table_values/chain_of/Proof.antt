@@ -1,8 +1,8 @@
--- `pickledune::table_values::chain_of` meets its contract, by the test of the number. Assumes nothing.
+-- `host_values::table_values::chain_of` meets its contract, by the test of the number. Assumes nothing.
 use borrow.Author.Tests.{eq-eqb, ne-eqb}
-use Rattle.pickledune.specs.Interface.{chainOf}
-use Rattle.pickledune.proofs.table_values.chain_of.Statement.{statement}
-use Rattle.pickledune.proofs.table_values.chain_of.Tie as tie
+use Rattle.host_values.specs.Interface.{chainOf}
+use Rattle.host_values.proofs.table_values.chain_of.Statement.{statement}
+use Rattle.host_values.proofs.table_values.chain_of.Tie as tie
 
 returns : tie.Need-returns
 unfolding chainOf

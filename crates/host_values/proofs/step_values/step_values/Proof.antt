@@ -1,13 +1,13 @@
--- `pickledune::step_values::step_values` meets its contract: what a taken step sends, as numbers. Assumes nothing.
+-- `host_values::step_values::step_values` meets its contract: what a taken step sends, as numbers. Assumes nothing.
 use mathlib.Core.Path.{sym, ap, _∙_}
 use borrow.Author.Needs.{needs}
 use Rattle.steps.specs.declared.Stepped.{Stepped}
-use Rattle.pickledune.specs.Values.{steppedNumber, steppedProbes, steppedReply}
-use Rattle.pickledune.specs.Interface.{probesNumber, replyTo}
+use Rattle.host_values.specs.Values.{steppedNumber, steppedProbes, steppedReply}
+use Rattle.host_values.specs.Interface.{probesNumber, replyTo}
 use Rattle.steps.specs.Effect.{replyCounts}
 use Rattle.lending.specs.Lent.{lentRecord}
-use Rattle.pickledune.proofs.step_values.step_values.Statement.{statement}
-use Rattle.pickledune.proofs.step_values.step_values.Tie as tie
+use Rattle.host_values.proofs.step_values.step_values.Statement.{statement}
+use Rattle.host_values.proofs.step_values.step_values.Tie as tie
 
 returns : tie.Need-returns
 unfolding lentRecord

@@ -1,11 +1,11 @@
--- `pickledune::check_values::report_values` meets its contract: each value of a report as its number. Assumes nothing.
+-- `host_values::check_values::report_values` meets its contract: each value of a report as its number. Assumes nothing.
 use mathlib.Core.Path.{sym, ap, _∙_}
 use borrow.Author.Needs.{needs}
 use Rattle.steps.proofs.Counts.{signed-back}
 use Rattle.checks.specs.Calls.{reportNumber}
-use Rattle.pickledune.specs.Values.{reportCount, reportKnot, reportOutside, reportEscape, reportReturned}
-use Rattle.pickledune.proofs.check_values.report_values.Statement.{statement}
-use Rattle.pickledune.proofs.check_values.report_values.Tie as tie
+use Rattle.host_values.specs.Values.{reportCount, reportKnot, reportOutside, reportEscape, reportReturned}
+use Rattle.host_values.proofs.check_values.report_values.Statement.{statement}
+use Rattle.host_values.proofs.check_values.report_values.Tie as tie
 
 returns : tie.Need-returns
 returns c =
