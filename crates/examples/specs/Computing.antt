@@ -27,7 +27,7 @@ use Rattle.area_calls.specs.AreaCalls.{pickAnswer, pickArea, runOnAnswer, runOn
 use Rattle.lending.specs.Lent.{lentAnswer, lentRecord}
 use Rattle.inputs.specs.Input.{startIn, editionIn, tableFields, tableEnd, tableIn, inputNumber, begunNumber, begunArea}
 use Rattle.lines.specs.Text.{messageText, verdictLine, markLine}
-use Rattle.pickledune.specs.Interface.{chainOf, messageOf}
+use Rattle.host_values.specs.Interface.{chainOf, messageOf}
 use Rattle.examples.specs.States.{lowFirst, processFields, arcFields, table, one, both, fork, alone, loop, met1, met2, met3, met4, met5, met6, met7}
 use Rattle.examples.specs.States.{beside, input, words, rootWith, root, two, under, receiving, three, everywhere, loads, unlinked, area, answers}
 

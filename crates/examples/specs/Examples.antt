@@ -56,11 +56,11 @@ use Rattle.lending.specs.declared.Lent.{Lent}
 use Rattle.lending.specs.Lent.{lentAnswer, lentRecord}
 use Rattle.inputs.specs.Input.{inputNumber, begunNumber, begunArea}
 use Rattle.lines.specs.Text.{bytes, messageText, verdictLine, markLine}
-use Rattle.pickledune.specs.TableValues.{numberOf, nFound, mFound, writingNumber, writtenLength, startedNumber}
-use Rattle.pickledune.specs.Values.{deliveryKind, deliveryCounts, ranOver, reportCount, reportKnot, reportOutside, reportEscape, reportReturned}
-use Rattle.pickledune.specs.Values.{readingProcess, steppedNumber, steppedProbes, steppedReply}
-use Rattle.pickledune.specs.Interface.{chainOf, messageOf, processOf, probesNumber, replyTo}
-use Rattle.pickledune.specs.Versions.{versionNumber, libraryVersion}
+use Rattle.host_values.specs.TableValues.{numberOf, nFound, mFound, writingNumber, writtenLength, startedNumber}
+use Rattle.host_values.specs.Values.{deliveryKind, deliveryCounts, ranOver, reportCount, reportKnot, reportOutside, reportEscape, reportReturned}
+use Rattle.host_values.specs.Values.{readingProcess, steppedNumber, steppedProbes, steppedReply}
+use Rattle.host_values.specs.Interface.{chainOf, messageOf, processOf, probesNumber, replyTo}
+use Rattle.host_values.specs.Versions.{versionNumber, libraryVersion}
 use Rattle.examples.specs.States.{minus, lowFirst, table, one, both, fork, alone, loop, met1, met2, met3, met4, met5, met6, met7, input, words, root}
 use Rattle.examples.specs.States.{beside, counted, only, plain, rootWith, two, under, receiving, three, everywhere, loads, unlinked, area, answers}
 use Rattle.examples.specs.Computing.{computing}

@@ -40,7 +40,7 @@ use Rattle.checks.specs.declared.Delivery.{Delivery}
 use Rattle.checks.specs.Run.{Run}
 use Rattle.checks.specs.Calls.{Picked, pick}
 use Rattle.areas.specs.Area.{stored}
-use Rattle.pickledune.specs.Interface.{processOf}
+use Rattle.host_values.specs.Interface.{processOf}
 
 abbrev pub minus : ℕ → ℤ
 minus n = negℤ (pos n)

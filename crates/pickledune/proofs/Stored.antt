@@ -9,8 +9,8 @@ use Rattle.steps.specs.Effect.{replyCounts}
 use Rattle.steps.specs.declared.Stepped.{Stepped}
 use Rattle.lending.specs.Lent.{lentRecord}
 use Rattle.steps.specs.Step.{stepped}
-use Rattle.pickledune.specs.Values.{steppedNumber, steppedProbes, steppedReply}
-use Rattle.pickledune.specs.Interface.{probesNumber, replyTo, StepTold}
+use Rattle.host_values.specs.Values.{steppedNumber, steppedProbes, steppedReply}
+use Rattle.host_values.specs.Interface.{probesNumber, replyTo, StepTold}
 
 -- the step was made of the record w and the message n, which are x and m; v and u, of the values of its answer a, are stored as y and z
 pub StepTold-stored : {m n : Message} {o i p : ℕ} {a : Stepped} {x w y v : Process} {r b t : ℕ} {z u : TwoCounts} → a ≡ stepped n o i p w → n ≡ m → w ≡ x → r

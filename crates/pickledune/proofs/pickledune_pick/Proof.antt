@@ -5,7 +5,7 @@ use borrow.Author.Needs.{needs}
 use Rattle.steps.proofs.Counts.{signed-back}
 use Rattle.steps.specs.declared.TwoCounts.{TwoCounts}
 use Rattle.checks.specs.Calls.{deliveryNumber}
-use Rattle.pickledune.specs.Values.{deliveryKind, deliveryCounts}
+use Rattle.host_values.specs.Values.{deliveryKind, deliveryCounts}
 use Rattle.pickledune.proofs.pickledune_pick.Statement.{statement}
 use Rattle.pickledune.proofs.pickledune_pick.Tie as tie
 

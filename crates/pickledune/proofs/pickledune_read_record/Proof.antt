@@ -5,7 +5,7 @@ use borrow.Author.Needs.{needs}
 use Rattle.steps.proofs.Counts.{signed-back}
 use Rattle.steps.specs.declared.Process.{Process}
 use Rattle.checks.specs.Calls.{readingNumber}
-use Rattle.pickledune.specs.Values.{readingProcess}
+use Rattle.host_values.specs.Values.{readingProcess}
 use Rattle.pickledune.proofs.pickledune_read_record.Statement.{statement}
 use Rattle.pickledune.proofs.pickledune_read_record.Tie as tie
 

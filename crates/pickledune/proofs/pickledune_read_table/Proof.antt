@@ -1,7 +1,7 @@
 -- `pickledune_read_table` meets its contract: the values of what reading answers. Assumes nothing.
 use mathlib.Core.Path.{ap, _∙_}
 use borrow.Author.Needs.{needs}
-use Rattle.pickledune.specs.TableValues.{numberOf, nFound, mFound}
+use Rattle.host_values.specs.TableValues.{numberOf, nFound, mFound}
 use Rattle.pickledune.proofs.pickledune_read_table.Statement.{statement}
 use Rattle.pickledune.proofs.pickledune_read_table.Tie as tie
 

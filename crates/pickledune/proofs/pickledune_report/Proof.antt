@@ -4,7 +4,7 @@ use mathlib.Core.Path.{ap, _∙_}
 use borrow.Author.Needs.{needs}
 use Rattle.steps.proofs.Counts.{signed-back}
 use Rattle.checks.specs.Calls.{reportNumber}
-use Rattle.pickledune.specs.Values.{reportCount, reportKnot, reportOutside, reportEscape, reportReturned}
+use Rattle.host_values.specs.Values.{reportCount, reportKnot, reportOutside, reportEscape, reportReturned}
 use Rattle.pickledune.proofs.pickledune_report.Statement.{statement}
 use Rattle.pickledune.proofs.pickledune_report.Tie as tie
 

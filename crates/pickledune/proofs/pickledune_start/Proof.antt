@@ -1,7 +1,7 @@
 -- `pickledune_start` meets its contract: the number of what the start answers, and the area that it leaves. Assumes nothing.
 use mathlib.Core.Path.{ap, _∙_}
 use borrow.Author.Needs.{needs}
-use Rattle.pickledune.specs.TableValues.{startedNumber}
+use Rattle.host_values.specs.TableValues.{startedNumber}
 use Rattle.pickledune.proofs.pickledune_start.Statement.{statement}
 use Rattle.pickledune.proofs.pickledune_start.Tie as tie
 

@@ -5,7 +5,7 @@ use borrow.Author.Needs.{needs}
 use lib.IntN.{ℤ}
 use Rattle.steps.specs.declared.TwoCounts.{TwoCounts}
 use Rattle.steps.proofs.Counts.{signed-back}
-use Rattle.pickledune.specs.Interface.{messageOf, processOf}
+use Rattle.host_values.specs.Interface.{messageOf, processOf}
 use Rattle.pickledune.proofs.Stored.{StepTold-stored}
 use Rattle.pickledune.proofs.pickledune_step.Statement.{statement}
 use Rattle.pickledune.proofs.pickledune_step.Tie as tie

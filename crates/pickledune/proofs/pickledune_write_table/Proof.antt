@@ -1,7 +1,7 @@
 -- `pickledune_write_table` meets its contract: the values of what writing answers, and the output that it leaves. Assumes nothing.
 use mathlib.Core.Path.{ap, _∙_}
 use borrow.Author.Needs.{needs}
-use Rattle.pickledune.specs.TableValues.{writingNumber, writtenLength}
+use Rattle.host_values.specs.TableValues.{writingNumber, writtenLength}
 use Rattle.pickledune.proofs.pickledune_write_table.Statement.{statement}
 use Rattle.pickledune.proofs.pickledune_write_table.Tie as tie
 
