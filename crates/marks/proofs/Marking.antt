@@ -1,10 +1,9 @@
 -- How the code reads and changes the sets and the counts.
 --   up-same, up-turned, down-same, down-turned   == b's count put anew: the set 0 stands, or b is put into it, or taken out of it
 --   up-asks, down-asks       == what putting b into the set 0, and taking it out, asks
---   count-some               == a count is not 0 where a link is marked
 --   group-read, group-put    == the count of a group, as it is read and put
 --   mark-none, mark-asks, mark-asks-group, mark-is   == a link that was marked; what marking another asks, and what it leaves
---   strike-asks, unmark-asks-group, unmark-is   == the same where a link is no longer marked
+--   unmark-asks, strike-asks, unmark-asks-group, unmark-is   == the same where a link is no longer marked
 -- Assumes nothing.
 use Prim.Native.Nat.{ℕ, _+_, _-_, _*_, _^_, _≤_, _<_}
 use mathlib.Core.Bool.{Bool, true, false}
