@@ -7,6 +7,7 @@
 --   flags-parts                   == the flags' word is the flags packed again exactly if it is a number of at most 7
 --   fatherRight-none, fatherRight-over, fatherRight-joined   == father 0, father over N, and any other by the sets
 --   RecordParts, recordTest-parts == a record
+--   NumberParts, numbersTest-parts, numbers-counted   == the words of a record that are to be numbers
 --   arcTest-empty, arcTest-no, arcTest-back, arcTest-free   == an arc's two links
 --   AreaParts, areaTests-parts    == an area
 -- Assumes nothing.
@@ -34,13 +35,13 @@ use Rattle.steps.specs.Step.{inRange}
 use Rattle.checks.specs.Run.{mostDeliveries, fatherRight}
 use Rattle.areas.specs.Places.{startPlace, countPlace, headSize, fieldPlace, flagsPlace, numPlace, fatherPlace, recordSize, linkSize, arcSize}
 use Rattle.areas.specs.Used.{linkSlots}
-use Rattle.areas.specs.Used.{checkPlace, headUsed, recordUsed}
+use Rattle.areas.specs.Used.{checkPlace, headUsed, recordUsed, Counted}
 use Rattle.areas.specs.Area.{fieldTotalOf, recordPlace, linkPlace, arcOf, knotCheck, flagsOf, hasBack, numberAt, fieldsIn, recordAt, sameWord}
 use Rattle.areas.specs.Tells.{Tells}
 use Rattle.areas.specs.TellsLaws.{tells-map, tells-le, tells-eq, tells-id, tells-both, tells-same}
 use Rattle.areas.specs.WordTestLaws.{sameWord-P, counts-of}
 use Rattle.areas.specs.ArcLaws.{arcOf-waits}
-use Rattle.area_tests.specs.AreaTests.{sizesTest, fieldTest, counts, areFree, editionTest, headTest, recordTest, linkTest, arcTest, areaTests}
+use Rattle.area_tests.specs.AreaTests.{sizesTest, fieldTest, counts, areFree, editionTest, headTest, numbersTest, recordTest, linkTest, arcTest, areaTests}
 use Rattle.area_tests.specs.Testing.{Waiting}
 use Rattle.area_tests.specs.WaitingLaws.{waiting-joined}
 use Rattle.area_tests.specs.RegionLaws.{tells-areFree}
@@ -181,6 +182,30 @@ recordTest-at w p =
 -- the record stands at word k, and x was read there
 pub recordTest-parts : (w : List ℤ) (p k : ℕ) (x : Process) → k ≡ recordPlace (fieldsIn w) p → x ≡ recordAt w k → Tells (recordTest w p) (RecordParts w p k x)
 recordTest-parts w p k x ek ex = rw (ex, ek) (recordTest-at w p)
+
+-- the words that are to be numbers, which are looked at first
+pub record NumberParts (w : List ℤ) (k : ℕ) : Type 0 where
+  pub flags : counts w (k + flagsPlace) ≡ true
+  pub bits : numberAt w (k + flagsPlace) ≤ 7
+  pub num-word : counts w (k + numPlace) ≡ true
+  pub father-word : counts w (k + fatherPlace) ≡ true
+
+pub numbersTest-parts : (w : List ℤ) (k : ℕ) → Tells (numbersTest w k) (NumberParts w k)
+unfolding numbersTest
+numbersTest-parts w k =
+    tells-map
+    (λ s. record { flags = s .0 .0 .0; bits = s .0 .0 .1; num-word = s .0 .1; father-word = s .1 })
+    (λ s. (((s .flags, s .bits), s .num-word), s .father-word))
+    (tells-both
+    (tells-both (tells-both (tells-id (counts w (k + flagsPlace))) (tells-le (numberAt w (k + flagsPlace)) 7)) (tells-id (counts w (k + numPlace))))
+    (tells-id (counts w (k + fatherPlace))))
+
+pub numbers-counted : (w : List ℤ) (k : ℕ) → NumberParts w k → Counted w k
+numbers-counted w k s =
+    record { flags = same (k + flagsPlace) (s .flags); num = same (k + numPlace) (s .num-word); father = same (k + fatherPlace) (s .father-word) }
+  where
+    same : (j : ℕ) → counts w j ≡ true → getD w j (pos 0) ≡ pos (numberAt w j)
+    same j e = sameWord-P (getD w j (pos 0)) (pos (numberAt w j)) .0 e
 
 -- ---- an arc
 

@@ -5,6 +5,7 @@
 --   headTest w        == which check, the start, the count, and zeros
 --   recordTest w p    == the record of p: values in range, father 0 or a neighbour, zeros in the free words
 --   counts w k, isFree w k, areFree w i e   == word k is a number of 0 or more; it is 0; the words from i up to e are 0
+--   numbersTest w k   == the words of the record at word k that are to be numbers are so
 --   messageWord z     == z is the word of a message of the three kinds, with its counts in range
 --   linkTest s z w i  == the link at word i, of s slots and z words: messages of the three kinds with counts in range, then zeros
 --   arcTest w k       == the two links of arc k; zeros where it has no link back
@@ -66,6 +67,10 @@ unfoldable pub headTest : List ℤ → Bool
 headTest w =
     sameWord (getD w checkPlace (pos 0)) knotCheck && counts w startPlace && isProcess (numberAt w (fieldPlace 0)) (numberAt w startPlace) &&
     counts w countPlace && leb (numberAt w countPlace) mostDeliveries && editionTest w && areFree w headUsed headSize
+
+-- the flags, of at most 7, num and father of the record at word k are numbers of 0 or more
+unfoldable pub numbersTest : List ℤ → ℕ → Bool
+numbersTest w k = counts w (k + flagsPlace) && leb (numberAt w (k + flagsPlace)) 7 && counts w (k + numPlace) && counts w (k + fatherPlace)
 
 unfoldable pub recordTest : List ℤ → ℕ → Bool
 recordTest w p =

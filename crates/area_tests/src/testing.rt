@@ -12,8 +12,9 @@ ghost use Rattle.tables.specs.Table.{fieldOf, nOf, mOf, mostProcesses, mostArcs
 ghost use Rattle.tables.specs.Layout.{Right};
 ghost use Rattle.sets.specs.Sets.{setsSize, isIn};
 ghost use Rattle.areas.specs.Places.{fieldPlace};
+ghost use Rattle.areas.specs.Used.{recordUsed};
 ghost use Rattle.areas.specs.Area.{numberAt, fieldsIn, areaRight};
-ghost use Rattle.area_tests.specs.AreaTests.{mostBytes, sizesTest, fieldWord, fieldTest, editionTest, headTest, recordTest, arcTest};
+ghost use Rattle.area_tests.specs.AreaTests.{mostBytes, sizesTest, fieldWord, fieldTest, editionTest, headTest, numbersTest, recordTest, arcTest};
 ghost use Rattle.area_tests.specs.Testing.{sizesOf, CopiedTo, Waiting};
 
 // N and M of an area, or that it is not well formed.
@@ -148,6 +149,23 @@ fn joined(waits: &[usize; sets::SETS_SIZE], a: usize, b: usize) -> bool
     sets::is_in(waits, b, a)
 }
 
+// The words of the record at word k that are numbers: the flags, of at most 7, num and father.
+fn has_numbers(area: &[i32], k: usize) -> bool
+    requires { ⌜ k + recordUsed ≤ length (now area) ⌝ }
+    ensures { λ r. ⌜ r ≡ numbersTest (now (area .entry)) k ⌝ }
+{
+    if !word_tests::is_number(area[k + places::FLAGS]) {
+        return false;
+    }
+    if words::number(area[k + places::FLAGS]) > 7 {
+        return false;
+    }
+    if !word_tests::is_number(area[k + places::NUM]) {
+        return false;
+    }
+    word_tests::is_number(area[k + places::FATHER])
+}
+
 // The record of p: values in range, father 0 or a neighbour, zeros in the free words.
 fn is_record(area: &[i32], waits: &[usize; sets::SETS_SIZE], n: usize, m: usize, p: usize) -> bool
     requires { ⌜ sizesTest (now area) ≡ true ⌝ }
@@ -158,6 +176,9 @@ fn is_record(area: &[i32], waits: &[usize; sets::SETS_SIZE], n: usize, m: usize,
     ensures { λ r. ⌜ r ≡ recordTest (now (area .entry)) p ⌝ }
 {
     let k = places::record_start(n, m, p);
+    if !has_numbers(area, k) {
+        return false;
+    }
     let x = words::record_at(area, k);
     if !steps::is_in_range(x) {
         return false;
@@ -170,18 +191,6 @@ fn is_record(area: &[i32], waits: &[usize; sets::SETS_SIZE], n: usize, m: usize,
         if !joined(waits, p, father) {
             return false;
         }
-    }
-    if !word_tests::is_number(area[k + places::FLAGS]) {
-        return false;
-    }
-    if words::number(area[k + places::FLAGS]) > 7 {
-        return false;
-    }
-    if !word_tests::is_number(area[k + places::NUM]) {
-        return false;
-    }
-    if !word_tests::is_number(area[k + places::FATHER]) {
-        return false;
     }
     word_tests::is_free(area, k + places::RECORD_USED, k + places::RECORD_SIZE)
 }

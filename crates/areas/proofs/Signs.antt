@@ -6,6 +6,7 @@
 --   word-none, word-some     == bits that are 0 are those of the word 0, and others are not
 --   word-not                 == other bits are those of another word
 --   word-same                == two words have the same bits exactly if they are the same
+--   counts-read, counts-of   == a word of 0 or more is one when it is read back; a number is one
 --   word-high, word-low, word-low-number   == a word that is not below 0, and one that is
 -- Assumes nothing.
 use Prim.Native.Nat.{ℕ, suc, _+_, _-_, _^_, _<_}
@@ -21,6 +22,7 @@ use borrow.Author.Tests.{eq-eqb, ne-eqb, le-ltb}
 use Rattle.base.specs.ChoiceLaws.{same?}
 use Rattle.base.specs.Checks.{Same, same, apart}
 use Rattle.steps.proofs.Counts.{signed-back}
+use Rattle.areas.specs.Used.{Counts}
 use Rattle.areas.specs.Area.{sameWord}
 use Rattle.areas.specs.WordTestLaws.{both-leb}
 
@@ -59,6 +61,12 @@ word-same (negsuc a) (negsuc b) h k = at (same? a b)
     at : Same a b → eqb (2 ^ 32 - suc a) (2 ^ 32 - suc b) ≡ (leb b a && leb a b)
     at (same e q) = rw e (eq-eqb (2 ^ 32 - suc b) (2 ^ 32 - suc b) refl ∙ sym (both-leb b b ∙ eq-eqb b b refl))
     at (apart e q) = ne-eqb (2 ^ 32 - suc a) (2 ^ 32 - suc b) (λ p. e (omega arith)) ∙ sym (both-leb b a ∙ ne-eqb b a (λ p. e (sym p)))
+
+pub counts-read : (z : ℤ) → mag z < 2 ^ 31 → Counts z → Counts (toZ w32 (ofZ w32 z))
+counts-read z h e = rw (signed-back z h) e
+
+pub counts-of : (z : ℤ) (n : ℕ) → z ≡ pos n → Counts z
+counts-of z n e = rw e
 
 pub word-high : (z : ℤ) → leZ (pos 0) z ≡ true → T (nonNeg z)
 word-high (pos n) e = tt

@@ -14,6 +14,7 @@ ghost use Rattle.steps.specs.Step.{small, inRange, countSmall};
 ghost use Rattle.areas.specs.Used.{recordUsed};
 ghost use Rattle.areas.specs.Area.{recordWord, lifted, codeOf, recordAt, lowered, messageOf, messagesAt};
 ghost use Rattle.areas.specs.Writes.{recordWords, Packed, movedDown};
+ghost use Rattle.areas.specs.Used.{Counts, Counted};
 
 // A word as a number, without its sign.
 pub fn number(word: i32) -> u32
@@ -26,12 +27,20 @@ pub fn number(word: i32) -> u32
     }
 }
 
+// A word of 0 or more as a number.
+pub fn unsigned(word: i32) -> u32
+    requires { ⌜ Counts word ⌝ }
+    ensures { λ r. ⌜ r ≡ natAbs word ⌝ }
+{
+    word as u32
+}
+
 // A count as a number.
 fn lifted(count: i32) -> u32
     requires { ⌜ small count ≡ true ⌝ }
     ensures { λ r. ⌜ r ≡ lifted count ⌝ }
 {
-    number(places::COUNT_ZERO + count)
+    unsigned(places::COUNT_ZERO + count)
 }
 
 // The count that stands as this number.
@@ -42,11 +51,12 @@ fn lowered(code: u32) -> i32
     code as i32 - places::COUNT_ZERO
 }
 
-// The message of a word that is not 0.
+// The message of a word above 0.
 pub fn message_of(word: i32) -> Message
+    requires { ⌜ Counts word ⌝ }
     ensures { λ r. ⌜ r ≡ messageOf word ⌝ }
 {
-    let code = number(word);
+    let code = unsigned(word);
     if code == 1 {
         return Message::Suc;
     }
@@ -87,19 +97,20 @@ pub fn link_length(area: &[i32], i: usize, slots: usize) -> usize
     l
 }
 
-// The record at word k.
+// The record at word k, whose flags, num and father are 0 or more.
 pub fn record_at(area: &[i32], k: usize) -> Process
     requires { ⌜ k + recordUsed ≤ length (now area) ⌝ }
+    requires { ⌜ Counted (now area) k ⌝ }
     ensures { λ r. ⌜ r ≡ recordAt (now (area .entry)) k ⌝ }
 {
-    let flags = number(area[k + places::FLAGS]);
+    let flags = unsigned(area[k + places::FLAGS]);
     Process {
         succeeding: flags % 2,
         preceding: flags / 2 % 2,
         subordinate: flags / 4 % 2,
         cs: area[k + places::CS],
-        num: number(area[k + places::NUM]),
-        father: number(area[k + places::FATHER]),
+        num: unsigned(area[k + places::NUM]),
+        father: unsigned(area[k + places::FATHER]),
         second: area[k + places::SECOND],
     }
 }

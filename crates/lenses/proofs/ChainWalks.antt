@@ -1,5 +1,5 @@
 -- Chains of the copied table in a tested area, arc by arc.
---   field-is            == what `number` says of a field's word that was read back
+--   field-is            == what `unsigned` says of a field's word that was read back
 --   ready-right, ready-process, ahead-arc, ahead-far   == the area's table, its processes, an arc that is met and its far end
 --   toGo c t k          == the arcs of a chain from arc k on
 --   ends c t ks q       == how many of the arcs ks have q as their far end

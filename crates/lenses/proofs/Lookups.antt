@@ -1,7 +1,7 @@
 -- What the code of a delivery reads off a tested area: the start, the records, and the messages on a link.
 --   start-right, process-right   == the start is a process, and the record of a process is in range
---   num-is                    == what `number` says of the word of num in a record
---   none-here, beyond-here, empty-here, message-here   == what waits at a place of a link, by the words of the link
+--   num-is                    == what `unsigned` says of the word of num in a record
+--   none-here, beyond-here, empty-here, word-counts, message-here   == what waits at a place of a link, by the words of the link
 --   free-here, full-here      == whether so many slots of a link are free, by one word
 --   waits-here, none-waits    == whether a message waits on a link, by its first word
 -- Assumes nothing.
@@ -20,16 +20,17 @@ use Rattle.base.specs.ChoiceLaws.{below?}
 use Rattle.base.specs.Checks.{Below, below, beyond}
 use Rattle.machine.specs.Calls.{waiting}
 use Rattle.steps.specs.declared.Message.{Message}
+use Rattle.steps.specs.declared.Message.the-variants.{Suc, Pre, Ack}
 use Rattle.steps.specs.declared.Process.{Process}
-use Rattle.steps.specs.Step.{inRange}
+use Rattle.steps.specs.Step.{inRange, countSmall}
 use Rattle.checks.specs.Run.{knot}
 use Rattle.machine.specs.FormedLaws.{wellFormed-P}
 use Rattle.machine.specs.Among.{Here}
 use Rattle.machine.specs.AmongLaws.{atPlace-here}
 use Rattle.checks.specs.RunLaws.{formed-range}
 use Rattle.areas.specs.Places.{numPlace, recordStart}
-use Rattle.areas.specs.Used.{linkSlots}
-use Rattle.areas.specs.Area.{fieldsIn, messageOf, runIn}
+use Rattle.areas.specs.Used.{linkSlots, Counts}
+use Rattle.areas.specs.Area.{codeOf, fieldsIn, messageOf, runIn}
 use Rattle.areas.specs.CodeLaws.{messageOf-codeOf}
 use Rattle.areas.specs.Squares.{Linked}
 use Rattle.lenses.specs.Ready.{Ready}
@@ -41,6 +42,13 @@ use Rattle.lenses.specs.ChangeLaws.{link-message}
 use Rattle.lenses.specs.StandingLaws.{standing-none, standing-beyond, standing-cut, slot-cut}
 use Rattle.lenses.proofs.Stores.{read-process, slot-word, slot-some, slot-none}
 use Rattle.steps.proofs.Counts.{signed-back}
+
+-- the word of a message is above 0
+codeOf-counts : (m : Message) → countSmall m ≡ true → Counts (codeOf m)
+unfolding codeOf
+codeOf-counts Suc h = refl
+codeOf-counts Pre h = refl
+codeOf-counts (Ack c) h = refl
 
 some-waits : (ms : List Message) → 1 ≤ length ms → waiting ms ≡ true
 some-waits [] h = absurd (omega arith)
@@ -56,7 +64,7 @@ module _ {w : List ℤ} {n m : ℕ} (y : Ready w n m) where
       let g = wellFormed-P knot (runIn w) .0 (right-storable w (y .right) .formed) in
       (g .start-in .0, omega (arith, g .start-in, ready-n y))
 
-  -- what `number` says of the word of num in a record
+  -- what `unsigned` says of the word of num in a record
   pub num-is : {r p k : ℕ} → (1 ≤ p) × (p ≤ n) → k ≡ recordStart n m p → mag (getD w (k + numPlace) (pos 0)) < 2 ^ 31
       → r ≡ natAbs (toZ w32 (ofZ w32 (getD w (k + numPlace) (pos 0)))) → r ≡ runIn w .process p .num
   num-is {k = k} l e h f =
@@ -111,12 +119,21 @@ module _ {w : List ℤ} {n m : ℕ} (y : Ready w n m) where
           here : Here p (runIn w .link a b)
           here = atPlace-here p (runIn w .link a b) (omega (arith, lo)) inside
 
+          word-is : getD w (i + (p - 1)) (pos 0) ≡ codeOf (here .message)
+          word-is = slot-word y k (p - 1) (omega (arith, lo)) ∙ slot-cut p (runIn w .link a b) (here .is)
+
+          message-small : countSmall (here .message) ≡ true
+          message-small = link-message (fieldsIn w) (runIn w) (right-storable w (y .right)) a b (here .among)
+
+          pub word-counts : Counts (getD w (i + (p - 1)) (pos 0))
+          word-counts = rw word-is (codeOf-counts (here .message) message-small)
+
           pub message-here : AtPlace.Message (messageOf (getD w (i + (p - 1)) (pos 0))) ≡ standing p (runIn w .link a b)
           message-here =
               ap (λ (z : ℤ). AtPlace.Message (messageOf z))
-              (slot-word y k (p - 1) (omega (arith, lo)) ∙ slot-cut p (runIn w .link a b) (here .is))
+              word-is
               ∙ ap AtPlace.Message
-              (messageOf-codeOf (here .message) (link-message (fieldsIn w) (runIn w) (right-storable w (y .right)) a b (here .among)))
+              (messageOf-codeOf (here .message) message-small)
               ∙ sym (standing-cut p (runIn w .link a b) (here .is))
 
     -- whether k slots are free

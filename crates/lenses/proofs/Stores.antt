@@ -1,5 +1,6 @@
 -- What code knows of a tested area: where its records and links stand, and what a store at one of these places leaves.
 --   long                      == the area has the words for its N and M
+--   start-counts, edition-counts, count-counts, field-counts, record-counts   == the words that are numbers of 0 or more
 --   record-asks, record-within    == what is asked for the address of p's record, and that it stands inside
 --   link-small, link-within, link-room   == where a link stands is a small number, inside, and has room
 --   read-process, link-is, slot-word   == the words of a record, and those of a link, are those of the run
@@ -15,20 +16,22 @@ use lib.Seq.{sets}
 use lib.IntN.{ℤ, pos, natAbs}
 use Rattle.base.specs.ChoiceLaws.{below?}
 use Rattle.base.specs.Checks.{Below, below, beyond}
-use Rattle.tables.specs.Table.{mostProcesses, mostArcs}
+use Rattle.tables.specs.Table.{mostProcesses, mostArcs, fieldTotal}
 use Rattle.steps.specs.declared.Message.{Message}
 use Rattle.steps.specs.declared.Message.the-variants.{Suc}
 use Rattle.steps.specs.declared.Process.{Process}
-use Rattle.areas.specs.Places.{countPlace, recordStart, linkSize, areaLength}
+use Rattle.areas.specs.Places.{startPlace, countPlace, editionPlace, fieldPlace, flagsPlace, numPlace, fatherPlace, recordSize, recordStart, linkSize}
+use Rattle.areas.specs.Places.{areaLength}
 use Rattle.areas.specs.Used.{linkSlots}
-use Rattle.areas.specs.Used.{recordUsed}
-use Rattle.areas.specs.Area.{recordPlace, linkOf, codeOf, slotWord, fieldsIn, recordAt, messagesAt, runIn, keeping}
+use Rattle.areas.specs.Used.{recordUsed, Counts, Counted}
+use Rattle.areas.proofs.Signs.{counts-of}
+use Rattle.areas.specs.Area.{recordPlace, linkOf, flagsOf, recordWord, codeOf, slotWord, stored, fieldsIn, recordAt, messagesAt, runIn, keeping}
 use Rattle.areas.specs.Replaced.{putProcess, putLink, putCount}
 use Rattle.areas.specs.Squares.{Linked}
 use Rattle.areas.specs.Writes.{recordWords, movedDown, Packed}
 use Rattle.areas.specs.CodeLaws.{codeOf-some, linkWord-slot, slotWord-past}
 use Rattle.areas.specs.LinkLaws.{slotWord-at, countsSmall-at}
-use Rattle.areas.specs.StoredLaws.{linkOf-fits, stored-link-word}
+use Rattle.areas.specs.StoredLaws.{linkOf-fits, stored-start-word, stored-edition-word, stored-count-word, stored-field-word, stored-record-word, stored-link-word}
 use Rattle.areas.specs.WriteLaws.{stored-count, stored-record, stored-taken, stored-push}
 use Rattle.areas.specs.RunInLaws.{runIn-process, runIn-link}
 use Rattle.areas.specs.AreaLaws.{stored-same, areaRight-table}
@@ -64,6 +67,24 @@ module _ {w : List ℤ} {n m : ℕ} (y : Ready w n m) where
   pub long : areaLength n m ≤ length w
   long = omega (arith, y .n-is, y .m-is, right-long w (y .right))
 
+  -- ---- words of 0 or more
+
+  -- a word that the layout makes a number
+  word-counts : (k n : ℕ) → getD (stored (fieldsIn w) (runIn w) w) k (pos 0) ≡ pos n → Counts (getD w k (pos 0))
+  word-counts k n e = counts-of (getD w k (pos 0)) n (ap (λ (v : List ℤ). getD v k (pos 0)) (sym (stored-same w (y .right))) ∙ e)
+
+  pub start-counts : Counts (getD w startPlace (pos 0))
+  start-counts = word-counts startPlace (runIn w .start) (stored-start-word (fieldsIn w) (runIn w) w (pos 0))
+
+  pub edition-counts : Counts (getD w editionPlace (pos 0))
+  edition-counts = word-counts editionPlace (runIn w .edition) (stored-edition-word (fieldsIn w) (runIn w) w (pos 0))
+
+  pub count-counts : Counts (getD w countPlace (pos 0))
+  count-counts = word-counts countPlace (runIn w .count) (stored-count-word (fieldsIn w) (runIn w) w (pos 0))
+
+  pub field-counts : {j : ℕ} → j < fieldTotal n m → Counts (getD w (fieldPlace j) (pos 0))
+  field-counts {j} h = word-counts (fieldPlace j) (fieldsIn w j) (stored-field-word (fieldsIn w) (runIn w) w j (pos 0) (omega (arith, y .n-is, y .m-is)))
+
   -- ---- records
 
   module _ {p : ℕ} (l : (1 ≤ p) × (p ≤ n)) where
@@ -77,6 +98,16 @@ module _ {w : List ℤ} {n m : ℕ} (y : Ready w n m) where
 
       pub record-within : k + recordUsed ≤ length w
       record-within = omega (arith, long)
+
+      pub record-counts : Counted w k
+      record-counts =
+          let at : (j : ℕ) → j < recordSize → getD (stored (fieldsIn w) (runIn w) w) (k + j) (pos 0) ≡ recordWord (runIn w .process p) j =
+          λ j h. rw record-place (stored-record-word (fieldsIn w) (runIn w) w p j (pos 0) (l .0) (omega (arith, l .1, y .n-is)) h) in
+          record {
+            flags = word-counts (k + flagsPlace) (flagsOf (runIn w .process p)) (at flagsPlace (omega arith));
+            num = word-counts (k + numPlace) (runIn w .process p .num) (at numPlace (omega arith));
+            father = word-counts (k + fatherPlace) (runIn w .process p .father) (at fatherPlace (omega arith));
+          }
 
       pub read-process : recordAt w k ≡ runIn w .process p
       read-process = rw record-place (sym (runIn-process w p (l .0, omega (arith, y .n-is))))

@@ -16,7 +16,7 @@ fn field_in(area: &[i32], n: usize, m: usize, j: usize) -> usize
     requires { ⌜ j < fieldTotal n m ⌝ }
     ensures { λ r. ⌜ r ≡ fieldsIn (now (area .entry)) j ⌝ }
 {
-    words::number(area[places::field_place(j)]) as usize
+    words::unsigned(area[places::field_place(j)]) as usize
 }
 
 // The first arc of the chain of p, or 0.

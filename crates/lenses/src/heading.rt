@@ -15,7 +15,7 @@ pub fn n_of(area: &[i32]) -> usize
     requires { ⌜ areaRight (now area) ≡ true ⌝ }
     ensures { λ r. ⌜ r ≡ nOf (fieldsIn (now (area .entry))) ⌝ }
 {
-    words::number(area[places::N_PLACE]) as usize
+    words::unsigned(area[places::N_PLACE]) as usize
 }
 
 // Its M.
@@ -23,7 +23,7 @@ pub fn m_of(area: &[i32]) -> usize
     requires { ⌜ areaRight (now area) ≡ true ⌝ }
     ensures { λ r. ⌜ r ≡ mOf (fieldsIn (now (area .entry))) ⌝ }
 {
-    words::number(area[places::M_PLACE]) as usize
+    words::unsigned(area[places::M_PLACE]) as usize
 }
 
 // The start process.
@@ -31,7 +31,7 @@ pub fn start_of(area: &[i32], n: usize, m: usize) -> usize
     requires { ⌜ Ready (now area) n m ⌝ }
     ensures { λ r. ⌜ r ≡ runIn (now (area .entry)) .start ⌝ }
 {
-    words::number(area[places::START]) as usize
+    words::unsigned(area[places::START]) as usize
 }
 
 // The edition named at start (02, N4).
@@ -39,7 +39,7 @@ pub fn edition_of(area: &[i32], n: usize, m: usize) -> u32
     requires { ⌜ Ready (now area) n m ⌝ }
     ensures { λ r. ⌜ r ≡ runIn (now (area .entry)) .edition ⌝ }
 {
-    words::number(area[places::EDITION])
+    words::unsigned(area[places::EDITION])
 }
 
 // The accepted deliveries.
@@ -47,7 +47,7 @@ pub fn count_of(area: &[i32], n: usize, m: usize) -> u32
     requires { ⌜ Ready (now area) n m ⌝ }
     ensures { λ r. ⌜ r ≡ runIn (now (area .entry)) .count ⌝ }
 {
-    words::number(area[places::COUNT])
+    words::unsigned(area[places::COUNT])
 }
 
 // Sets the number of accepted deliveries.
@@ -66,5 +66,5 @@ pub fn is_over(area: &[i32], n: usize, m: usize) -> bool
 {
     let s = start_of(area, n, m);
     let k = places::record_start(n, m, s);
-    words::number(area[k + places::NUM]) == 0
+    words::unsigned(area[k + places::NUM]) == 0
 }

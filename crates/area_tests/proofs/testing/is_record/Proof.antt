@@ -1,28 +1,23 @@
 -- `area_tests::testing::is_record` meets its contract: each way out fails a part of the test, and the last passes all but the zeros.
 -- Assumes nothing.
-use Prim.Native.Nat.{ℕ, _+_, _^_, _≤_, _<_}
+use Prim.Native.Nat.{ℕ, _+_, _≤_}
 use mathlib.Core.Bool.{Bool, true, false≢true}
-use mathlib.Core.List.{List}
 use mathlib.Core.Logic.{⊎-elim}
-use mathlib.Core.Path.{_≡_, sym, _∙_}
+use mathlib.Core.Path.{_≡_, refl, sym, _∙_}
 use native.Mathlib.Omega.{arith}
 use borrow.Author.Needs.{needs}
 use borrow.Author.Tests.{not-false}
-use lib.IntN.{ℤ, pos, natAbs}
-use lib.ListN.{length, getD}
-use lib.Signed.{mag}
-use mir.Syntax.{w32}
-use mir.Val.{toZ, ofZ}
+use lib.ListN.{length}
 use Rattle.base.specs.ChoiceLaws.{value-yes}
 use Rattle.tables.specs.Waits.{waitsOf}
 use Rattle.checks.specs.Run.{fatherRight}
-use Rattle.areas.specs.Places.{flagsPlace, numPlace, fatherPlace, recordSize}
-use Rattle.areas.specs.Area.{recordPlace, numberAt, fieldsIn, sameWord}
+use Rattle.areas.specs.Places.{recordSize}
+use Rattle.areas.specs.Area.{recordPlace, fieldsIn, recordAt}
 use Rattle.areas.specs.Tells.{Tells}
-use Rattle.area_tests.specs.AreaTests.{counts, recordTest}
+use Rattle.area_tests.specs.AreaTests.{recordTest}
 use Rattle.area_tests.specs.AreaTestsLaws.{sizesTest-P}
-use Rattle.areas.proofs.Signs.{word-read}
 use Rattle.area_tests.proofs.Ways.{tells-no, tells-last, failing, fatherRight-none, fatherRight-over, fatherRight-joined, RecordParts, recordTest-parts}
+use Rattle.area_tests.proofs.Ways.{NumberParts, numbersTest-parts, numbers-counted}
 use Rattle.area_tests.proofs.testing.is_record.Statement.{statement}
 use Rattle.area_tests.proofs.testing.is_record.Tie as tie
 
@@ -50,132 +45,90 @@ record-start-requires c κs =
     let p = c .pre .1 .1 .1 .1 in
     (omega arith, omega arith)
 
--- the test in its parts
-abbrev Parts : tie.After-record-at → Type 0
-Parts c = RecordParts (c .before .before .args .area .now) (c .before .before .args .p) (word (c .before)) (c .record-at .result)
-
-parts : (c : tie.After-record-at) → Tells (recordTest (c .before .before .args .area .now) (c .before .before .args .p)) (Parts c)
-parts c =
-    let a = c .before .before .args in
-    recordTest-parts (a .area .now) (a .p) (word (c .before)) (c .record-at .result) (word-is (c .before)) (c .record-at .ensures)
+-- the words that are to be numbers
+numbers : (h : tie.After-has-numbers) → h .has-numbers .result ≡ true → NumberParts (h .before .before .args .area .now) (word (h .before))
+numbers h e = numbersTest-parts (h .before .before .args .area .now) (word (h .before)) .0 (sym (h .has-numbers .ensures) ∙ e)
 
 returns : tie.Need-returns
-returns c = sym (tells-no (parts (c .before .before)) (λ s. failing (c .before .is-in-range .ensures) (c .if1 .taken) (s .values)))
+returns c =
+    let h = c .before in
+    let a = h .before .before .args in
+    let k = word (h .before) in
+    sym
+    (tells-no (recordTest-parts (a .area .now) (a .p) k (recordAt (a .area .now) k) (word-is (h .before)) refl)
+    (λ s. failing (h .has-numbers .ensures) (c .if1 .taken)
+    (numbersTest-parts (a .area .now) k .1 (record { flags = s .flags; bits = s .bits; num-word = s .num-word; father-word = s .father-word }))))
+
+-- where the record stands, and the start
+abbrev place : tie.After-record-at → tie.After-record-start
+place r = r .before .before .before
+
+-- the test in its parts
+abbrev Parts : tie.After-record-at → Type 0
+Parts r = RecordParts (place r .before .args .area .now) (place r .before .args .p) (word (place r)) (r .record-at .result)
+
+parts : (r : tie.After-record-at) → Tells (recordTest (place r .before .args .area .now) (place r .before .args .p)) (Parts r)
+parts r =
+    let a = place r .before .args in
+    recordTest-parts (a .area .now) (a .p) (word (place r)) (r .record-at .result) (word-is (place r)) (r .record-at .ensures)
+
+returns-2 : tie.Need-returns-2
+returns-2 c = sym (tells-no (parts (c .before .before)) (λ s. failing (c .before .is-in-range .ensures) (c .if2 .taken) (s .values)))
 
 -- ---- the father
 
 abbrev Father : tie.After-record-at → Bool
-Father r = fatherRight (waitsOf (fieldsIn (r .before .before .args .area .now))) (r .before .before .args .p) (r .record-at .result)
+Father r = fatherRight (waitsOf (fieldsIn (place r .before .args .area .now))) (place r .before .args .p) (r .record-at .result)
 
-returns-2 : tie.Need-returns-2
-returns-2 c =
+returns-3 : tie.Need-returns-3
+returns-3 c =
     let r = c .before .before .before .before .before in
-    let a = r .before .before in
+    let a = place r .before in
     let over = fatherRight-over (a .args .area .now) (a .args .waits .now) (a .pre .1 .1 .0) (a .pre .1 .0) (a .args .p) (r .record-at .result) in
-    sym (tells-no (parts r) (λ s. false≢true (sym (over (omega (arith, c .if3 .taken, a .pre .1 .1 .1 .0 .0))) ∙ s .father)))
+    sym (tells-no (parts r) (λ s. false≢true (sym (over (omega (arith, c .if4 .taken, a .pre .1 .1 .1 .0 .0))) ∙ s .father)))
 
 -- what the sets say of a father that is not 0
 by-sets : (c : tie.After-joined) → c .joined .result ≡ Father (c .before .before .before .before .before .before)
 by-sets c =
     let r = c .before .before .before .before .before .before in
-    let a = r .before .before in
+    let a = place r .before in
     let n = a .pre .1 .1 .0 .sizes .1 in
     let e = a .pre .1 .1 .1 .0 .0 in
     fatherRight-joined (a .args .area .now) (a .args .waits .now) (a .pre .1 .1 .0) (a .pre .1 .0) (a .args .p) (r .record-at .result)
-    (c .before .before .if2 .taken)
+    (c .before .before .if3 .taken)
     (omega (arith, a .pre .1 .1 .1 .1))
-    (omega (arith, c .before .before .if2 .taken, c .before .if3 .left))
+    (omega (arith, c .before .before .if3 .taken, c .before .if4 .left))
     (c .joined .ensures)
-
-returns-3 : tie.Need-returns-3
-returns-3 c =
-    sym (tells-no (parts (c .before .before .before .before .before .before .before)) (λ s. failing (by-sets (c .before)) (c .if4 .taken) (s .father)))
-
--- what the ways that met there say of the father
-father : (c : tie.Joined2) → Father (c .before .before .before .before) ≡ true
-father c =
-    let r = c .before .before .before .before in
-    let a = r .before .before in
-    ⊎-elim
-    (λ v. sym (by-sets (record { before = record { before = record { before = c .before; if2 = v .0 }; if3 = v .1 }; joined = v .2 }))
-    ∙ not-false (v .2 .result) (v .3 .left))
-    (λ v. fatherRight-none (a .args .area .now) (a .args .waits .now) (a .pre .1 .1 .0) (a .pre .1 .0) (a .args .p) (r .record-at .result) (v .left))
-    (c .if2 .came)
-
--- ---- the words
-
--- the words of the area
-abbrev area : tie.After-record-start → List ℤ
-area k = k .before .args .area .now
-
-abbrev at-flags-sign : tie.After-is-number → tie.After-record-start
-at-flags-sign c = c .before .before .before .before .before .before .before
-
-abbrev at-flags : tie.After-number → tie.After-record-start
-at-flags c = c .before .before .before .before .before .before .before .before .before .before
-
-abbrev at-num : tie.After-is-number2 → tie.After-record-start
-at-num c = c .before .before .before .before .before .before .before .before .before .before .before .before .before
-
-abbrev at-father : tie.After-is-number3 → tie.After-record-start
-at-father c = c .before .before .before .before .before .before .before .before .before .before .before .before .before .before .before .before
-
--- whether a word that was read is a number of 0 or more
-abbrev counted : ℤ → Bool
-counted z = sameWord z (pos (natAbs z))
-
-sign : {r : Bool} (w : List ℤ) (k : ℕ) → mag (getD w k (pos 0)) < 2 ^ 31 → r ≡ counted (toZ w32 (ofZ w32 (getD w k (pos 0)))) → r ≡ counts w k
-sign w k h e = word-read counted (getD w k (pos 0)) h e
-
-flags-sign : (c : tie.After-is-number) → c .is-number .result ≡ counts (area (at-flags-sign c)) (word (at-flags-sign c) + flagsPlace)
-flags-sign c = sign (area (at-flags-sign c)) (word (at-flags-sign c) + flagsPlace) (c .before .is-number-arg .given) (c .is-number .ensures)
-
-flags : (c : tie.After-number) → c .number .result ≡ numberAt (area (at-flags c)) (word (at-flags c) + flagsPlace)
-flags c = word-read natAbs (getD (area (at-flags c)) (word (at-flags c) + flagsPlace) (pos 0)) (c .before .number-arg .given) (c .number .ensures)
-
-num-sign : (c : tie.After-is-number2) → c .is-number2 .result ≡ counts (area (at-num c)) (word (at-num c) + numPlace)
-num-sign c = sign (area (at-num c)) (word (at-num c) + numPlace) (c .before .is-number-arg2 .given) (c .is-number2 .ensures)
-
-father-sign : (c : tie.After-is-number3) → c .is-number3 .result ≡ counts (area (at-father c)) (word (at-father c) + fatherPlace)
-father-sign c = sign (area (at-father c)) (word (at-father c) + fatherPlace) (c .before .is-number-arg3 .given) (c .is-number3 .ensures)
 
 returns-4 : tie.Need-returns-4
 returns-4 c =
-    sym (tells-no (parts (c .before .before .before .before .before .before .before)) (λ s. failing (flags-sign (c .before)) (c .if5 .taken) (s .flags)))
+    sym (tells-no (parts (c .before .before .before .before .before .before .before)) (λ s. failing (by-sets (c .before)) (c .if5 .taken) (s .father)))
+
+-- what the ways that met there say of the father
+father : (c : tie.Joined3) → Father (c .before .before .before .before) ≡ true
+father c =
+    let r = c .before .before .before .before in
+    let a = place r .before in
+    ⊎-elim
+    (λ v. sym (by-sets (record { before = record { before = record { before = c .before; if3 = v .0 }; if4 = v .1 }; joined = v .2 }))
+    ∙ not-false (v .2 .result) (v .3 .left))
+    (λ v. fatherRight-none (a .args .area .now) (a .args .waits .now) (a .pre .1 .1 .0) (a .pre .1 .0) (a .args .p) (r .record-at .result) (v .left))
+    (c .if3 .came)
 
 returns-5 : tie.Need-returns-5
 returns-5 c =
-    sym
-    (tells-no (parts (c .before .before .before .before .before .before .before .before .before .before))
-    (λ s. omega (arith, flags (c .before), c .if6 .taken, s .bits)))
-
-returns-6 : tie.Need-returns-6
-returns-6 c =
-    sym
-    (tells-no (parts (c .before .before .before .before .before .before .before .before .before .before .before .before .before))
-    (λ s. failing (num-sign (c .before)) (c .if7 .taken) (s .num-word)))
-
-returns-7 : tie.Need-returns-7
-returns-7 c =
-    let r = c .before .before .before .before .before .before .before .before .before .before .before .before .before .before .before .before in
-    sym (tells-no (parts r) (λ s. failing (father-sign (c .before)) (c .if8 .taken) (s .father-word)))
-
-returns-8 : tie.Need-returns-8
-returns-8 c =
-    let n3 = c .before .before in
-    let n2 = n3 .before .before .before in
-    let m = n2 .before .before .before in
-    let n1 = m .before .before .before in
-    let j = n1 .before .before in
+    let j = c .before in
     let i = j .before .before .before in
     let r = i .before in
+    let h = r .before in
+    let numbered = numbers (h .before) (not-false (h .before .has-numbers .result) (h .if1 .left)) in
     tells-last (parts r) (λ e. record {
-      values = value-yes (i .is-in-range .ensures) (j .before .before .if1 .left);
+      values = value-yes (i .is-in-range .ensures) (j .before .before .if2 .left);
       father = father j;
-      flags = sym (flags-sign n1) ∙ not-false (n1 .is-number .result) (m .before .before .if5 .left);
-      bits = omega (arith, flags m, n2 .before .before .if6 .left);
-      num-word = sym (num-sign n2) ∙ not-false (n2 .is-number2 .result) (n3 .before .before .if7 .left);
-      father-word = sym (father-sign n3) ∙ not-false (n3 .is-number3 .result) (c .before .if8 .left);
+      flags = numbered .flags;
+      bits = numbered .bits;
+      num-word = numbered .num-word;
+      father-word = numbered .father-word;
       free = sym (c .is-free .ensures) ∙ e;
     }) (λ s. c .is-free .ensures ∙ s .free)
 
@@ -185,45 +138,18 @@ is-record-spec =
     (tie.spec
     record-start-requires
     (λ c κs. omega (arith, within c))
-    (λ c κs. search needs)
     returns
-    (λ c. search needs)
-    returns-2
+    (λ c κs. (
+      omega (arith, within (c .before .before)),
+      numbers-counted _ _ (numbers (c .before) (not-false (c .before .has-numbers .result) (c .if1 .left))),
+    ))
     (λ c κs. search needs)
-    returns-3
-    (λ c. omega (arith, within (c .before .before .before .before .before)))
+    returns-2
     (λ c. search needs)
-    (λ c. omega (arith, within (c .before .before .before .before .before)))
+    returns-3
     (λ c κs. search needs)
     returns-4
-    (λ c. omega (arith, within (c .before .before .before .before .before .before .before .before)))
-    (λ c. search needs)
-    (λ c. omega (arith, within (c .before .before .before .before .before .before .before .before)))
-    (λ c κs. search needs)
-    returns-5
-    (λ c. omega (arith, within (c .before .before .before .before .before .before .before .before .before .before .before)))
-    (λ c. search needs)
-    (λ c. omega (arith, within (c .before .before .before .before .before .before .before .before .before .before .before)))
-    (λ c κs. search needs)
-    returns-6
-    (λ c. omega (arith, within (c .before .before .before .before .before .before .before .before .before .before .before .before .before .before)))
-    (λ c. search needs)
-    (λ c. omega (arith, within (c .before .before .before .before .before .before .before .before .before .before .before .before .before .before)))
-    (λ c κs. search needs)
-    returns-7
-    (λ c. omega (
-      arith,
-      within
-          (c .before .before .before .before .before .before .before .before .before .before .before .before .before .before .before .before .before),
-    ))
-    (λ c. omega (
-      arith,
-      within
-          (c .before .before .before .before .before .before .before .before .before .before .before .before .before .before .before .before .before),
-    ))
-    (λ c κs. omega (
-      arith,
-      within
-          (c .before .before .before .before .before .before .before .before .before .before .before .before .before .before .before .before .before),
-    ))
-    returns-8)
+    (λ c. omega (arith, within (place (c .before .before .before .before))))
+    (λ c. omega (arith, within (place (c .before .before .before .before))))
+    (λ c κs. omega (arith, within (place (c .before .before .before .before))))
+    returns-5)

@@ -9,7 +9,8 @@ use Rattle.base.specs.ChoiceLaws.{value-not, value-yes}
 use Rattle.steps.specs.Step.{countSmall}
 use Rattle.areas.specs.Area.{messageOf, sameWord}
 use Rattle.areas.specs.LinkLaws.{codeOf-messageOf}
-use Rattle.areas.proofs.Signs.{word-read}
+use Rattle.areas.proofs.Signs.{word-read, counts-read}
+use Rattle.areas.specs.WordTestLaws.{sameWord-P}
 use Rattle.area_tests.specs.AreaTests.{messageWord}
 use Rattle.area_tests.proofs.word_tests.is_message.Statement.{statement}
 use Rattle.area_tests.proofs.word_tests.is_message.Tie as tie
@@ -25,6 +26,12 @@ numbered c = word-read (λ z. sameWord z (pos (natAbs z))) (c .before .args .wor
 returns : tie.Need-returns
 returns c = rw (by-number (c .before .before .args .word), value-not (numbered (c .before)) (c .if1 .taken))
 
+message-of-requires : tie.Need-message-of-requires
+message-of-requires c κs =
+    let called = c .before in
+    let z = called .before .args .word in
+    counts-read z (called .before .fits .word .sfits) (sameWord-P z (pos (natAbs z)) .0 (value-yes (numbered called) (c .if1 .left)))
+
 returns-2 : tie.Need-returns-2
 returns-2 c =
     let else = c .before .before in
@@ -34,4 +41,4 @@ returns-2 c =
     (c .is-count-small .ensures ∙ ap countSmall (word-read messageOf z (called .before .fits .word .sfits) (c .before .message-of .ensures)))
 
 pub is-message-spec : {M : Type 1} → statement M
-is-message-spec = tie.close (tie.spec (λ c κs. search needs) returns (λ c κs. search needs) (λ c κs. search needs) returns-2)
+is-message-spec = tie.close (tie.spec (λ c κs. search needs) returns message-of-requires (λ c κs. search needs) returns-2)

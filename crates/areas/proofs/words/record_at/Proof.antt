@@ -27,10 +27,10 @@ returns c =
     let w = a .area .now in
     let k = a .k in
     rw (
-      numbered w (k + flagsPlace) (read .before .before .number-arg .given) (read .before .number .ensures),
+      numbered w (k + flagsPlace) (read .before .before .unsigned-arg .given) (read .before .unsigned .ensures),
       signed-back (getD w (k + csPlace) (pos 0)) (read .t7 .given),
-      numbered w (k + numPlace) (last .before .before .before .number-arg2 .given) (last .before .before .number2 .ensures),
-      numbered w (k + fatherPlace) (last .before .number-arg3 .given) (last .number3 .ensures),
+      numbered w (k + numPlace) (last .before .before .before .unsigned-arg2 .given) (last .before .before .unsigned2 .ensures),
+      numbered w (k + fatherPlace) (last .before .unsigned-arg3 .given) (last .unsigned3 .ensures),
       signed-back (getD w (k + secondPlace) (pos 0)) (c .t27 .given),
     )
 

@@ -8,8 +8,9 @@ use lib.ListN.{length}
 use Rattle.areas.specs.Places.{recordStart}
 use Rattle.areas.specs.Used.{recordUsed}
 use Rattle.areas.specs.Area.{runIn}
+use Rattle.areas.proofs.Signs.{counts-read}
 use Rattle.machine.specs.Machine as Machines
-use Rattle.lenses.proofs.Stores.{record-asks, record-within}
+use Rattle.lenses.proofs.Stores.{record-asks, record-within, record-counts}
 use Rattle.lenses.proofs.Lookups.{start-right, num-is}
 use Rattle.lenses.proofs.heading.is_over.Statement.{statement}
 use Rattle.lenses.proofs.heading.is_over.Tie as tie
@@ -32,7 +33,7 @@ unfolding Machines.over
 returns c =
     let k = c .before .before in
     let y = k .before .before .pre in
-    rw (num-is y (start-right y) (place k) (c .before .number-arg .given) (c .number .ensures))
+    rw (num-is y (start-right y) (place k) (c .before .unsigned-arg .given) (c .unsigned .ensures))
 
 pub is-over-spec : {M : Type 1} → statement M
 is-over-spec =
@@ -43,5 +44,8 @@ is-over-spec =
     (λ c. search (needs, within c))
     (λ c. search (needs, within c))
     (λ c. omega (arith, within c))
-    (λ c κs. search needs)
+    (λ c κs.
+    let k = c .before in
+    let y = k .before .before .pre in
+    counts-read _ (c .unsigned-arg .given) (record-counts y (start-right y) (place k) .num))
     returns)

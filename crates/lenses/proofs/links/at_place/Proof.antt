@@ -12,10 +12,10 @@ use Rattle.steps.proofs.Counts.{signed-back}
 use Rattle.areas.specs.Area.{messageOf}
 use Rattle.tables.specs.Table.{mostProcesses, mostArcs}
 use Rattle.areas.specs.Places.{areaLength}
-use Rattle.areas.proofs.Signs.{word-none, word-some}
+use Rattle.areas.proofs.Signs.{word-none, word-some, counts-read}
 use Rattle.lenses.specs.declared.links.AtPlace.{AtPlace}
 use Rattle.lenses.proofs.Stores.{link-small, link-within}
-use Rattle.lenses.proofs.Lookups.{none-here, beyond-here, empty-here, message-here}
+use Rattle.lenses.proofs.Lookups.{none-here, beyond-here, empty-here, word-counts, message-here}
 use Rattle.lenses.proofs.links.at_place.Statement.{statement}
 use Rattle.lenses.proofs.links.at_place.Tie as tie
 
@@ -44,6 +44,13 @@ returns-4 c =
     let s = l .before .before .before .before in
     empty-here (s .pre .0) (s .pre .1) (some (l .before .before)) (s .args .place) (l .before .if2 .left) (l .if3 .left)
     (word-none _ (c .before .word .given) (c .if4 .taken))
+
+message-of-requires : tie.Need-message-of-requires
+message-of-requires c κs =
+    let l = c .before .before in
+    let s = l .before .before .before .before in
+    counts-read _ (c .before .word .given)
+    (word-counts (s .pre .0) (s .pre .1) (some (l .before .before)) (s .args .place) (l .before .if2 .left) (l .if3 .left) (word-some _ (c .if4 .left)))
 
 returns-5 : tie.Need-returns-5
 returns-5 c =
@@ -74,5 +81,5 @@ at-place-spec =
     (λ c. omega (arith, inside c))
     (λ c. inside c .1)
     returns-4
-    (λ c κs. search needs)
+    message-of-requires
     returns-5)

@@ -1,7 +1,7 @@
 -- `lenses::records::process` meets its contract: the words of the record stand inside the area, and those in use are read.
 -- Assumes nothing.
 use mathlib.Core.Path.{_∙_}
-use Rattle.lenses.proofs.Stores.{record-asks, record-within, read-process}
+use Rattle.lenses.proofs.Stores.{record-asks, record-within, record-counts, read-process}
 use Rattle.lenses.proofs.records.process.Statement.{statement}
 use Rattle.lenses.proofs.records.process.Tie as tie
 
@@ -15,5 +15,7 @@ process-spec =
     tie.close
     (tie.spec
     (λ c κs. record-asks (c .pre .0) (c .pre .1))
-    (λ c κs. record-within (c .before .pre .0) (c .before .pre .1) (c .record-start .ensures))
+    (λ c κs.
+    let s = c .before in
+    (record-within (s .pre .0) (s .pre .1) (c .record-start .ensures), record-counts (s .pre .0) (s .pre .1) (c .record-start .ensures)))
     returns)
