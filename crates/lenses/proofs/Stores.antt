@@ -1,4 +1,5 @@
 -- What code knows of a tested area: where its records and links stand, and what a store at one of these places leaves.
+--   ready-own                 == by its own N and M a tested area is ready
 --   long                      == the area has the words for its N and M
 --   start-counts, edition-counts, count-counts, field-counts, record-counts   == the words that are numbers of 0 or more
 --   record-asks, record-within    == what is asked for the address of p's record, and that it stands inside
@@ -8,6 +9,7 @@
 --   store-process, store-take, store-push, store-count   == what is left by a store is the area with a changed run in it
 -- Assumes nothing.
 use Prim.Native.Nat.{ℕ, zero, suc, _+_, _-_, _≤_, _<_}
+use mathlib.Core.Bool.{true}
 use mathlib.Core.List.{List, [], _∷_, _++_}
 use mathlib.Core.Path.{_≡_, refl, sym, ap, _∙_}
 use native.Mathlib.Omega.{arith}
@@ -16,7 +18,7 @@ use lib.Seq.{sets}
 use lib.IntN.{ℤ, pos, natAbs}
 use Rattle.base.specs.ChoiceLaws.{below?}
 use Rattle.base.specs.Checks.{Below, below, beyond}
-use Rattle.tables.specs.Table.{mostProcesses, mostArcs, fieldTotal}
+use Rattle.tables.specs.Table.{nOf, mOf, mostProcesses, mostArcs, fieldTotal}
 use Rattle.steps.specs.declared.Message.{Message}
 use Rattle.steps.specs.declared.Message.the-variants.{Suc}
 use Rattle.steps.specs.declared.Process.{Process}
@@ -25,7 +27,7 @@ use Rattle.areas.specs.Places.{areaLength}
 use Rattle.areas.specs.Used.{linkSlots}
 use Rattle.areas.specs.Used.{recordUsed, Counts, Counted}
 use Rattle.areas.proofs.Signs.{counts-of}
-use Rattle.areas.specs.Area.{recordPlace, linkOf, flagsOf, recordWord, codeOf, slotWord, stored, fieldsIn, recordAt, messagesAt, runIn, keeping}
+use Rattle.areas.specs.Area.{recordPlace, linkOf, flagsOf, recordWord, codeOf, slotWord, stored, fieldsIn, recordAt, messagesAt, runIn, keeping, areaRight}
 use Rattle.areas.specs.Replaced.{putProcess, putLink, putCount}
 use Rattle.areas.specs.Squares.{Linked}
 use Rattle.areas.specs.Writes.{recordWords, movedDown, Packed}
@@ -62,6 +64,9 @@ slot-behind k [] j h = refl
 slot-behind zero (m ∷ ms) j h = refl
 slot-behind (suc k) (m ∷ ms) zero h = absurd (omega arith)
 slot-behind (suc k) (m ∷ ms) (suc j) h = rw (stays-past m ms (behind k ms)) (slot-behind k ms j (omega arith))
+
+pub ready-own : (w : List ℤ) → areaRight w ≡ true → Ready w (nOf (fieldsIn w)) (mOf (fieldsIn w))
+ready-own w e = record { right = e; n-is = refl; m-is = refl }
 
 module _ {w : List ℤ} {n m : ℕ} (y : Ready w n m) where
   pub long : areaLength n m ≤ length w

@@ -1,6 +1,6 @@
 -- `lenses::heading::m_of` meets its contract: the word is that of the table's field.
 -- Assumes nothing.
-use mathlib.Core.Path.{refl, sym, _∙_}
+use mathlib.Core.Path.{sym, _∙_}
 use native.Mathlib.Omega.{arith}
 use borrow.Author.Needs.{needs}
 use lib.IntN.{pos, natAbs}
@@ -8,17 +8,10 @@ use lib.ListN.{getD}
 use Rattle.areas.specs.Places.{fieldPlace}
 use Rattle.areas.specs.RunInLaws.{fieldsIn-m}
 use Rattle.areas.proofs.Signs.{word-read, counts-read}
-use Rattle.tables.specs.Table.{nOf, mOf}
-use Rattle.areas.specs.Area.{fieldsIn}
-use Rattle.lenses.specs.Ready.{Ready}
-use Rattle.lenses.proofs.Stores.{field-counts}
+use Rattle.lenses.proofs.Stores.{ready-own, field-counts}
 use Rattle.lenses.specs.ReadyLaws.{right-long}
 use Rattle.lenses.proofs.heading.m_of.Statement.{statement}
 use Rattle.lenses.proofs.heading.m_of.Tie as tie
-
--- by its own N and M the area is ready
-ready : (s : tie.Start) → Ready (s .args .area .now) (nOf (fieldsIn (s .args .area .now))) (mOf (fieldsIn (s .args .area .now)))
-ready s = record { right = s .pre; n-is = refl; m-is = refl }
 
 returns : tie.Need-returns
 returns c =
@@ -30,5 +23,5 @@ m-of-spec =
     tie.close
     (tie.spec
     (λ c. omega (arith, right-long (c .args .area .now) (c .pre)))
-    (λ c κs. counts-read _ (c .unsigned-arg .given) (field-counts (ready (c .before)) {j = 1} (omega arith)))
+    (λ c κs. counts-read _ (c .unsigned-arg .given) (field-counts (ready-own (c .before .args .area .now) (c .before .pre)) {j = 1} (omega arith)))
     (λ c. search needs) returns)
