@@ -5,8 +5,10 @@
 --   placeIn k, joinsIn c k == what is read from a cell: the first word of the link, and whether the pair is joined by the chain
 --   withForth k i, withBack k i   == the cell with an arc more, whose links begin at word i, from the first to the second, and from the second to the
 --                             first
+--   cellRoom               == a cell below it can be given an arc back within 16 bits
 --   Linked t a b i         == a and b are neighbours, and the link from a to b begins at word i
---   Row t b row            == the cells of b, for whom the table is t, by the other's number
+--   Row t b row            == the row of b holds the cells of b and each q of 0 to 128
+--   cell sq a b            == the cell of a and b in a square
 --   Square t sq            == the rows of 0 to 128, one behind the other
 -- Assumes nothing.
 use Prim.Native.Nat.{ℕ, _+_, _*_, _/_, _%_, _≤_}
@@ -46,6 +48,9 @@ withForth k i = 4 * i + k / 2 % 2 * 2 + 1
 
 unfoldable pub withBack : ℕ → ℕ → ℕ
 withBack k i = choose (eqb (k % 2) 1) (k + 2) (4 * (i + linkSize) + 2)
+
+abbrev pub cellRoom : ℕ
+cellRoom = 65534
 
 pub record Linked (t : Fields) (a b i : ℕ) : Type 0 where
   pub joined : neighbours (waitsOf t) a b ≡ true

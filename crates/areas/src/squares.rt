@@ -8,7 +8,7 @@ ghost use lib.ListN.{length, getD};
 ghost use Rattle.tables.specs.Table.{mostProcesses, mostArcs};
 ghost use Rattle.tables.specs.Pairs.{squareSide, squareSize};
 ghost use Rattle.areas.specs.Places.{areaLength};
-ghost use Rattle.areas.specs.Squares.{placeIn, joinsIn, withForth, withBack, cell};
+ghost use Rattle.areas.specs.Squares.{placeIn, joinsIn, withForth, withBack, cellRoom, cell};
 
 // A number of 16 bits.
 fn wide(number: u16) -> usize
@@ -64,7 +64,7 @@ pub fn with_forth(cell: usize, i: usize) -> u16
 // The cell with an arc more from the second to the first. Where the first waits for the second, the link is that of the arc forth.
 pub fn with_back(cell: usize, i: usize) -> u16
     requires { ⌜ i ≤ areaLength mostProcesses mostArcs ⌝ }
-    requires { ⌜ cell < 65534 ⌝ }
+    requires { ⌜ cell < cellRoom ⌝ }
     ensures { λ r. ⌜ r ≡ withBack cell i ⌝ }
 {
     if cell % 2 == 1 {

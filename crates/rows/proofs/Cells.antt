@@ -18,7 +18,7 @@ use Rattle.tables.specs.Table.{Fields, mOf, mostProcesses, mostArcs, saysWait}
 use Rattle.tables.specs.Layout.{Right}
 use Rattle.areas.specs.Places.{linkStart, areaLength}
 use Rattle.areas.specs.Area.{linkPlace, arcIn, fieldsIn}
-use Rattle.areas.specs.Squares.{cellBy, withForth, withBack}
+use Rattle.areas.specs.Squares.{cellBy, withForth, withBack, cellRoom}
 use Rattle.areas.specs.SquareLaws.{withForth-is, withBack-is}
 use Rattle.lenses.specs.Ready.{Ready}
 use Rattle.lenses.specs.ReadyLaws.{ready-sizes}
@@ -34,11 +34,11 @@ arc-low t a b (suc m) = at (same? (arcIn t a b m) 0) (tested (saysWait t a b (su
     at (apart _ q) p u = rw q (omega arith)
 
 module _ (t : Fields) where
-  pub cell-small : Right t → (i j : ℕ) → i ≤ mOf t → j ≤ mOf t → cellBy t i j < 65534
+  pub cell-small : Right t → (i j : ℕ) → i ≤ mOf t → j ≤ mOf t → cellBy t i j < cellRoom
   unfolding cellBy linkPlace
   cell-small g i j u v = at (same? i 0) (same? j 0)
     where
-      at : Same i 0 → Same j 0 → cellBy t i j < 65534
+      at : Same i 0 → Same j 0 → cellBy t i j < cellRoom
       at (same _ q) (same _ p) = rw (q, p) (omega arith)
       at (same _ q) (apart _ p) = rw (q, p) (omega (arith, g .sizes))
       at (apart _ q) _ = rw q (omega (arith, g .sizes, bit-≤1 (not (eqb j 0))))

@@ -21,7 +21,7 @@ use Rattle.tables.specs.Table.{Fields, mOf, mostProcesses, arcAt, saysWait}
 use Rattle.tables.specs.Layout.{Right}
 use Rattle.tables.specs.Pairs.{squareSide, squareSize}
 use Rattle.areas.specs.Area.{linkPlace, arcIn, arcOf}
-use Rattle.areas.specs.Squares.{cellBy, cellOf, withForth, withBack, cell, Square}
+use Rattle.areas.specs.Squares.{cellBy, cellOf, withForth, withBack, cellRoom, cell, Square}
 use Rattle.areas.specs.SquareLaws.{cellBy-none, withForth-is, withBack-is}
 use Rattle.areas.specs.ArcLaws.{arcIn-zero, arcIn-new, arcIn-right}
 use Rattle.rows.proofs.Cells.{arc-low, cell-small}
@@ -54,7 +54,7 @@ set-cells sq l {p} {q} x y f {v} e h a b u w = at (same? a p) (same? b q)
 
 module _ {t : Fields} (g : Right t) where
   pub held-small : {i j : ℕ} {sq : List ℕ} → Held t i j sq → i ≤ mOf t → j ≤ mOf t → (a b : ℕ) → a ≤ mostProcesses → b ≤ mostProcesses
-      → cell sq a b < 65534
+      → cell sq a b < cellRoom
   held-small {i} {j} h u v a b x y =
       rw (h .cells a b x y) (cell-small t g (arcIn t a b i) (arcIn t b a j) (omega (arith, arc-low t a b i)) (omega (arith, arc-low t b a j)))
 

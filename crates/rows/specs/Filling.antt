@@ -16,7 +16,7 @@ use Rattle.tables.specs.Pairs.{squareSide}
 use Rattle.tables.specs.Waits.{waitsOf}
 use Rattle.tables.specs.Chains.{joins}
 use Rattle.areas.specs.Area.{linkPlace, arcOf}
-use Rattle.areas.specs.Squares.{withForth, withBack}
+use Rattle.areas.specs.Squares.{withForth, withBack, cellRoom}
 
 abbrev pub withArc : Chain → ℕ → ℕ → ℕ
 withArc Out k i = withForth k i
@@ -27,7 +27,7 @@ arcOn Out t b q = arcOf t b q
 arcOn In t b q = arcOf t q b
 
 abbrev pub Room : List ℕ → Type 0
-Room row = (q : ℕ) → q ≤ mostProcesses → getD row q 0 < 65534
+Room row = (q : ℕ) → q ≤ mostProcesses → getD row q 0 < cellRoom
 
 pub record Filled (c : Chain) (t : Fields) (b : ℕ) (old row : List ℕ) : Type 0 where
   pub long : length row ≡ squareSide

@@ -12,14 +12,14 @@ ghost use Rattle.tables.specs.Pairs.{squareSide, squareSize};
 ghost use Rattle.tables.specs.Waits.{waitsOf, neighbours};
 ghost use Rattle.areas.specs.Places.{areaLength};
 ghost use Rattle.areas.specs.Area.{arcOf, fieldsIn};
-ghost use Rattle.areas.specs.Squares.{Linked, Row, cell, Square};
+ghost use Rattle.areas.specs.Squares.{cellRoom, Linked, Row, cell, Square};
 ghost use Rattle.lenses.specs.Ready.{Ready};
 ghost use Rattle.rows.specs.Filling.{withArc, Room, Filled};
 
 // The cell with an arc more of the chain, whose links begin at word i.
 fn with_arc(c: Chain, cell: usize, i: usize) -> u16
     requires { ⌜ i ≤ areaLength mostProcesses mostArcs ⌝ }
-    requires { ⌜ cell < 65534 ⌝ }
+    requires { ⌜ cell < cellRoom ⌝ }
     ensures { λ r. ⌜ r ≡ withArc c cell i ⌝ }
 {
     match c {
@@ -63,7 +63,7 @@ fn put_arc(c: Chain, a: usize, b: usize, i: usize, square: &mut [u16; tables::SQ
     requires { ⌜ (a ≤ mostProcesses) × (b ≤ mostProcesses) ⌝ }
     requires { ⌜ i ≤ areaLength mostProcesses mostArcs ⌝ }
     requires { ⌜ length (now square) ≡ squareSize ⌝ }
-    requires { ⌜ cell (now square) a b < 65534 ⌝ }
+    requires { ⌜ cell (now square) a b < cellRoom ⌝ }
     ensures { λ _. ⌜ now (square .exit) ≡ set (now (square .entry)) (a * squareSide + b) (withArc c (cell (now (square .entry)) a b) i) ⌝ }
 {
     let old = squares::cell_at(square, a, b);
