@@ -229,7 +229,7 @@ fn shuffled(c: Course, k: u32) -> u32 {
 }
 
 // Refused with a number, and nothing made.
-pub fn is_refused_run(answer: Ran, number: u32) -> bool {
+fn is_refused_run(answer: Ran, number: u32) -> bool {
     match answer {
         Ran::Over(_) => false,
         Ran::Spent(_) => false,
@@ -360,28 +360,6 @@ pub fn last_reported(report: Report, e: Expected, c: Course) -> Course {
     let told = expect(c, is_last_report(report, e, c.due), faults::REPORT);
     let judged = expect(told, is_judged(report, e), faults::VERDICT);
     expect(judged, is_marked(report, e), faults::MARK)
-}
-
-// Whether a report refuses an area as not well formed.
-fn is_not_formed(report: Report) -> bool {
-    match report {
-        Report::Over {
-            deliveries: _,
-            verdict: _,
-            outside: _,
-            escape: _,
-            mark: _,
-        } => false,
-        Report::Refused(number) => number == 21,
-    }
-}
-
-// After a report in an area with a word in the place of another that makes it not well formed, and one with a word by which that is expected
-// at the end.
-pub fn exchanged(none: Report, other: Report, e: Expected, fault: u32, c: Course) -> Course {
-    let right = is_last_report(other, e, c.due) && is_judged(other, e) && is_marked(other, e);
-    let refused = expect(c, is_not_formed(none), fault);
-    expect(refused, right, fault)
 }
 
 // The sums of p at the end: "cs 0, but the start's cs is outside"; the second sum "0 everywhere but at the start, which has the number of such

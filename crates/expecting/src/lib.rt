@@ -1,10 +1,7 @@
 // What the plain search (the crate `searching`) expects of a run: the numbers of a case, the answers of the calls, the start of a run in
-// words that are watched, the edition in them, the second sums and counts in them, and the differences by number. For the crate `comparing`.
-// It promises only that it is safe and ends.
+// words that are watched, and the differences by number. For the crate `comparing`. It promises only that it is safe and ends.
 pub mod answers;
-pub mod editions;
 pub mod faults;
-pub mod seconds;
 pub mod starts;
 pub mod words;
 

@@ -1,6 +1,5 @@
 // How a run begins: what the search expects of it, its course, the starts that are refused, and the start.
 use crate::Expected;
-use crate::editions;
 use crate::faults;
 use crate::words;
 use drawing::numbers;
@@ -41,13 +40,6 @@ pub fn found_of(table: &[u8], found: &[bool; 16899], start: usize) -> Expected {
 pub fn under(e: Expected, edition: usize) -> Expected {
     let mut d = e;
     d.edition = edition;
-    d
-}
-
-// The same with another second sum of the start: all but the mark is the same.
-pub fn with_idlers(e: Expected, idlers: i32) -> Expected {
-    let mut d = e;
-    d.idlers = idlers;
     d
 }
 
@@ -116,6 +108,18 @@ fn wrong_start(e: Expected, none: usize, all: usize, k: usize) -> WrongStart {
     }
 }
 
+// A number that is no edition, by a random number. Cut to 16 or to 32 bits two of these would be.
+fn no_edition(x: usize) -> usize {
+    let number = x % 5;
+    match number {
+        1 => 3,
+        2 => 65535,
+        3 => 65537,
+        4 => 4294967298,
+        _ => 0,
+    }
+}
+
 // Whether a start is refused as it is to be.
 fn is_refused(area: &mut [i32], table: &[u8], w: WrongStart) -> bool {
     let end = w.words;
@@ -147,7 +151,7 @@ fn refuse(area: &mut [i32], table: &[u8], e: Expected, none: usize) -> u32 {
 // In words that hold the mark, the starts that are refused and change none, then the start, by a random number. Gives the difference.
 pub fn begin(area: &mut [i32], table: &[u8], e: Expected, x: usize) -> u32 {
     words::fill(area);
-    let fault = refuse(area, table, e, editions::none(x));
+    let fault = refuse(area, table, e, no_edition(x));
     if fault != 0 {
         return fault;
     }

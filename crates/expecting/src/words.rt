@@ -1,4 +1,4 @@
-// The words of an area: filled before a start, read, exchanged, and watched for change.
+// The words of an area: filled before a start, and watched for change.
 
 // What every word holds before a start.
 const MARK: i32 = 20000003;
@@ -9,21 +9,6 @@ pub fn fill(area: &mut [i32]) {
     while k < area.len() {
         area[k] = MARK;
         k += 1;
-    }
-}
-
-// The word at a place, 0 past the last.
-pub fn at(area: &[i32], place: usize) -> i32 {
-    if place < area.len() {
-        return area[place];
-    }
-    0
-}
-
-// Another word at a place.
-pub fn put(area: &mut [i32], place: usize, word: i32) {
-    if place < area.len() {
-        area[place] = word;
     }
 }
 
@@ -38,7 +23,7 @@ pub fn is_marked(area: &[i32], from: usize) -> bool {
 }
 
 // A word as a number without sign, another for each word.
-pub fn unsigned(word: i32) -> u32 {
+fn unsigned(word: i32) -> u32 {
     if word >= 0 {
         word as u32
     } else {
@@ -46,8 +31,8 @@ pub fn unsigned(word: i32) -> u32 {
     }
 }
 
-// A word or another number mixed into a digest, modulo 2 to the 48. The factor is odd, so that a change of one word always shows.
-pub fn mix(digest: usize, word: u32) -> usize {
+// A word mixed into a digest, modulo 2 to the 48. The factor is odd, so that a change of one word always shows.
+fn mix(digest: usize, word: u32) -> usize {
     (digest % 281474976710656 * 31 + word as usize) % 281474976710656
 }
 

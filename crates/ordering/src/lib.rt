@@ -50,10 +50,7 @@ const FIXED: usize = 17;
 const DRAWN: usize = 6;
 
 // Areas of fewer words are small: 600, and sixteen surplus ones.
-pub const SMALL: usize = 616;
-
-// Areas of fewer words are those of few: every one of up to 3 processes is.
-const FEW: usize = 240;
+const SMALL: usize = 616;
 
 // What stays the same through a run: N, the order of the links and from which places its picks go down; the first link of the row and the step; after
 // about how many deliveries the order goes back to the first; for how many tries in vain it keeps to its own choice.
@@ -496,29 +493,4 @@ pub fn is_watched(words: usize, c: Course) -> bool {
         return x % 8 == 0;
     }
     x % 64 == 0
-}
-
-// Whether the messages on the link of a pick are looked at before and after it, in an area of so many words: now and then in small areas,
-// before the end. Not those on a process's link to itself: it may send itself more while they are taken.
-pub fn is_looked_into(words: usize, call: Call, c: Course) -> bool {
-    if call.kind != PICK || call.from == call.to || c.past > 0 || words >= SMALL {
-        return false;
-    }
-    let x = numbers::next(c.seed / 2);
-    if call.place == 1 {
-        return x % 16 == 0;
-    }
-    x % 4 == 0
-}
-
-// Whether what running on leaves is compared with what picks leave in the same order, in an area of so many words: in small areas, before the
-// end; with a seed every time in those of few words, else now and then.
-pub fn is_followed(words: usize, call: Call, c: Course) -> bool {
-    if call.k == 0 || c.past > 0 || words >= SMALL {
-        return false;
-    }
-    if call.kind == RUN_ON {
-        return true;
-    }
-    call.seed > 0 && (words < FEW || numbers::next(c.seed / 2) % 2 == 0)
 }

@@ -192,7 +192,7 @@ pub fn lowest_outsider(found: &[bool; 16899]) -> u32 {
 }
 
 // Whether p waits for nobody.
-pub fn is_idle(found: &[bool; 16899], p: usize) -> bool {
+fn is_idle(found: &[bool; 16899], p: usize) -> bool {
     for q in 1..129 {
         if is_wait(found, p, q) {
             return false;

@@ -6,18 +6,17 @@
 // refused ones with seed 0 among them.
 // The last run but one of each case overtakes: its picks take younger messages first wherever two wait on a link (02, N5), and the line of a
 // family says how many deliveries did. The last runs on with drawn seeds (02, N13), at once or in pieces, maybe with picks between them, and the
-// line says how many deliveries these made. In small areas the messages on a link are looked at, in a copy, before and after some picks. There
-// running on leaves what as many picks leave in a copy, lowest receiver first and then lowest sender (02, N11), or from the links that the states
-// of the seed name, counted in that order; and in another copy it does the same again.
+// line says how many deliveries these made.
 // The runs of a case name the two editions in turn (02, N4), and the line of a family says how many cases are knots by each; all else is
 // expected to be the same under both. It also says how many cases are returned (02, N3): every knot by the second edition is among them, those
 // that are knots by the first alone are not, and the others are no knots.
 // Before each run the starts that are to be refused are. After every delivery a report is refused exactly while fewer than D were made. At
 // the end the report and every record are compared with the search; then come fixed and drawn calls past the end, which are refused or
-// make nothing, and in small areas reports with other words for the edition, the start's second sum and a message, and the end is compared
-// again. No call that delivers nothing changes a word or what a report says, and all second sums and waiting second counts come to the number
-// of succeeding processes that wait for nobody (both looked at after each call in small areas and past the end, and now and then in large
-// ones); and no call changes a surplus word.
+// make nothing, and the end is compared again. No call that delivers nothing changes a word or what a report says (looked at after each call
+// in small areas and past the end, and now and then in large ones); and no call changes a surplus word.
+//
+// What no search tells is not tried here but in hosts/rust/compare, against a plain Rust and word for word: which message a pick takes, in
+// which order running on goes, the second sums and counts on the way, and what calls make of areas that no run leaves.
 //
 // It prints a line for each family of cases, and a last line that names the first difference or says that there is none. It stops at the
 // first difference. Random numbers come from fixed seeds, so a difference is found again. It promises only that it is safe and ends.
