@@ -44,8 +44,9 @@ use Rattle.lenses.specs.Storable.{Storable}
 use Rattle.lenses.specs.ReadyLaws.{right-storable, ready-n}
 use Rattle.lenses.specs.ChangeLaws.{link-message}
 use Rattle.lenses.specs.StandingLaws.{message-standing}
-use Rattle.delivery.specs.Rooms.{roomy, roomTo}
-use Rattle.delivery.specs.Delivering.{steppedAt, carriedOut, Carried, deliverAt, PreparedFor, preparedOf, toldOf, toldAt}
+use Rattle.preparing.specs.Rooms.{roomy, roomTo}
+use Rattle.preparing.specs.Receiving.{steppedAt}
+use Rattle.delivery.specs.Delivering.{carriedOut, Carried, deliverAt, PreparedFor, preparedOf, toldOf, toldAt}
 use Rattle.delivery.specs.AcceptLaws.{accepts-refused, accepts-full, taken-replied, accepts-crowded}
 use Rattle.delivery.specs.PreparedLaws.{prepared-nothing, prepared-beyond, prepared-at, prepared-refused, prepared-go}
 use Rattle.delivery.specs.PreparedLaws.{refused-of, going-of, told-refused, told-going}

@@ -37,7 +37,7 @@ use Rattle.machine.specs.AmongLaws.{among-length, atPlace-here}
 use Rattle.areas.specs.Replaced.{withLinks, putProcess, putLink, putCount}
 use Rattle.lenses.specs.Changes.{probeOf, spreadTo, answered, spread, off}
 use Rattle.lenses.specs.ChangeLaws.{joins-high}
-use Rattle.delivery.specs.Rooms.{loadAfter}
+use Rattle.preparing.specs.Rooms.{loadAfter}
 use Rattle.delivery.specs.Delivering.{spreadBy, changed, Relinked, carriedOut}
 
 -- ---- what a step sends

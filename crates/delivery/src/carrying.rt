@@ -12,7 +12,8 @@ ghost use Prim.Native.Nat.{_+_, _≤_};
 ghost use Rattle.areas.specs.Area.{fieldsIn, runIn, keeping};
 ghost use Rattle.areas.specs.Squares.{Linked, Row};
 ghost use Rattle.lenses.specs.Ready.{Ready};
-ghost use Rattle.delivery.specs.Delivering.{probesOf, spreadBy, carriedOut, Carried};
+ghost use Rattle.preparing.specs.Receiving.{probesOf};
+ghost use Rattle.delivery.specs.Delivering.{spreadBy, carriedOut, Carried};
 ghost use Rattle.tables.specs.declared.Chain.{Chain};
 ghost use Rattle.lenses.specs.Changes.{Spreadable};
 
