@@ -27,7 +27,7 @@ use Rattle.machine.specs.Among.{Here}
 use Rattle.machine.specs.AmongLaws.{atPlace-here}
 use Rattle.checks.specs.Run.{Run, one, replyTo, probesTo}
 use Rattle.areas.specs.Replaced.{putProcess, putLink, putCount}
-use Rattle.lenses.specs.Changes.{answered}
+use Rattle.link_lenses.specs.Changes.{answered}
 use Rattle.preparing.specs.Receiving.{probesGo, replyGoes}
 use Rattle.delivery.specs.Delivering.{changed, carriedOut, Carried}
 use Rattle.delivery.specs.DeliveryLaws.{relinked-waits, answered-relinked, spreadBy-relinked, carried-link}

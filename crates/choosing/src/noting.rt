@@ -1,7 +1,7 @@
 // How what is remembered follows a delivery, part by part, once it is made: first what was taken, then what was sent, which marks its link
 // whether a message was there or not.
 use lenses::chains;
-use lenses::links;
+use link_lenses::links;
 use marks::parts;
 use steps::Probes;
 use steps::Reply;

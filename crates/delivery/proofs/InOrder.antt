@@ -25,7 +25,7 @@ use Rattle.areas.specs.Area.{fieldsIn, runIn, keeping}
 use Rattle.areas.specs.Replaced.{putProcess, putCount}
 use Rattle.areas.specs.Squares.{Linked, Row}
 use Rattle.lenses.specs.Ready.{Ready}
-use Rattle.lenses.specs.Changes.{answered, off, Spreadable, Answerable}
+use Rattle.link_lenses.specs.Changes.{answered, off, Spreadable, Answerable}
 use Rattle.lenses.specs.Storable.{Storable}
 use Rattle.lenses.specs.ReadyLaws.{right-storable, keeping-fields, runIn-few, ready-n}
 use Rattle.preparing.specs.Receiving.{probesOf}

@@ -34,7 +34,7 @@ use Rattle.machine.specs.Calls.{Cut, nowhere, cut, atPlace}
 use Rattle.machine.specs.Among.{Among}
 use Rattle.areas.specs.Area.{runIn}
 use Rattle.areas.specs.Replaced.{withLinks, putProcess, putCount}
-use Rattle.lenses.specs.Changes.{answered, spread, off}
+use Rattle.link_lenses.specs.Changes.{answered, spread, off}
 use Rattle.preparing.specs.Rooms.{loadAfter}
 use Rattle.delivery.specs.declared.delivering.Prepared.{Prepared}
 use Rattle.delivery.specs.declared.delivering.Told.{Told}

@@ -32,9 +32,9 @@ use Rattle.areas.specs.Area.{fieldsIn, runIn}
 use Rattle.lenses.specs.Ready.{Ready}
 use Rattle.lenses.specs.Storable.{Storable}
 use Rattle.lenses.specs.ReadyLaws.{right-storable, ready-n}
-use Rattle.lenses.specs.declared.links.AtPlace.{AtPlace}
-use Rattle.lenses.specs.declared.links.AtPlace.the-variants.{Beyond}
-use Rattle.lenses.specs.Standing.{foundAt, standing}
+use Rattle.link_lenses.specs.declared.links.AtPlace.{AtPlace}
+use Rattle.link_lenses.specs.declared.links.AtPlace.the-variants.{Beyond}
+use Rattle.link_lenses.specs.Standing.{foundAt, standing}
 use Rattle.lenses.specs.ChangeLaws.{link-message}
 use Rattle.preparing.specs.Rooms.{roomy}
 use Rattle.preparing.specs.Receiving.{steppedAt}

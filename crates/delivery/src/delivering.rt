@@ -2,8 +2,8 @@
 use crate::carrying;
 use checks::Delivery;
 use lenses::heading;
-use lenses::links;
-use lenses::links::AtPlace;
+use link_lenses::links;
+use link_lenses::links::AtPlace;
 use preparing::rooms;
 use preparing::stepping;
 use steps::Message;

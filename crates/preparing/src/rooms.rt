@@ -2,7 +2,7 @@
 // at, each by one word.
 use areas::squares;
 use lenses::chains;
-use lenses::links;
+use link_lenses::links;
 use steps::Probes;
 use steps::Reply;
 use tables::Chain;

@@ -1,4 +1,4 @@
--- `lenses::links::has_free` meets its contract: so many slots are free exactly if the first of them is 0.
+-- `link_lenses::links::has_free` meets its contract: so many slots are free exactly if the first of them is 0.
 -- Assumes nothing.
 use Prim.Native.Nat.{_+_, _-_}
 use mathlib.Core.Path.{_≡_, sym}
@@ -14,10 +14,10 @@ use Rattle.base.specs.Checks.{Same, same, apart}
 use Rattle.areas.specs.Used.{linkSlots}
 use Rattle.areas.specs.Area.{runIn}
 use Rattle.areas.proofs.Signs.{word-none, word-some}
-use Rattle.lenses.proofs.Stores.{link-small, link-within}
-use Rattle.lenses.proofs.Lookups.{free-here, full-here}
-use Rattle.lenses.proofs.links.has_free.Statement.{statement}
-use Rattle.lenses.proofs.links.has_free.Tie as tie
+use Rattle.link_lenses.proofs.LinkStores.{link-small, link-within}
+use Rattle.link_lenses.proofs.LinkLookups.{free-here, full-here}
+use Rattle.link_lenses.proofs.links.has_free.Statement.{statement}
+use Rattle.link_lenses.proofs.links.has_free.Tie as tie
 
 returns : tie.Need-returns
 returns c = at (same? (ofZ w32 (getD (c .before .args .area .now) (c .before .args .i + (linkSlots - c .before .args .free)) (pos 0))) 0)

@@ -1,4 +1,4 @@
--- `lenses::links::at_place` meets its contract: nothing waits where the first word is 0, no message stands at a place whose word is 0 or that
+-- `link_lenses::links::at_place` meets its contract: nothing waits where the first word is 0, no message stands at a place whose word is 0 or that
 -- has none, and else the word of the place is the message's.
 -- Assumes nothing.
 use Prim.Native.Nat.{_+_, _-_, _<_}
@@ -13,11 +13,11 @@ use Rattle.areas.specs.Area.{messageOf}
 use Rattle.tables.specs.Table.{mostProcesses, mostArcs}
 use Rattle.areas.specs.Places.{areaLength}
 use Rattle.areas.proofs.Signs.{word-none, word-some, counts-read}
-use Rattle.lenses.specs.declared.links.AtPlace.{AtPlace}
-use Rattle.lenses.proofs.Stores.{link-small, link-within}
-use Rattle.lenses.proofs.Lookups.{none-here, beyond-here, empty-here, word-counts, message-here}
-use Rattle.lenses.proofs.links.at_place.Statement.{statement}
-use Rattle.lenses.proofs.links.at_place.Tie as tie
+use Rattle.link_lenses.specs.declared.links.AtPlace.{AtPlace}
+use Rattle.link_lenses.proofs.LinkStores.{link-small, link-within}
+use Rattle.link_lenses.proofs.LinkLookups.{none-here, beyond-here, empty-here, word-counts, message-here}
+use Rattle.link_lenses.proofs.links.at_place.Statement.{statement}
+use Rattle.link_lenses.proofs.links.at_place.Tie as tie
 
 returns : tie.Need-returns
 returns c =

@@ -1,4 +1,4 @@
--- `lenses::links::take` meets its contract: the link stands inside the area, and its words from the place on, one further on, are those of what stays.
+-- `link_lenses::links::take` meets its contract: the link stands inside the area, and its words from the place on, one further on, are those of what stays.
 -- Assumes nothing.
 use Prim.Native.Nat.{ℕ, _+_, _-_}
 use mathlib.Core.Path.{_≡_, _∙_, subst}
@@ -6,9 +6,9 @@ use native.Mathlib.Omega.{arith}
 use borrow.Author.Needs.{needs}
 use Rattle.areas.specs.Used.{linkSlots}
 use Rattle.areas.specs.Writes.{Packed}
-use Rattle.lenses.proofs.Stores.{link-small, link-within, link-packed, store-take}
-use Rattle.lenses.proofs.links.take.Statement.{statement}
-use Rattle.lenses.proofs.links.take.Tie as tie
+use Rattle.link_lenses.proofs.LinkStores.{link-small, link-within, link-packed, store-take}
+use Rattle.link_lenses.proofs.links.take.Statement.{statement}
+use Rattle.link_lenses.proofs.links.take.Tie as tie
 
 returns : tie.Need-returns
 returns c =

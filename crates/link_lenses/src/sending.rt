@@ -1,7 +1,7 @@
 // What a process sends in a tested area: the probes of a broadcast, or an acknowledgement, on the links that its row names.
-use crate::chains;
 use crate::links;
 use areas::squares;
+use lenses::chains;
 use steps::Message;
 use steps::Reply;
 use tables::Chain;
@@ -11,8 +11,8 @@ ghost use Prim.Native.Nat.{_≤_};
 ghost use Rattle.steps.specs.Step.{replyFits};
 ghost use Rattle.areas.specs.Area.{fieldsIn, runIn, keeping};
 ghost use Rattle.areas.specs.Squares.{Row};
 ghost use Rattle.lenses.specs.Ready.{Ready};
-ghost use Rattle.lenses.specs.Changes.{probeOf, answered, spread, Answerable, Spreadable};
+ghost use Rattle.link_lenses.specs.Changes.{probeOf, answered, spread, Answerable, Spreadable};
 ghost use Rattle.tables.specs.declared.Chain.{Chain};
 
 // The probe that goes along a chain.

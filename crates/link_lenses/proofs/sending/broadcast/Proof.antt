@@ -1,4 +1,4 @@
--- `lenses::sending::broadcast` meets its contract. The loop's invariant: b has sent its probe to the far ends of the arcs passed. The measure
+-- `link_lenses::sending::broadcast` meets its contract. The loop's invariant: b has sent its probe to the far ends of the arcs passed. The measure
 -- is how many arcs are left.
 -- Assumes nothing.
 use native.Mathlib.Omega.{arith}
@@ -8,13 +8,13 @@ use lib.ListN.{length}
 use Rattle.tables.specs.Table.{arcAt, next}
 use Rattle.tables.specs.Chains.{far}
 use Rattle.areas.specs.Area.{fieldsIn}
 use Rattle.lenses.specs.ReadyLaws.{ready-sizes}
 use Rattle.lenses.proofs.Holding.{holding-ready, holding-length}
 use Rattle.lenses.proofs.ChainWalks.{toGo, left-on, far-is, next-is, ready-right, ahead-far}
-use Rattle.lenses.proofs.Spreads.{Sending, sending-first, sending-last, sending-arc, sending-link, sending-room, sending-on, sending-less}
-use Rattle.lenses.proofs.Spreads.{sending-at}
-use Rattle.lenses.proofs.sending.broadcast.Statement.{statement}
-use Rattle.lenses.proofs.sending.broadcast.Tie as tie
+use Rattle.link_lenses.proofs.Spreads.{Sending, sending-first, sending-last, sending-arc, sending-link, sending-room, sending-on, sending-less}
+use Rattle.link_lenses.proofs.Spreads.{sending-at}
+use Rattle.link_lenses.proofs.sending.broadcast.Statement.{statement}
+use Rattle.link_lenses.proofs.sending.broadcast.Tie as tie
 
 abbrev Inv-loop : tie.InvT-loop
 Inv-loop area₀ row n m c b k₀ area k = Sending area₀ area c b k

@@ -8,8 +8,8 @@ use mathlib.Core.List.{List, [], _∷_}
 use mathlib.Core.Path.{_≡_}
 use Rattle.machine.specs.Calls.{Cut, nowhere, cut, atPlace}
 use Rattle.steps.specs.declared.Message.{Message}
-use Rattle.lenses.specs.declared.links.AtPlace.{AtPlace}
-use Rattle.lenses.specs.declared.links.AtPlace.the-variants.{Beyond}
+use Rattle.link_lenses.specs.declared.links.AtPlace.{AtPlace}
+use Rattle.link_lenses.specs.declared.links.AtPlace.the-variants.{Beyond}
 
 abbrev pub foundAt : Cut Message → AtPlace
 foundAt nowhere = Beyond

@@ -1,4 +1,4 @@
--- `lenses::sending::acknowledge` meets its contract: nothing is stored where there is no acknowledgement, and else it is put on the link to its process.
+-- `link_lenses::sending::acknowledge` meets its contract: nothing is stored where there is no acknowledgement, and else it is put on the link to its process.
 -- Assumes nothing.
 use Prim.Native.Nat.{ℕ, _≤_}
 use mathlib.Core.Bool.{true}
@@ -17,10 +17,10 @@ use Rattle.areas.specs.Area.{fieldsIn, runIn}
 use Rattle.areas.specs.AreaLaws.{stored-same}
 use Rattle.areas.specs.RunInLaws.{runIn-contained}
 use Rattle.areas.specs.SquareLaws.{row-linked}
-use Rattle.lenses.specs.Changes.{answered, HasSlot}
+use Rattle.link_lenses.specs.Changes.{answered, HasSlot}
 use Rattle.lenses.specs.ReadyLaws.{ready-sizes}
-use Rattle.lenses.proofs.sending.acknowledge.Statement.{statement}
-use Rattle.lenses.proofs.sending.acknowledge.Tie as tie
+use Rattle.link_lenses.proofs.sending.acknowledge.Statement.{statement}
+use Rattle.link_lenses.proofs.sending.acknowledge.Tie as tie
 
 -- an acknowledgement that fits has its counts in range
 counted : {y : Reply} (p : ℕ) (c : TwoCounts) → y ≡ To p c → replyFits y ≡ true → countSmall (Ack c) ≡ true

@@ -35,14 +35,15 @@ use Rattle.areas.specs.Replaced.{withLinks, putLink}
 use Rattle.areas.specs.RunInLaws.{runIn-contained}
 use Rattle.areas.specs.Squares.{placeIn, Linked, Row}
 use Rattle.areas.specs.SquareLaws.{row-linked}
 use Rattle.lenses.specs.Ready.{Ready}
-use Rattle.lenses.specs.Changes.{probeOf, spreadTo, spread, HasSlot}
+use Rattle.link_lenses.specs.Changes.{probeOf, spreadTo, spread, HasSlot}
 use Rattle.lenses.specs.Storable.{Storable}
 use Rattle.lenses.specs.ReadyLaws.{right-storable, keeping-fields, ready-n, ready-sizes}
-use Rattle.lenses.specs.ChangeLaws.{joins-low, joins-high, joins-neighbours, probe-small, storable-push}
+use Rattle.lenses.specs.ChangeLaws.{joins-low, joins-high, joins-neighbours}
+use Rattle.link_lenses.specs.LinkChangeLaws.{probe-small, storable-push}
 use Rattle.lenses.proofs.Holding.{Holding, holding-first, holding-run, holding-ready, holding-next}
 use Rattle.lenses.proofs.ChainWalks.{ends, toGo, ArcsLeft, Ahead, first-ends, left-first, left-on, left-end, ready-right, ready-process, ahead-arc}
 use Rattle.lenses.proofs.ChainWalks.{ahead-far}
 
 -- each process that the probe goes to has room for it on its link
 abbrev pub Room : List ℤ → ℕ → Chain → ℕ → Type 0

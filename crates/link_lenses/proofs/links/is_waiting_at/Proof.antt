@@ -1,4 +1,4 @@
--- `lenses::links::is_waiting_at` meets its contract: the cell of neighbours says where their link begins, and the others have none.
+-- `link_lenses::links::is_waiting_at` meets its contract: the cell of neighbours says where their link begins, and the others have none.
 -- Assumes nothing.
 use mathlib.Core.Path.{_≡_, sym, ap, _∙_}
 use native.Mathlib.Omega.{arith}
@@ -8,9 +8,9 @@ use Rattle.areas.specs.Area.{fieldsIn}
 use Rattle.areas.specs.Squares.{cellOf}
 use Rattle.areas.specs.SquareLaws.{cell-linked, cell-apart}
 use Rattle.areas.specs.RunInLaws.{runIn-contained}
 use Rattle.lenses.specs.ReadyLaws.{ready-sizes}
-use Rattle.lenses.proofs.links.is_waiting_at.Statement.{statement}
-use Rattle.lenses.proofs.links.is_waiting_at.Tie as tie
+use Rattle.link_lenses.proofs.links.is_waiting_at.Statement.{statement}
+use Rattle.link_lenses.proofs.links.is_waiting_at.Tie as tie
 
 -- the cell is that of the table
 cell-is : (c : tie.After-cell-at) → let a = c .before .args in c .cell-at .result ≡ cellOf (fieldsIn (a .area .now)) (a .a) (a .b)

@@ -1,4 +1,4 @@
--- `lenses::links::is_waiting` meets its contract: the first word of the link is 0 exactly if nothing waits there.
+-- `link_lenses::links::is_waiting` meets its contract: the first word of the link is 0 exactly if nothing waits there.
 -- Assumes nothing.
 use Prim.Native.Nat.{ℕ}
 use mathlib.Core.Bool.{not}
@@ -14,10 +14,10 @@ use Rattle.base.specs.Checks.{Same, same, apart}
 use Rattle.machine.specs.Calls.{waiting}
 use Rattle.areas.specs.Area.{runIn}
 use Rattle.areas.proofs.Signs.{word-none, word-some}
-use Rattle.lenses.proofs.Stores.{link-small, link-within}
-use Rattle.lenses.proofs.Lookups.{waits-here, none-waits}
-use Rattle.lenses.proofs.links.is_waiting.Statement.{statement}
-use Rattle.lenses.proofs.links.is_waiting.Tie as tie
+use Rattle.link_lenses.proofs.LinkStores.{link-small, link-within}
+use Rattle.link_lenses.proofs.LinkLookups.{waits-here, none-waits}
+use Rattle.link_lenses.proofs.links.is_waiting.Statement.{statement}
+use Rattle.link_lenses.proofs.links.is_waiting.Tie as tie
 
 returns : tie.Need-returns
 returns c = at (same? (ofZ w32 (getD (c .before .args .area .now) (c .before .args .i) (pos 0))) 0)

@@ -14,9 +14,9 @@ ghost use Rattle.machine.specs.Calls.{waiting};
 ghost use Rattle.areas.specs.Used.{linkSlots};
 ghost use Rattle.areas.specs.Area.{fieldsIn, runIn, keeping};
 ghost use Rattle.areas.specs.Squares.{Linked, Square};
 ghost use Rattle.lenses.specs.Ready.{Ready};
-ghost use Rattle.lenses.specs.Standing.{standing};
-ghost use Rattle.lenses.specs.Changes.{pushedOn, HasSlot, off};
+ghost use Rattle.link_lenses.specs.Standing.{standing};
+ghost use Rattle.link_lenses.specs.Changes.{pushedOn, HasSlot, off};
 
 // The place of the oldest message on a link.
 pub const OLDEST: usize = 1;

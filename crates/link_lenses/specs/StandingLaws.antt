@@ -15,9 +15,9 @@ use Rattle.machine.specs.Among.{Placed, there, not-there}
 use Rattle.machine.specs.AmongLaws.{between-place, atPlace-P, cut-placed}
 use Rattle.steps.specs.declared.Message.{Message}
 use Rattle.areas.specs.Area.{codeOf, slotWord}
-use Rattle.lenses.specs.declared.links.AtPlace.{AtPlace}
-use Rattle.lenses.specs.declared.links.AtPlace.the-variants.{Beyond}
-use Rattle.lenses.specs.Standing.{foundAt, standing, OneAt}
+use Rattle.link_lenses.specs.declared.links.AtPlace.{AtPlace}
+use Rattle.link_lenses.specs.declared.links.AtPlace.the-variants.{Beyond}
+use Rattle.link_lenses.specs.Standing.{foundAt, standing, OneAt}
 
 -- ---- what code is to say
 

@@ -1,11 +1,11 @@
--- `lenses::links::push` meets its contract: the link stands inside the area and has room, and the word goes behind its messages.
+-- `link_lenses::links::push` meets its contract: the link stands inside the area and has room, and the word goes behind its messages.
 -- Assumes nothing.
 use mathlib.Core.Path.{_∙_}
 use borrow.Author.Needs.{needs}
 use Rattle.steps.proofs.Counts.{signed-back}
-use Rattle.lenses.proofs.Stores.{link-within, link-room, store-push}
-use Rattle.lenses.proofs.links.push.Statement.{statement}
-use Rattle.lenses.proofs.links.push.Tie as tie
+use Rattle.link_lenses.proofs.LinkStores.{link-within, link-room, store-push}
+use Rattle.link_lenses.proofs.links.push.Statement.{statement}
+use Rattle.link_lenses.proofs.links.push.Tie as tie
 
 put-on-requires : tie.Need-put-on-requires
 put-on-requires c κs =
