@@ -27,8 +27,9 @@ use Rattle.machine.specs.Among.{Here}
 use Rattle.machine.specs.AmongLaws.{atPlace-here}
 use Rattle.checks.specs.Run.{Run, one, replyTo, probesTo}
 use Rattle.areas.specs.Replaced.{putProcess, putLink, putCount}
-use Rattle.lenses.specs.Changes.{answered}
-use Rattle.delivery.specs.Delivering.{probesGo, replyGoes, changed, carriedOut, Carried}
+use Rattle.link_lenses.specs.Changes.{answered}
+use Rattle.preparing.specs.Receiving.{probesGo, replyGoes}
+use Rattle.delivery.specs.Delivering.{changed, carriedOut, Carried}
 use Rattle.delivery.specs.DeliveryLaws.{relinked-waits, answered-relinked, spreadBy-relinked, carried-link}
 use Rattle.marks.specs.Changes.{turned, Turns}
 use Rattle.marks.specs.GroupLaws.{marks-cong}

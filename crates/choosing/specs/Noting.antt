@@ -13,7 +13,7 @@ use Rattle.steps.specs.declared.Probes.{Probes}
 use Rattle.steps.specs.declared.Reply.{Reply}
 use Rattle.machine.specs.Calls.{waiting}
 use Rattle.checks.specs.Run.{Run}
-use Rattle.delivery.specs.Delivering.{probesGo, replyGoes}
+use Rattle.preparing.specs.Receiving.{probesGo, replyGoes}
 use Rattle.marks.specs.Changes.{turned}
 
 -- a link falls empty if its last message is taken

@@ -1,6 +1,6 @@
 // What is remembered of a run, from the area alone: nothing at first, then arc by arc.
 use lenses::chains;
-use lenses::links;
+use link_lenses::links;
 use marks::parts;
 ghost use mathlib.Core.Path.{_≡_};
 ghost use Prim.Native.Nat.{_≤_};

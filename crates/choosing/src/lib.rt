@@ -11,7 +11,7 @@ mod noting;
 use areas::squares;
 use delivery::delivering;
 use delivery::delivering::Told;
-use lenses::links;
+use link_lenses::links;
 use marks::Beginning;
 use marks::parts;
 use steps::Message;

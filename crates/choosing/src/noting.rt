@@ -1,7 +1,7 @@
 // How what is remembered follows a delivery, part by part, once it is made: first what was taken, then what was sent, which marks its link
 // whether a message was there or not.
 use lenses::chains;
-use lenses::links;
+use link_lenses::links;
 use marks::parts;
 use steps::Probes;
 use steps::Reply;
@@ -16,7 +16,7 @@ ghost use Rattle.machine.specs.Calls.{waiting};
 ghost use Rattle.areas.specs.Area.{fieldsIn, runIn};
 ghost use Rattle.areas.specs.Squares.{Linked};
 ghost use Rattle.lenses.specs.Ready.{Ready};
-ghost use Rattle.delivery.specs.Delivering.{probesGo, replyGoes};
+ghost use Rattle.preparing.specs.Receiving.{probesGo, replyGoes};
 ghost use Rattle.marks.specs.Changes.{Marked, MarkedAt, Turns};
 ghost use Rattle.choosing.specs.Noting.{takenMarks, sentMarks, notedMarks};
 

@@ -36,16 +36,17 @@ use Rattle.checks.specs.Calls.{Picked}
 use Rattle.areas.specs.Area.{fieldsIn, runIn, keeping}
 use Rattle.areas.specs.AreaLaws.{stored-same}
 use Rattle.areas.specs.Squares.{Row}
-use Rattle.lenses.specs.declared.links.AtPlace.{AtPlace}
-use Rattle.lenses.specs.declared.links.AtPlace.the-variants.{Beyond}
-use Rattle.lenses.specs.Standing.{standing, OneAt}
+use Rattle.link_lenses.specs.declared.links.AtPlace.{AtPlace}
+use Rattle.link_lenses.specs.declared.links.AtPlace.the-variants.{Beyond}
+use Rattle.link_lenses.specs.Standing.{standing, OneAt}
 use Rattle.lenses.specs.Ready.{Ready}
 use Rattle.lenses.specs.Storable.{Storable}
 use Rattle.lenses.specs.ReadyLaws.{right-storable, ready-n}
 use Rattle.lenses.specs.ChangeLaws.{link-message}
-use Rattle.lenses.specs.StandingLaws.{message-standing}
-use Rattle.delivery.specs.Rooms.{roomy, roomTo}
-use Rattle.delivery.specs.Delivering.{steppedAt, carriedOut, Carried, deliverAt, PreparedFor, preparedOf, toldOf, toldAt}
+use Rattle.link_lenses.specs.StandingLaws.{message-standing}
+use Rattle.preparing.specs.Rooms.{roomy, roomTo}
+use Rattle.preparing.specs.Receiving.{steppedAt}
+use Rattle.delivery.specs.Delivering.{carriedOut, Carried, deliverAt, PreparedFor, preparedOf, toldOf, toldAt}
 use Rattle.delivery.specs.AcceptLaws.{accepts-refused, accepts-full, taken-replied, accepts-crowded}
 use Rattle.delivery.specs.PreparedLaws.{prepared-nothing, prepared-beyond, prepared-at, prepared-refused, prepared-go}
 use Rattle.delivery.specs.PreparedLaws.{refused-of, going-of, told-refused, told-going}

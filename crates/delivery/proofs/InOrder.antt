@@ -25,10 +25,11 @@ use Rattle.areas.specs.Area.{fieldsIn, runIn, keeping}
 use Rattle.areas.specs.Replaced.{putProcess, putCount}
 use Rattle.areas.specs.Squares.{Linked, Row}
 use Rattle.lenses.specs.Ready.{Ready}
-use Rattle.lenses.specs.Changes.{answered, off, Spreadable, Answerable}
+use Rattle.link_lenses.specs.Changes.{answered, off, Spreadable, Answerable}
 use Rattle.lenses.specs.Storable.{Storable}
 use Rattle.lenses.specs.ReadyLaws.{right-storable, keeping-fields, runIn-few, ready-n}
-use Rattle.delivery.specs.Delivering.{probesOf, spreadBy, changed, carriedOut, Carried}
+use Rattle.preparing.specs.Receiving.{probesOf}
+use Rattle.delivery.specs.Delivering.{spreadBy, changed, carriedOut, Carried}
 use Rattle.delivery.specs.CarryLaws.{carried-ends, storable-off, off-father, storable-changed, reply-room, storable-replied, probes-room}
 use Rattle.delivery.specs.CarryLaws.{storable-sent, carried-count, storable-carried}
 use Rattle.lenses.proofs.Holding.{Holding, holding-run, holding-ready, holding-next}

@@ -1,6 +1,4 @@
 -- What the answer of the receiver's step says of a delivery in a well-formed run.
---   outDegree-most, inDegree-most   == a degree is at most N
---   lent                  == the record of a process in a well-formed run and its degrees are in range
 --   steppedAt-is          == the receiver's step is refused only by 22, and is else its turn
 --   steppedAt-taken, steppedAt-refused   == what an answer of the step says
 --   accepts-is            == the delivery of a step that is taken meets no 22 exactly if the count and the links have room
@@ -24,9 +22,8 @@ use Rattle.base.specs.Choice.{choose}
 use Rattle.base.specs.ChoiceLaws.{tested, and-both, and-three}
 use Rattle.base.specs.Checks.{Tested, passed, failed}
 use Rattle.base.specs.Sums.{allTo}
-use Rattle.base.specs.SumLaws.{allTo-at, countTo-most}
-use Rattle.tables.specs.Table.{mostProcesses, IsProcess}
-use Rattle.tables.specs.Waits.{Waits, outDegree, inDegree, neighbours}
+use Rattle.base.specs.SumLaws.{allTo-at}
+use Rattle.tables.specs.Waits.{outDegree, inDegree, neighbours}
 use Rattle.tables.specs.Sound.{Sound}
 use Rattle.tables.specs.WaitsLaws.{neighbours-ends}
 use Rattle.steps.specs.declared.Message.{Message}
@@ -37,7 +34,7 @@ use Rattle.steps.specs.declared.Reply.{Reply}
 use Rattle.steps.specs.declared.Reply.the-variants.{To}
 use Rattle.steps.specs.declared.Stepped.{Stepped}
 use Rattle.steps.specs.declared.Stepped.the-variants.{Taken}
-use Rattle.steps.specs.Step.{inRange, countSmall, numSuffices, replyFits, fitting, lentInRange, startStepped, answer}
+use Rattle.steps.specs.Step.{inRange, countSmall, numSuffices, replyFits, fitting, startStepped, answer}
 use Rattle.steps.specs.StepLaws.{stepped-inside}
 use Rattle.checks.specs.declared.Delivery.the-variants.{Delivered}
 use Rattle.machine.specs.Calls.{cut, atPlace}
@@ -45,42 +42,16 @@ use Rattle.machine.specs.Among.{Among}
 use Rattle.machine.specs.AmongLaws.{cut-placed}
 use Rattle.machine.specs.MadeLaws.{deliver-cut}
 use Rattle.machine.specs.FormedLaws.{wellFormed-P}
-use Rattle.checks.specs.RunLaws.{formed-range, formed-father, new-father, replied, new-range, new-reply}
+use Rattle.checks.specs.RunLaws.{new-father, replied, new-range, new-reply}
 use Rattle.checks.specs.Run.{Run, mostDeliveries, knot, turnOf, wellFormed, turnAt, after, accepts}
-use Rattle.lenses.specs.ChangeLaws.{father-few}
-use Rattle.delivery.specs.Rooms.{loadAfter, roomy}
-use Rattle.delivery.specs.Delivering.{steppedAt, carriedOut, Carried, deliverAt}
+use Rattle.preparing.specs.LentLaws.{lent}
+use Rattle.preparing.specs.Rooms.{loadAfter, roomy}
+use Rattle.preparing.specs.Receiving.{steppedAt}
+use Rattle.delivery.specs.Delivering.{carriedOut, Carried, deliverAt}
 use Rattle.delivery.specs.DeliveryLaws.{carriedOut-is, loadAfter-is}
 use Rattle.delivery.specs.DeliveryFacts.{Taking}
 
--- ---- degrees
-
-pub outDegree-most : (w : Waits) (p : ℕ) → outDegree w p ≤ w .n
-unfolding outDegree
-outDegree-most w p = countTo-most (w .n) (λ q. w .waits p q)
-
-pub inDegree-most : (w : Waits) (p : ℕ) → inDegree w p ≤ w .n
-unfolding inDegree
-inDegree-most w p = countTo-most (w .n) (λ q. w .waits q p)
-
 -- ---- the receiver's step
-
--- the record, the degrees and the counts are in range, so that the step does not meet 21
-pub lent : (r : Run) → wellFormed r ≡ true → Sound (r .waits) → (b : ℕ) → IsProcess (r .waits .n) b → (m : Message) → countSmall m ≡ true
-    → lentInRange m (outDegree (r .waits) b) (inDegree (r .waits) b) (r .process b) ≡ true
-unfolding lentInRange
-lent r h sd b e m c =
-    let x = r .process b in
-    let o = outDegree (r .waits) b in
-    let i = inDegree (r .waits) b in
-    and-both (inRange x && leb (x .father) mostProcesses && countSmall m && leb o mostProcesses) (leb i mostProcesses)
-    (and-both (inRange x && leb (x .father) mostProcesses && countSmall m) (leb o mostProcesses)
-    (and-both (inRange x && leb (x .father) mostProcesses) (countSmall m)
-    (and-both (inRange x) (leb (x .father) mostProcesses) (formed-range (wellFormed-P knot r .0 h) b e)
-    (le-leb (x .father) mostProcesses (father-few (r .waits) sd b x (formed-father (wellFormed-P knot r .0 h) b e))))
-    c)
-    (le-leb o mostProcesses (omega (arith, outDegree-most (r .waits) b, sd .few))))
-    (le-leb i mostProcesses (omega (arith, inDegree-most (r .waits) b, sd .few)))
 
 module _ (r : Run) (h : wellFormed r ≡ true) (sd : Sound (r .waits)) (a b : ℕ) (j : neighbours (r .waits) a b ≡ true) (m : Message)
     (c : countSmall m ≡ true) where

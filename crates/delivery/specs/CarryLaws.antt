@@ -27,10 +27,12 @@ use Rattle.steps.specs.declared.Reply.the-variants.{To}
 use Rattle.checks.specs.Run.{Run, mostDeliveries, fatherRight, replyTo, probesTo}
 use Rattle.areas.specs.Used.{linkSlots}
 use Rattle.areas.specs.Replaced.{putProcess, putLink}
-use Rattle.lenses.specs.Changes.{answered, spread, off}
+use Rattle.link_lenses.specs.Changes.{answered, spread, off}
 use Rattle.lenses.specs.Storable.{Storable}
-use Rattle.lenses.specs.ChangeLaws.{storable-size, storable-count, storable-process, storable-take, storable-answered, storable-spread}
-use Rattle.delivery.specs.Delivering.{probesOf, spreadBy, changed, carriedOut, Carried}
+use Rattle.lenses.specs.ChangeLaws.{storable-size, storable-count, storable-process}
+use Rattle.link_lenses.specs.LinkChangeLaws.{storable-take, storable-answered, storable-spread}
+use Rattle.preparing.specs.Receiving.{probesOf}
+use Rattle.delivery.specs.Delivering.{spreadBy, changed, carriedOut, Carried}
 use Rattle.delivery.specs.DeliveryLaws.{relinked-waits, relinked-count, answered-relinked, spreadBy-relinked, answered-link, off-length}
 
 -- an acknowledgement goes to its process, and a probe along its chain

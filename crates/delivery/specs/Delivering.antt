@@ -1,8 +1,5 @@
 -- What the parts of a delivery compute.
---   steppedAt r a b m     == the receiver's step as the answer of `step` or of the start's step
---   probesOf c            == the probes that go along a chain
---   probesGo, replyGoes   == whether a probe of b's broadcast, and an acknowledgement, goes to q
---   probesBy y k          == the same of a broadcast, by the cell of b and q
+--   spreadBy y r b        == the run after b's broadcast y
 --   changed r a b k x     == the run after the message at place k is off its link and the record is changed
 --   Relinked r q          == q differs from r in its links alone
 --   carriedOut r a b k x y z   == the delivery as changes one after another; that this is `after` is a law
@@ -15,17 +12,14 @@
 --   toldOf p, toldAt r a b k   == what is told of a prepared delivery once it is carried out: its message and what was sent, or its refusal
 -- Assumes nothing.
 use Prim.Native.Nat.{ℕ, _+_, _≤_}
-use mathlib.Core.Bool.{Bool, true, false}
+use mathlib.Core.Bool.{true}
 use mathlib.Core.List.{List, [], _∷_}
 use mathlib.Core.Path.{_≡_}
 use lib.IntN.{ℤ}
 use lib.ListN.{length}
-use lib.Dec.{eqb}
 use Rattle.base.specs.Choice.{choose}
-use Rattle.tables.specs.declared.Chain.{Chain}
 use Rattle.tables.specs.declared.Chain.the-variants.{Out, In}
-use Rattle.tables.specs.Waits.{Waits, outDegree, inDegree, neighbours}
-use Rattle.tables.specs.Chains.{joins}
+use Rattle.tables.specs.Waits.{neighbours}
 use Rattle.steps.specs.declared.Message.{Message}
 use Rattle.steps.specs.declared.Process.{Process}
 use Rattle.steps.specs.declared.Probes.{Probes}
@@ -33,46 +27,18 @@ use Rattle.steps.specs.declared.Probes.the-variants.{Sucs, Pres}
 use Rattle.steps.specs.declared.TwoCounts.{TwoCounts}
 use Rattle.steps.specs.declared.Reply.{Reply}
 use Rattle.steps.specs.declared.Reply.the-variants.{To}
-use Rattle.steps.specs.declared.Stepped.{Stepped}
-use Rattle.steps.specs.Step.{stepped, startStepped, inRange, replyFits}
+use Rattle.steps.specs.Step.{inRange, replyFits}
 use Rattle.checks.specs.Run.{Run, mostDeliveries, fatherRight, turnAt, accepts}
 use Rattle.checks.specs.Calls.{Picked, deliver}
 use Rattle.machine.specs.Calls.{Cut, nowhere, cut, atPlace}
 use Rattle.machine.specs.Among.{Among}
 use Rattle.areas.specs.Area.{runIn}
 use Rattle.areas.specs.Replaced.{withLinks, putProcess, putCount}
-use Rattle.areas.specs.Squares.{joinsIn}
-use Rattle.lenses.specs.Changes.{answered, spread, off}
-use Rattle.delivery.specs.Rooms.{loadAfter}
+use Rattle.link_lenses.specs.Changes.{answered, spread, off}
+use Rattle.preparing.specs.Rooms.{loadAfter}
 use Rattle.delivery.specs.declared.delivering.Prepared.{Prepared}
 use Rattle.delivery.specs.declared.delivering.Told.{Told}
 use Rattle.delivery.specs.declared.delivering.Prepared.the-variants.{Go}
-
-abbrev pub steppedAt : Run → ℕ → ℕ → Message → Stepped
-steppedAt r a b m =
-    choose (eqb b (r .start))
-    (startStepped m a (r .process b))
-    (stepped m (outDegree (r .waits) b) (inDegree (r .waits) b) a (r .process b))
-
--- "sends suc to all successors"; "the same with preceding and predecessors"
-abbrev pub probesGo : Waits → Probes → ℕ → ℕ → Bool
-probesGo w Probes.Nothing b q = false
-probesGo w Sucs b q = joins Out w b q
-probesGo w Pres b q = joins In w b q
-
-abbrev pub probesBy : Probes → ℕ → Bool
-probesBy Probes.Nothing k = false
-probesBy Sucs k = joinsIn Out k
-probesBy Pres k = joinsIn In k
-
--- the probes that go along a chain
-abbrev pub probesOf : Chain → Probes
-probesOf Out = Sucs
-probesOf In = Pres
-
-abbrev pub replyGoes : Reply → ℕ → Bool
-replyGoes Reply.Nothing q = false
-replyGoes (To p c) q = eqb p q
 
 -- the probes of a broadcast, sent
 abbrev pub spreadBy : Probes → Run → ℕ → Run

@@ -35,9 +35,9 @@ use Rattle.machine.specs.Calls.{cut, atPlace}
 use Rattle.machine.specs.Among.{Among, Here}
 use Rattle.machine.specs.AmongLaws.{among-length, atPlace-here}
 use Rattle.areas.specs.Replaced.{withLinks, putProcess, putLink, putCount}
-use Rattle.lenses.specs.Changes.{probeOf, spreadTo, answered, spread, off}
+use Rattle.link_lenses.specs.Changes.{probeOf, spreadTo, answered, spread, off}
 use Rattle.lenses.specs.ChangeLaws.{joins-high}
-use Rattle.delivery.specs.Rooms.{loadAfter}
+use Rattle.preparing.specs.Rooms.{loadAfter}
 use Rattle.delivery.specs.Delivering.{spreadBy, changed, Relinked, carriedOut}
 
 -- ---- what a step sends

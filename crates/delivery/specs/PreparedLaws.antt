@@ -32,12 +32,13 @@ use Rattle.areas.specs.Area.{fieldsIn, runIn}
 use Rattle.lenses.specs.Ready.{Ready}
 use Rattle.lenses.specs.Storable.{Storable}
 use Rattle.lenses.specs.ReadyLaws.{right-storable, ready-n}
-use Rattle.lenses.specs.declared.links.AtPlace.{AtPlace}
-use Rattle.lenses.specs.declared.links.AtPlace.the-variants.{Beyond}
-use Rattle.lenses.specs.Standing.{foundAt, standing}
+use Rattle.link_lenses.specs.declared.links.AtPlace.{AtPlace}
+use Rattle.link_lenses.specs.declared.links.AtPlace.the-variants.{Beyond}
+use Rattle.link_lenses.specs.Standing.{foundAt, standing}
 use Rattle.lenses.specs.ChangeLaws.{link-message}
-use Rattle.delivery.specs.Rooms.{roomy}
-use Rattle.delivery.specs.Delivering.{steppedAt, preparedWith, preparedFound, preparedOf, toldOf, toldAt, deliverAt}
+use Rattle.preparing.specs.Rooms.{roomy}
+use Rattle.preparing.specs.Receiving.{steppedAt}
+use Rattle.delivery.specs.Delivering.{preparedWith, preparedFound, preparedOf, toldOf, toldAt, deliverAt}
 use Rattle.delivery.specs.DeliveryFacts.{Taking, Going}
 use Rattle.delivery.specs.AcceptLaws.{steppedAt-taken, accepts-taken, accepts-of, carried-of, deliver-answer, deliver-run}
 use Rattle.delivery.specs.declared.delivering.Prepared.{Prepared}

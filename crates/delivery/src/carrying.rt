@@ -1,8 +1,8 @@
 // A delivery carried out: the changes that a step makes in a tested area.
 use lenses::heading;
-use lenses::links;
 use lenses::records;
-use lenses::sending;
+use link_lenses::links;
+use link_lenses::sending;
 use steps::Probes;
 use steps::Process;
 use steps::Reply;
@@ -12,9 +12,10 @@ ghost use Prim.Native.Nat.{_+_, _≤_};
 ghost use Rattle.areas.specs.Area.{fieldsIn, runIn, keeping};
 ghost use Rattle.areas.specs.Squares.{Linked, Row};
 ghost use Rattle.lenses.specs.Ready.{Ready};
-ghost use Rattle.delivery.specs.Delivering.{probesOf, spreadBy, carriedOut, Carried};
+ghost use Rattle.preparing.specs.Receiving.{probesOf};
+ghost use Rattle.delivery.specs.Delivering.{spreadBy, carriedOut, Carried};
 ghost use Rattle.tables.specs.declared.Chain.{Chain};
-ghost use Rattle.lenses.specs.Changes.{Spreadable};
+ghost use Rattle.link_lenses.specs.Changes.{Spreadable};
 
 // b sends the probes of its step, if there are any.
 fn send(area: &mut [i32], row: &[u16], n: usize, m: usize, b: usize, probes: Probes)

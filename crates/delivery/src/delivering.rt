@@ -1,11 +1,11 @@
 // The delivery of one message in a tested area: refused with nothing changed, or carried out.
 use crate::carrying;
-use crate::rooms;
-use crate::stepping;
 use checks::Delivery;
 use lenses::heading;
-use lenses::links;
-use lenses::links::AtPlace;
+use link_lenses::links;
+use link_lenses::links::AtPlace;
+use preparing::rooms;
+use preparing::stepping;
 use steps::Message;
 use steps::Probes;
 use steps::Process;

@@ -1,6 +1,4 @@
-// A delivery in a tested run area.
+// A delivery in a tested run area: refused with nothing changed, or carried out.
 
 pub mod carrying;
 pub mod delivering;
-pub mod rooms;
-pub mod stepping;

@@ -4,7 +4,7 @@
 use checks::Delivery;
 use choosing::ChosenDelivery;
 use lenses::heading;
-use lenses::links;
+use link_lenses::links;
 use marks::parts;
 use runs::picking;
 ghost use Prim.Native.Nat.{_+_, _≤_};

@@ -2,4 +2,3 @@ pub mod Holding
 pub mod Stores
 pub mod Lookups
 pub mod ChainWalks
-pub mod Spreads

@@ -1,7 +1,5 @@
-// What is read and changed in a tested run area: the copied table and its chains, one record, one link, the heading, what a process sends.
+// What is read and changed in a tested run area, but for its links: the copied table and its chains, one record, the heading.
 
 pub mod chains;
 pub mod heading;
-pub mod links;
 pub mod records;
-pub mod sending;

@@ -30,7 +30,7 @@ use Rattle.areas.specs.AreaFacts.{RightTable}
 use Rattle.areas.specs.AreaLaws.{areaRight-table, areaRight-stored}
 use Rattle.areas.specs.RunInLaws.{runIn-contained}
 use Rattle.areas.specs.Squares.{Row}
-use Rattle.lenses.specs.Changes.{spread}
+use Rattle.link_lenses.specs.Changes.{spread}
 use Rattle.lenses.specs.Storable.{Storable}
 use Rattle.lenses.specs.Ready.{Ready}
 use Rattle.lenses.specs.ReadyLaws.{right-storable, keeping-fields, keeping-run, keeping-again, ready-kept}

@@ -25,7 +25,7 @@ use Rattle.checks.specs.Run.{Run, IsEdition, started, startRun}
 use Rattle.areas.specs.Places.{headSize, fieldPlace, areaLength}
 use Rattle.areas.specs.Area.{fieldsIn, runIn}
 use Rattle.areas.specs.Replaced.{putProcess}
-use Rattle.lenses.specs.Changes.{spread}
+use Rattle.link_lenses.specs.Changes.{spread}
 use Rattle.lenses.specs.Ready.{Ready}
 
 -- "All values 0"

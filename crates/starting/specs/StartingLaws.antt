@@ -40,8 +40,9 @@ use Rattle.areas.specs.Places.{areaLength}
 use Rattle.areas.specs.Contained.{Shut}
 use Rattle.areas.specs.Replaced.{withLinks, putProcess}
 use Rattle.areas.specs.AreaFacts.{RightTable}
-use Rattle.lenses.specs.Changes.{spreadTo, spread}
-use Rattle.lenses.specs.ChangeLaws.{joins-high, storable-process, storable-spread}
+use Rattle.link_lenses.specs.Changes.{spreadTo, spread}
+use Rattle.lenses.specs.ChangeLaws.{joins-high, storable-process}
+use Rattle.link_lenses.specs.LinkChangeLaws.{storable-spread}
 use Rattle.machine.specs.FormedLaws.{wellFormed-P}
 use Rattle.lenses.specs.Storable.{Storable}
 use Rattle.starting.specs.StartCall.{startNumber}

@@ -3,7 +3,7 @@
 use areas::places;
 use lenses::chains;
 use lenses::records;
-use lenses::sending;
+use link_lenses::sending;
 use steps::Process;
 use tables::Chain;
 use tables::Reading;

@@ -8,7 +8,7 @@ use Rattle.checks.specs.Run.{Run}
 use Rattle.areas.specs.Area.{runIn}
 use Rattle.steps.specs.declared.Probes.{Probes}
 use Rattle.steps.specs.declared.Reply.{Reply}
-use Rattle.delivery.specs.Delivering.{probesGo, replyGoes}
+use Rattle.preparing.specs.Receiving.{probesGo, replyGoes}
 use Rattle.marks.specs.Changes.{Marked, MarkedAt, Turns}
 use Rattle.choosing.specs.Noting.{takenMarks, sentMarks, notedMarks}
 use Rattle.choosing.proofs.Following.{process-most, turns-marked}

@@ -10,7 +10,7 @@ use Rattle.tables.specs.Chains.{joins}
 use Rattle.steps.specs.declared.Probes.{Probes}
 use Rattle.steps.specs.declared.Probes.the-variants.{Sucs, Pres}
 use Rattle.areas.specs.Area.{runIn}
-use Rattle.delivery.specs.Delivering.{probesGo}
+use Rattle.preparing.specs.Receiving.{probesGo}
 use Rattle.marks.specs.Changes.{Turns}
 use Rattle.choosing.specs.Noting.{sentMarks}
 use Rattle.choosing.proofs.Following.{sent-nobody}

@@ -8,7 +8,7 @@ use borrow.Author.Needs.{needs}
 use Rattle.steps.specs.declared.Reply.{Reply}
 use Rattle.steps.specs.declared.Reply.the-variants.{To}
 use Rattle.steps.specs.declared.TwoCounts.{TwoCounts}
-use Rattle.delivery.specs.Delivering.{replyGoes}
+use Rattle.preparing.specs.Receiving.{replyGoes}
 use Rattle.marks.specs.Changes.{turned, Turns}
 use Rattle.choosing.specs.Noting.{sentMarks}
 use Rattle.choosing.proofs.Following.{sent-nobody, sent-one}

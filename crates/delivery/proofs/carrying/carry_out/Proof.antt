@@ -6,7 +6,7 @@ use borrow.Author.Needs.{needs}
 use lib.IntN.{ℤ}
 use Rattle.checks.specs.Run.{Run}
 use Rattle.areas.specs.Area.{runIn}
-use Rattle.lenses.specs.Changes.{answered, off}
+use Rattle.link_lenses.specs.Changes.{answered, off}
 use Rattle.delivery.specs.Delivering.{spreadBy, changed}
 use Rattle.lenses.proofs.Holding.{Holding, holding-ready}
 use Rattle.delivery.proofs.InOrder.{take-asks, taken-off, put-asks, record-put, reply-asks, reply-sent, send-asks, probes-sent, count-asks, all-done}

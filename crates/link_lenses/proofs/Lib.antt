@@ -1,0 +1,3 @@
+pub mod LinkStores
+pub mod LinkLookups
+pub mod Spreads
