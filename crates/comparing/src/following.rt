@@ -41,7 +41,7 @@ fn is_met(answer: Delivery) -> bool {
 
 // Tries a link, after so many with a message. Gives how many they are with it; the oldest message of link `goal` is taken.
 fn try_link(area: &mut [i32], from: usize, to: usize, goal: usize, count: usize) -> usize {
-    if is_met(runs::picking::pick(area, from, to, place(count, goal))) {
+    if is_met(picks::picking::pick(area, from, to, place(count, goal))) {
         return numbers::more(count);
     }
     count

@@ -1,6 +1,6 @@
 // One run of a case, from its start to its end, with every call compared with what the plain search expects (the crate `expecting`), for
-// the program `trials`. It calls the library as a host does: `starting`, `runs` and `reports`. It promises only that it is safe and ends; a
-// difference is an answer. The module `exchanging` puts other editions, second sums and messages into the area of a run that is over, `following`
+// the program `trials`. It calls the library as a host does: `starting`, `picks`, `runs` and `reports`. It promises only that it is safe
+// and ends; a difference is an answer. The module `exchanging` puts other editions, second sums and messages into the area of a run that is over, `following`
 // makes the deliveries of running on by picks, `repeating` runs on once more in a copy, `waiting` looks at the messages on a link, and `written`
 // compares how a table is read back.
 pub mod exchanging;
@@ -26,7 +26,7 @@ const TURNS: u32 = 100000000;
 fn pick(area: &mut [i32], found: &[bool; 16899], call: Call, c: Course) -> Course {
     let looked = ordering::is_looked_into(area.len(), call, c);
     let before = waiting::messages(area, call, looked);
-    let answer = runs::picking::pick(area, call.from, call.to, call.place);
+    let answer = picks::picking::pick(area, call.from, call.to, call.place);
     let after = waiting::messages(area, call, looked);
     let d = answers::picked(found, call, answer, c);
     if !looked || waiting::is_barred(answer) {

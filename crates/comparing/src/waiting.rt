@@ -84,7 +84,7 @@ fn without(number: usize, place: usize) -> usize {
 
 // The digits of the oldest message on the link of a call, which is delivered; 0 if there is none.
 fn take(area: &mut [i32], call: Call) -> usize {
-    match runs::picking::pick(area, call.from, call.to, 1) {
+    match picks::picking::pick(area, call.from, call.to, 1) {
         Delivery::Delivered(message) => digits(message),
         Delivery::Refused(_) => 0,
     }

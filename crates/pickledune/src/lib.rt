@@ -4,7 +4,7 @@
 use host_values::check_values;
 use host_values::step_values;
 use host_values::table_values;
-use runs::picking;
+use picks::picking;
 use runs::running;
 use runs::shuffled;
 use steps::Process;

@@ -1,4 +1,4 @@
--- `runs::picking::pick_in` meets its contract: who is no process has no link, and no more have two whose cell is 0.
+-- `picks::picking::pick_in` meets its contract: who is no process has no link, and no more have two whose cell is 0.
 -- Assumes nothing.
 use mathlib.Core.Bool.{true}
 use mathlib.Core.Path.{_≡_, refl, sym, ap, _∙_, subst}
@@ -17,8 +17,8 @@ use Rattle.areas.specs.SquareLaws.{cell-linked, cell-apart}
 use Rattle.lenses.specs.ReadyLaws.{ready-sizes}
 use Rattle.area_calls.specs.CallLaws.{pick-25}
 use Rattle.area_calls.specs.TestedLaws.{fresh-long, fresh-empty, none-from, none-to}
-use Rattle.runs.proofs.picking.pick_in.Statement.{statement}
-use Rattle.runs.proofs.picking.pick_in.Tie as tie
+use Rattle.picks.proofs.picking.pick_in.Statement.{statement}
+use Rattle.picks.proofs.picking.pick_in.Tie as tie
 
 returns : tie.Need-returns
 returns c =

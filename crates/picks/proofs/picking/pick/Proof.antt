@@ -1,10 +1,10 @@
--- `runs::picking::pick` meets its contract: 21 where the test fails, and else the pick in a tested area.
+-- `picks::picking::pick` meets its contract: 21 where the test fails, and else the pick in a tested area.
 -- Assumes nothing.
 use borrow.Author.Needs.{needs}
 use Rattle.area_calls.specs.CallLaws.{pick-21}
 use Rattle.area_calls.specs.TestedLaws.{wrong-area, right-ready}
-use Rattle.runs.proofs.picking.pick.Statement.{statement}
-use Rattle.runs.proofs.picking.pick.Tie as tie
+use Rattle.picks.proofs.picking.pick.Statement.{statement}
+use Rattle.picks.proofs.picking.pick.Tie as tie
 
 returns : tie.Need-returns
 returns c =

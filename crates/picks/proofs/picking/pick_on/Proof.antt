@@ -1,4 +1,4 @@
--- `runs::picking::pick_on` meets its contract: each way out is a law of CallLaws.
+-- `picks::picking::pick_on` meets its contract: each way out is a law of CallLaws.
 -- Assumes nothing.
 use mathlib.Core.Bool.{true}
 use mathlib.Core.Path.{_≡_, sym, _∙_}
@@ -7,8 +7,8 @@ use Rattle.tables.specs.Waits.{neighbours}
 use Rattle.areas.specs.Area.{runIn}
 use Rattle.lenses.specs.ReadyLaws.{ready-near}
 use Rattle.area_calls.specs.CallLaws.{pick-23, pick-on}
-use Rattle.runs.proofs.picking.pick_on.Statement.{statement}
-use Rattle.runs.proofs.picking.pick_on.Tie as tie
+use Rattle.picks.proofs.picking.pick_on.Statement.{statement}
+use Rattle.picks.proofs.picking.pick_on.Tie as tie
 
 -- the two are neighbours in the run
 joined : (s : tie.Start) → neighbours (runIn (s .args .area .now) .waits) (s .args .from) (s .args .to) ≡ true
