@@ -1,6 +1,6 @@
 // One run of a case, from its start to its end, with every call compared with what the plain search expects (the crate `expecting`), for
-// the program `trials`. It calls the library as a host does: `starting`, `picks`, `runs` and `reports`. It promises only that it is safe
-// and ends; a difference is an answer. The module `exchanging` puts other editions, second sums and messages into the area of a run that is over, `following`
+// the program `trials`. It calls the library as a host does: `starting`, `picks`, `runs`, `reports` and `record_reading`. It promises only
+// that it is safe and ends; a difference is an answer. The module `exchanging` puts other editions, second sums and messages into the area of a run that is over, `following`
 // makes the deliveries of running on by picks, `repeating` runs on once more in a copy, `waiting` looks at the messages on a link, and `written`
 // compares how a table is read back.
 pub mod exchanging;
@@ -74,7 +74,7 @@ fn make(area: &mut [i32], found: &[bool; 16899], n: usize, call: Call, c: Course
     match kind {
         ordering::PICK => pick(area, found, call, c),
         ordering::RUN_ON | ordering::RUN_SHUFFLED => run_on(area, n, call, c),
-        _ => answers::read(n, p, reports::read_record(area, p), c),
+        _ => answers::read(n, p, record_reading::read_record(area, p), c),
     }
 }
 
@@ -161,7 +161,7 @@ fn are_last(area: &[i32], found: &[bool; 16899], e: Expected) -> bool {
         if p > e.n {
             return true;
         }
-        let answer = reports::read_record(area, p);
+        let answer = record_reading::read_record(area, p);
         if !answers::is_last_record(answer, found, e, p) {
             return false;
         }

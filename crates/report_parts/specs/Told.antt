@@ -1,31 +1,19 @@
--- What the inner functions that make a report promise.
---   escapeTo r k     == the lowest process of 1 to k with subordinate 1, 0 if there is none
+-- What the parts of a report promise.
 --   wayOut e x p     == e, or p if e is 0 and the record x of p has subordinate 1
---   allowedIn r      == what the edition of a run asks of a knot in addition holds
 --   knotBy x a       == the verdict is knot, by the start's record and by whether the edition allows it
 --   toldOf x k d e   == the report at the end, by the start's record, the verdict, the count and the escape
 -- Assumes nothing.
 use Prim.Native.Nat.{ℕ}
 use mathlib.Core.Bool.{Bool, _&&_}
-use Rattle.base.specs.{Choice.choose, Sums.orNext, Sums.lowestTo}
+use Rattle.base.specs.{Choice.choose, Sums.orNext}
 use Rattle.steps.specs.declared.Process.{Process}
 use Rattle.checks.specs.declared.Report.{Report}
-use Rattle.checks.specs.Run.{Run}
 use Rattle.checks.specs.declared.Verdict.the-variants.{Knot, Free}
 use Rattle.checks.specs.Calls.{isSubordinate, isZero, markOf}
-use Rattle.checks.specs.Reach.{editionAllows}
-
--- escapeOf (checks, Calls) as far as a loop has come
-abbrev pub escapeTo : Run → ℕ → ℕ
-escapeTo r k = lowestTo k (λ p. isSubordinate (r .process p))
 
 -- the way out that was found before, or else p, if it is one
 abbrev pub wayOut : ℕ → Process → ℕ → ℕ
 wayOut e x p = orNext e (choose (isSubordinate x) p 0)
-
--- 02, N4: "Verdicts are judged by the edition named at start"
-abbrev pub allowedIn : Run → Bool
-allowedIn r = editionAllows (r .waits) (r .start) (r .edition)
 
 -- "verdict knot if cs of s is 0", and as the edition asks
 abbrev pub knotBy : Process → Bool → Bool

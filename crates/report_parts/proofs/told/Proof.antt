@@ -1,4 +1,4 @@
--- `reports::told` meets its contract: the sum comes back from its bits as it was.
+-- `report_parts::told` meets its contract: the sum comes back from its bits as it was.
 -- Assumes nothing.
 use mathlib.Core.Path.{ap₂}
 use borrow.Author.Needs.{needs}
@@ -7,8 +7,8 @@ use Rattle.steps.proofs.Counts.{signed-back}
 use Rattle.checks.specs.declared.Verdict.the-variants.{Knot, Free}
 use Rattle.checks.specs.declared.Mark.{Mark}
 use Rattle.checks.specs.declared.Report.{Report}
-use Rattle.reports.proofs.told.Statement.{statement}
-use Rattle.reports.proofs.told.Tie as tie
+use Rattle.report_parts.proofs.told.Statement.{statement}
+use Rattle.report_parts.proofs.told.Tie as tie
 
 returns : tie.Need-returns
 returns c =

@@ -1,10 +1,10 @@
--- `reports::read_record` meets its contract: 21 where the test fails, and else reading a record in a tested area.
+-- `record_reading::read_record` meets its contract: 21 where the test fails, and else reading a record in a tested area.
 -- Assumes nothing.
 use borrow.Author.Needs.{needs}
 use Rattle.area_calls.specs.CallLaws.{read-21}
 use Rattle.area_calls.specs.TestedLaws.{wrong-area, right-ready}
-use Rattle.reports.proofs.read_record.Statement.{statement}
-use Rattle.reports.proofs.read_record.Tie as tie
+use Rattle.record_reading.proofs.read_record.Statement.{statement}
+use Rattle.record_reading.proofs.read_record.Tie as tie
 
 returns : tie.Need-returns
 returns c =

@@ -1,9 +1,9 @@
--- `reports::way_out` meets its contract: each return is a law of ReportLaws.
+-- `report_parts::way_out` meets its contract: each return is a law of ToldLaws.
 -- Assumes nothing.
 use native.Mathlib.Omega.{arith}
-use Rattle.reports.specs.ReportLaws.{wayOut-found, wayOut-first, wayOut-none}
-use Rattle.reports.proofs.way_out.Statement.{statement}
-use Rattle.reports.proofs.way_out.Tie as tie
+use Rattle.report_parts.specs.ToldLaws.{wayOut-found, wayOut-first, wayOut-none}
+use Rattle.report_parts.proofs.way_out.Statement.{statement}
+use Rattle.report_parts.proofs.way_out.Tie as tie
 
 returns : tie.Need-returns
 returns c = let a = c .before .args in wayOut-found (a .found) (a .x) (a .p) (λ z. absurd (omega (arith, c .if1 .taken)))

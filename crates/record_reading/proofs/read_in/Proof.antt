@@ -1,4 +1,4 @@
--- `reports::read_in` meets its contract: each return is a law of CallLaws.
+-- `record_reading::read_in` meets its contract: each return is a law of CallLaws.
 -- Assumes nothing.
 use mathlib.Core.Path.{ap, _∙_}
 use borrow.Author.Needs.{needs}
@@ -7,8 +7,8 @@ use Rattle.tables.specs.TableLaws.{isProcess-P}
 use Rattle.checks.specs.declared.Reading.the-variants.{Found}
 use Rattle.area_calls.specs.CallLaws.{read-25, read-found}
 use Rattle.area_calls.specs.TestedLaws.{ready-process}
-use Rattle.reports.proofs.read_in.Statement.{statement}
-use Rattle.reports.proofs.read_in.Tie as tie
+use Rattle.record_reading.proofs.read_in.Statement.{statement}
+use Rattle.record_reading.proofs.read_in.Tie as tie
 
 returns : tie.Need-returns
 returns c =

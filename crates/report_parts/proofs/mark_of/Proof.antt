@@ -1,11 +1,11 @@
--- `reports::mark_of` meets its contract: the second sum comes back from its bits as it was.
+-- `report_parts::mark_of` meets its contract: the second sum comes back from its bits as it was.
 -- Assumes nothing.
 use lib.Dec.{lit<}
 use Rattle.areas.proofs.Signs.{word-is}
 use Rattle.checks.specs.AnswerLaws.{isZero-yes, isZero-no}
 use Rattle.areas.proofs.Signs.{word-some}
-use Rattle.reports.proofs.mark_of.Statement.{statement}
-use Rattle.reports.proofs.mark_of.Tie as tie
+use Rattle.report_parts.proofs.mark_of.Statement.{statement}
+use Rattle.report_parts.proofs.mark_of.Tie as tie
 
 returns : tie.Need-returns
 returns c =

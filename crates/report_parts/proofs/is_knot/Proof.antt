@@ -1,11 +1,11 @@
--- `reports::is_knot` meets its contract: the sum comes back from its bits as it was.
+-- `report_parts::is_knot` meets its contract: the sum comes back from its bits as it was.
 -- Assumes nothing.
 use lib.Dec.{lit<}
 use Rattle.areas.proofs.Signs.{word-is}
 use Rattle.checks.specs.AnswerLaws.{isZero-yes, isZero-no}
 use Rattle.areas.proofs.Signs.{word-some}
-use Rattle.reports.proofs.is_knot.Statement.{statement}
-use Rattle.reports.proofs.is_knot.Tie as tie
+use Rattle.report_parts.proofs.is_knot.Statement.{statement}
+use Rattle.report_parts.proofs.is_knot.Tie as tie
 
 returns : tie.Need-returns
 returns c = rw (isZero-no (c .before .before .args .start .cs) (word-some (c .before .before .args .start .cs) (c .if1 .taken)))
