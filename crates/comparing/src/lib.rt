@@ -1,8 +1,8 @@
 // One run of a case, from its start to its end, with every call compared with what the plain search expects (the crate `expecting`), for
 // the program `trials`. It calls the library as a host does: `starting`, `picks`, `runs`, `reports` and `record_reading`. It promises only
-// that it is safe and ends; a difference is an answer. The module `exchanging` puts other editions, second sums and messages into the area of a run that is over, `following`
-// makes the deliveries of running on by picks, `repeating` runs on once more in a copy, `waiting` looks at the messages on a link, and `written`
-// compares how a table is read back.
+// that it is safe and ends; a difference is an answer. The module `exchanging` puts other editions, second sums and messages into the area
+// of a run that is over, `following` makes the deliveries of running on by picks, `repeating` runs on once more in a copy, `waiting` looks
+// at the messages on a link, and `written` compares how a table is read back.
 pub mod exchanging;
 pub mod following;
 pub mod repeating;

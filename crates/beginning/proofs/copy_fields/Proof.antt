@@ -1,4 +1,4 @@
--- `starting::copy_fields` meets its contract. The loop's invariant: the fields before j are copied, and every other word is as before. The
+-- `beginning::copy_fields` meets its contract. The loop's invariant: the fields before j are copied, and every other word is as before. The
 -- measure is what is left.
 -- Assumes nothing.
 use Prim.Native.Nat.{_-_, _≤_, _<_}
@@ -7,10 +7,10 @@ use native.Mathlib.Omega.{arith}
 use Rattle.tables.specs.Table.{fieldOf}
 use Rattle.tables.specs.TableLaws.{fieldOf-small}
 use Rattle.areas.proofs.Signs.{word-number}
-use Rattle.starting.specs.Starting.{Copied}
-use Rattle.starting.proofs.Laying.{copied-none, copied-more}
-use Rattle.starting.proofs.copy_fields.Statement.{statement}
-use Rattle.starting.proofs.copy_fields.Tie as tie
+use Rattle.beginning.specs.Starting.{Copied}
+use Rattle.beginning.proofs.Laying.{copied-none, copied-more}
+use Rattle.beginning.proofs.copy_fields.Statement.{statement}
+use Rattle.beginning.proofs.copy_fields.Tie as tie
 
 abbrev Inv-loop : tie.InvT-loop
 Inv-loop table count area₀ j₀ area j = (j ≤ count) × Copied (fieldOf table) area₀ j area

@@ -3,29 +3,25 @@
 --   started-inRange, started-father, begun-room, sucSent-room   == what the changes ask of the values
 --   startRun-made     == the last is the run of `checks`' own start
 --   accepted-table    == the table of accepted bytes
---   startNumber-startable   == what a start that no row refuses says of its table, its process and its words
 -- Assumes nothing.
 use Prim.Native.Nat.{ℕ, _+_, _*_, _≤_}
-use mathlib.Core.Bool.{Bool, true, false, not, _&&_}
+use mathlib.Core.Bool.{Bool, true, false, _&&_}
 use mathlib.Core.List.{List, [], _++_}
 use mathlib.Core.Path.{_≡_, refl, ap, fun-ext}
 use native.Mathlib.Omega.{arith}
-use borrow.Author.Tests.{ltb-false, leb-false, le-leb}
-use lib.Dec.{eqb, ltb, leb}
+use borrow.Author.Tests.{leb-false, le-leb}
+use lib.Dec.{eqb, leb}
 use lib.ListN.{length, getD, List·getD-eq-default}
-use lib.IntN.{ℤ, pos}
+use lib.IntN.{pos}
 use Rattle.machine.specs.Machine as Machines
-use Rattle.tables.specs.TableLaws.{isProcess-P}
 use Rattle.base.specs.Choice.{choose}
-use Rattle.base.specs.ChoiceLaws.{tested, same?, and-both}
-use Rattle.base.specs.Checks.{Tested, passed, failed, Same, same, apart}
+use Rattle.base.specs.ChoiceLaws.{tested, and-both}
+use Rattle.base.specs.Checks.{Tested, passed, failed}
 use Rattle.base.specs.SumLaws.{countTo-most}
 use Rattle.tables.specs.declared.Chain.{Chain}
 use Rattle.tables.specs.declared.Chain.the-variants.{Out, In}
-use Rattle.tables.specs.Table.{Fields, fieldOf, nOf, mOf, IsProcess, isProcess}
-use Rattle.tables.specs.Reading.{readNumber}
+use Rattle.tables.specs.Table.{Fields, fieldOf, nOf, IsProcess}
 use Rattle.tables.specs.Layout.{Right, MeetsLayout}
-use Rattle.tables.specs.LayoutLaws.{accepted-P}
 use Rattle.tables.specs.Waits.{Waits, waitsOf, outDegree, inDegree}
 use Rattle.tables.specs.Sound.{Sound}
 use Rattle.tables.specs.WaitsLaws.{waitsOf-sound}
@@ -34,9 +30,8 @@ use Rattle.steps.specs.declared.Message.{Message}
 use Rattle.steps.specs.declared.Message.the-variants.{Suc, Pre}
 use Rattle.steps.specs.Step.{mostNum, inRange, small, ownCount}
 use Rattle.steps.specs.StepLaws.{ownCount-small}
-use Rattle.checks.specs.Run.{IsEdition, isEdition, knot, fatherRight, one, started, startRun}
+use Rattle.checks.specs.Run.{IsEdition, knot, fatherRight, one, started, startRun}
 use Rattle.checks.specs.RunLaws.{isEdition-P}
-use Rattle.areas.specs.Places.{areaLength}
 use Rattle.areas.specs.Contained.{Shut}
 use Rattle.areas.specs.Replaced.{withLinks, putProcess}
 use Rattle.areas.specs.AreaFacts.{RightTable}
@@ -44,8 +39,7 @@ use Rattle.lenses.specs.Changes.{spreadTo, spread}
 use Rattle.lenses.specs.ChangeLaws.{joins-high, storable-process, storable-spread}
 use Rattle.machine.specs.FormedLaws.{wellFormed-P}
 use Rattle.lenses.specs.Storable.{Storable}
-use Rattle.starting.specs.StartCall.{startNumber}
-use Rattle.starting.specs.Starting.{quiet, begun, sucSent, Startable}
+use Rattle.beginning.specs.Starting.{quiet, begun, sucSent}
 
 -- ---- the values of the start's record
 
@@ -155,39 +149,3 @@ fieldOf-shut bs h j u =
 
 pub accepted-table : (bs : List ℕ) → MeetsLayout bs → RightTable (fieldOf bs)
 accepted-table bs h = record { right = h .right; shut = fieldOf-shut bs h }
-
--- ---- an accepted start
-
-pub startNumber-startable : (bs : List ℕ) (s ed : ℕ) (w : List ℤ) → startNumber bs s ed w ≡ 0
-    → Startable bs (nOf (fieldOf bs)) (mOf (fieldOf bs)) s ed w
-unfolding startNumber
-startNumber-startable bs s ed w e =
-    at (same? (readNumber bs) 0) (tested (isProcess n s)) (tested (isEdition ed)) (tested (ltb (length w) (areaLength n m))) e
-  where
-    n : ℕ
-    n = nOf (fieldOf bs)
-
-    m : ℕ
-    m = mOf (fieldOf bs)
-
-    -- a refusal's number is not 0
-    not-zero : (r : ℕ) → 1 ≤ r → r ≡ 0 → ⊥
-    not-zero r h z = omega arith
-
-    at : Same (readNumber bs) 0 → Tested (isProcess n s) → Tested (isEdition ed) → Tested (ltb (length w) (areaLength n m))
-        → choose (not (eqb (readNumber bs) 0)) (readNumber bs)
-        (choose (not (isProcess n s)) 8 (choose (not (isEdition ed)) 30 (choose (ltb (length w) (areaLength n m)) 9 0))) ≡ 0
-        → Startable bs n m s ed w
-    at (apart d f) p v l q = absurd (d (rw f at q))
-    at (same d f) (failed p) v l q = absurd (not-zero 8 (omega arith) (rw (f, p) at q))
-    at (same d f) (passed p) (failed v) l q = absurd (not-zero 30 (omega arith) (rw (f, p, v) at q))
-    at (same d f) (passed p) (passed v) (passed l) q = absurd (not-zero 9 (omega arith) (rw (f, p, v, l) at q))
-    at (same d f) (passed p) (passed v) (failed l) q =
-        record {
-          accepted = accepted-P bs .0 d;
-          n-is = refl;
-          m-is = refl;
-          start-in = isProcess-P n s .0 p;
-          edition = isEdition-P ed .0 v;
-          long = ltb-false (length w) (areaLength n m) l;
-        }

@@ -34,9 +34,9 @@ use Rattle.lenses.specs.Changes.{spread}
 use Rattle.lenses.specs.Storable.{Storable}
 use Rattle.lenses.specs.Ready.{Ready}
 use Rattle.lenses.specs.ReadyLaws.{right-storable, keeping-fields, keeping-run, keeping-again, ready-kept}
-use Rattle.starting.specs.Starting.{quiet, begun, sucSent, Startable, Unbegun}
-use Rattle.starting.specs.StartingLaws.{quiet-fit, begun-fit, begun-room, sucSent-fit, sucSent-room, startRun-made, started-inRange}
-use Rattle.starting.specs.StartingLaws.{started-father, accepted-table}
+use Rattle.beginning.specs.Starting.{quiet, begun, sucSent, Startable, Unbegun}
+use Rattle.beginning.specs.StartingLaws.{quiet-fit, begun-fit, begun-room, sucSent-fit, sucSent-room, startRun-made, started-inRange}
+use Rattle.beginning.specs.StartingLaws.{started-father, accepted-table}
 
 -- an area with another run of the same table in it
 pub record Stage (w : List ℤ) (n m : ℕ) (r : Run) (new : List ℤ) : Type 0 where

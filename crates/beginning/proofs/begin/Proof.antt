@@ -1,4 +1,4 @@
--- `starting::begin` meets its contract: after each call the area holds the run of the next stage, which has room for the probes to come and the
+-- `beginning::begin` meets its contract: after each call the area holds the run of the next stage, which has room for the probes to come and the
 -- same table, so that the start's row stays right.
 -- Assumes nothing.
 use Prim.Native.Nat.{ℕ}
@@ -7,10 +7,10 @@ use lib.ListN.{length-replicate}
 use Rattle.base.specs.CountLaws.{replicate-zero}
 use Rattle.tables.specs.Pairs.{squareSide}
 use Rattle.areas.specs.Area.{fieldsIn, runIn}
-use Rattle.starting.specs.Starting.{begun, sucSent}
-use Rattle.starting.proofs.Beginning.{Stage, row-kept, record-inRange, record-father, put-stage, put-room, suc-stage, suc-room, begin-made}
-use Rattle.starting.proofs.begin.Statement.{statement}
-use Rattle.starting.proofs.begin.Tie as tie
+use Rattle.beginning.specs.Starting.{begun, sucSent}
+use Rattle.beginning.proofs.Beginning.{Stage, row-kept, record-inRange, record-father, put-stage, put-room, suc-stage, suc-room, begin-made}
+use Rattle.beginning.proofs.begin.Statement.{statement}
+use Rattle.beginning.proofs.begin.Tie as tie
 
 fill-row-requires : tie.Need-fill-row-requires
 fill-row-requires c κs =

@@ -5,17 +5,14 @@
 --   startOf t s ed, begunIn w s   == the run that a start leaves, of the table t; the same of an area's own table and edition
 --   Startable bs n m s ed w   == what the checks leave: an accepted table with its N and M, a process of it, an edition, and words enough
 --   Unbegun w n m s    == the area w holds the quiet run of its table, ready to begin
---   rowMet p v l       == the first of the rows 8, 30 and 9 that is met, by the tests of the process, of the edition and of too few words
 --   Cleared old n new  == the first n words are 0, the others as before
 --   Copied t old n new == the words behind the heading are the first n fields of t, the others as before
 -- Assumes nothing.
 use Prim.Native.Nat.{ℕ, _+_, _≤_, _<_}
-use mathlib.Core.Bool.{Bool, not}
 use mathlib.Core.List.{List, []}
 use mathlib.Core.Path.{_≡_}
 use lib.ListN.{length, getD}
 use lib.IntN.{ℤ, pos}
-use Rattle.base.specs.Choice.{choose}
 use Rattle.tables.specs.declared.Chain.the-variants.{Out}
 use Rattle.tables.specs.Table.{Fields, fieldOf, nOf, mOf, IsProcess}
 use Rattle.tables.specs.Layout.{MeetsLayout}
@@ -46,10 +43,6 @@ startOf t s ed = startRun (waitsOf t) s ed
 
 abbrev pub begunIn : List ℤ → ℕ → Run
 begunIn w s = startOf (fieldsIn w) s (runIn w .edition)
-
--- start "1 to 9", 30 "after 8 and before 9" (02, N4): what startNumber (StartCall) says of an accepted table
-abbrev pub rowMet : Bool → Bool → Bool → ℕ
-rowMet process named short = choose (not process) 8 (choose (not named) 30 (choose short 9 0))
 
 pub record Startable (bs : List ℕ) (n m s ed : ℕ) (w : List ℤ) : Type 0 where
   pub accepted : MeetsLayout bs

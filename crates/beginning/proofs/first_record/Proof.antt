@@ -1,4 +1,4 @@
--- `starting::first_record` meets its contract: each degree is at most n, so that their sum fits.
+-- `beginning::first_record` meets its contract: each degree is at most n, so that their sum fits.
 -- Assumes nothing.
 use native.Mathlib.Omega.{arith}
 use borrow.Author.Needs.{needs}
@@ -8,8 +8,8 @@ use Rattle.steps.proofs.Counts.{signed-back}
 use Rattle.checks.specs.Run.{started}
 use Rattle.areas.specs.Area.{runIn}
 use Rattle.lenses.specs.ReadyLaws.{ready-n, ready-sizes}
-use Rattle.starting.proofs.first_record.Statement.{statement}
-use Rattle.starting.proofs.first_record.Tie as tie
+use Rattle.beginning.proofs.first_record.Statement.{statement}
+use Rattle.beginning.proofs.first_record.Tie as tie
 
 add-t8 : tie.Need-add-t8
 unfolding outDegree inDegree

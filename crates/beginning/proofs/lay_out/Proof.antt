@@ -1,4 +1,4 @@
--- `starting::lay_out` meets its contract: the words are cleared, the fields copied, the check, the start and the edition named, and these are
+-- `beginning::lay_out` meets its contract: the words are cleared, the fields copied, the check, the start and the edition named, and these are
 -- the words of the quiet run.
 -- Assumes nothing.
 use Prim.Native.Nat.{ℕ}
@@ -11,10 +11,10 @@ use Rattle.checks.specs.RunLaws.{edition-few}
 use Rattle.areas.specs.Places.{areaLength}
 use Rattle.areas.specs.Area.{fieldTotalOf, areaOf}
 use Rattle.areas.proofs.Signs.{word-number}
-use Rattle.starting.specs.Starting.{Cleared, Copied}
-use Rattle.starting.proofs.Laying.{quiet-laid}
-use Rattle.starting.proofs.lay_out.Statement.{statement}
-use Rattle.starting.proofs.lay_out.Tie as tie
+use Rattle.beginning.specs.Starting.{Cleared, Copied}
+use Rattle.beginning.proofs.Laying.{quiet-laid}
+use Rattle.beginning.proofs.lay_out.Statement.{statement}
+use Rattle.beginning.proofs.lay_out.Tie as tie
 
 slice-set-from-start : tie.Need-slice-set-from-start
 slice-set-from-start c =

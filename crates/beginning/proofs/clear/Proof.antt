@@ -1,12 +1,12 @@
--- `starting::clear` meets its contract. The loop's invariant: the words before k are 0, the others as before. The measure is what is left.
+-- `beginning::clear` meets its contract. The loop's invariant: the words before k are 0, the others as before. The measure is what is left.
 -- Assumes nothing.
 use Prim.Native.Nat.{_-_, _≤_}
 use mathlib.Core.Path.{_≡_}
 use native.Mathlib.Omega.{arith}
-use Rattle.starting.specs.Starting.{Cleared}
-use Rattle.starting.proofs.Laying.{cleared-none, cleared-more}
-use Rattle.starting.proofs.clear.Statement.{statement}
-use Rattle.starting.proofs.clear.Tie as tie
+use Rattle.beginning.specs.Starting.{Cleared}
+use Rattle.beginning.proofs.Laying.{cleared-none, cleared-more}
+use Rattle.beginning.proofs.clear.Statement.{statement}
+use Rattle.beginning.proofs.clear.Tie as tie
 
 abbrev Inv-loop : tie.InvT-loop
 Inv-loop area₀ count k₀ area k = (k ≤ count) × Cleared area₀ k area

@@ -24,7 +24,7 @@ use Rattle.areas.specs.Area.{areaOf}
 use Rattle.areas.specs.StoredLaws.{stored-of}
 use Rattle.areas.specs.WordLaws.{wordOf-head, wordOf-field, wordOf-record, wordOf-arc, place?}
 use Rattle.areas.specs.Regions.{Place, in-head, in-table, in-record, in-links}
-use Rattle.starting.specs.Starting.{quiet, Cleared, Copied}
+use Rattle.beginning.specs.Starting.{quiet, Cleared, Copied}
 
 -- ---- words cleared
 
