@@ -23,8 +23,9 @@ use Rattle.areas.specs.OverlaidLaws.{wordsTo-length}
 use Rattle.areas.specs.AreaFacts.{RightTable}
 use Rattle.lenses.specs.Storable.{Storable}
 use Rattle.starting.specs.StartCall.{startNumber, startArea}
-use Rattle.starting.specs.Starting.{Startable}
-use Rattle.starting.specs.StartingLaws.{start-fit, accepted-table, startNumber-startable}
+use Rattle.beginning.specs.Starting.{Startable}
+use Rattle.beginning.specs.StartingLaws.{start-fit, accepted-table}
+use Rattle.starting.specs.StartCallLaws.{startNumber-startable}
 use Rattle.area_calls.specs.AreaCalls.{areaPassed, asRun, AreaPromise}
 use Rattle.area_ending.specs.ListLaws.{right, run, list-stored, fit-list}
 

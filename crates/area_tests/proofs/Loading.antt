@@ -23,7 +23,7 @@ use Rattle.areas.specs.Contained.{cut}
 use Rattle.areas.specs.Area.{fieldTotalOf, numberAt, fieldsIn}
 use Rattle.areas.specs.RunInLaws.{fieldsIn-n, fieldsIn-m}
 use Rattle.area_tests.specs.AreaTests.{fieldWord, fieldTest}
-use Rattle.area_tests.specs.RegionLaws.{fieldTest-P}
+use Rattle.area_tests.specs.AreaTestsLaws.{fieldTest-P}
 use Rattle.area_tests.specs.Testing.{CopiedTo}
 
 -- ---- the bytes

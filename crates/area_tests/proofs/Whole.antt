@@ -1,4 +1,5 @@
 -- The whole test of an area, by the ways that the code goes.
+--   AreaParts, areaTests-parts   == the parts of the test that the code makes
 --   Sized w n m               == the sizes passed, and n and m are N and M of the area
 --   sized-of, sized-not       == what the answer of the sizes says
 --   bounds                    == how large they are, and that there are words enough
@@ -6,7 +7,7 @@
 --   wrong                     == a way out that fails a part of the test
 --   accepted                  == the way out that passes all parts
 -- Assumes nothing.
-use Prim.Native.Nat.{ℕ, _≤_}
+use Prim.Native.Nat.{ℕ, _-_, _≤_}
 use mathlib.Core.Bool.{Bool, true, false}
 use mathlib.Core.List.{List}
 use mathlib.Core.Path.{_≡_, refl, sym, _∙_}
@@ -18,10 +19,42 @@ use Rattle.area_tests.specs.declared.testing.Sizes.{Sizes}
 use Rattle.areas.specs.Places.{fieldPlace, areaLength}
 use Rattle.areas.specs.Area.{fieldTotalOf, numberAt, fieldsIn, areaRight}
 use Rattle.areas.specs.RunInLaws.{fieldsIn-n, fieldsIn-m}
-use Rattle.area_tests.specs.AreaTests.{sizesTest}
+use Rattle.area_tests.specs.AreaTests.{fieldTest, areaTests}
+use Rattle.region_tests.specs.RegionTests.{sizesTest, headTest, recordTest, arcTest}
 use Rattle.area_tests.specs.Testing.{sizesOf}
-use Rattle.area_tests.specs.AreaTestsLaws.{sizesTest-P, areaTests-P}
-use Rattle.area_tests.proofs.Ways.{tells-no, AreaParts, areaTests-parts}
+use Rattle.area_tests.specs.AreaTestsLaws.{areaTests-P}
+use Rattle.region_tests.specs.RegionLaws.{sizesTest-P}
+use Rattle.region_tests.proofs.Ways.{tells-no}
+use Rattle.base.specs.Sums.{allTo}
+use Rattle.tables.specs.Reading.{fieldsNumber}
+use Rattle.areas.specs.Tells.{Tells}
+use Rattle.areas.specs.TellsLaws.{tells-map, tells-eq, tells-id, tells-both}
+
+-- ---- the parts
+
+pub record AreaParts (w : List ℤ) : Type 0 where
+  pub sizes : sizesTest w ≡ true
+  pub fields : allTo (fieldTotalOf (fieldsIn w)) (λ j. fieldTest w (j - 1)) ≡ true
+  pub table : fieldsNumber (fieldsIn w) ≡ 0
+  pub head : headTest w ≡ true
+  pub records : allTo (nOf (fieldsIn w)) (recordTest w) ≡ true
+  pub arcs : allTo (mOf (fieldsIn w)) (arcTest w) ≡ true
+
+pub areaTests-parts : (w : List ℤ) → Tells (areaTests w) (AreaParts w)
+unfolding areaTests
+areaTests-parts w =
+    tells-map (λ s. record { sizes = s .0 .0 .0 .0 .0; fields = s .0 .0 .0 .0 .1; table = s .0 .0 .0 .1; head = s .0 .0 .1; records = s .0 .1; arcs = s .1 })
+    (λ s. (((((s .sizes, s .fields), s .table), s .head), s .records), s .arcs))
+    (tells-both
+    (tells-both
+    (tells-both
+    (tells-both (tells-both (tells-id (sizesTest w)) (tells-id (allTo (fieldTotalOf (fieldsIn w)) (λ j. fieldTest w (j - 1)))))
+    (tells-eq (fieldsNumber (fieldsIn w)) 0))
+    (tells-id (headTest w)))
+    (tells-id (allTo (nOf (fieldsIn w)) (recordTest w))))
+    (tells-id (allTo (mOf (fieldsIn w)) (arcTest w))))
+
+-- ---- the ways
 
 pub record Sized (w : List ℤ) (n m : ℕ) : Type 0 where
   pub test : sizesTest w ≡ true

@@ -1,18 +1,18 @@
 -- The test of an area region by region is the readable definition of a well-formed area.
---   sizesTest-P       == what the test of the sizes says
+--   fieldTest-P       == a field is a number of 16 bits
 --   areaTests-P       == the tests region by region say what `areaRight` says, so they are the same
 -- Assumes nothing.
 use Prim.Native.Nat.{ℕ, _≤_, _<_}
 use mathlib.Core.Bool.{true}
 use mathlib.Core.List.{List, []}
 use mathlib.Core.Path.{_≡_, refl, sym, ap, _∙_}
-use lib.ListN.{length, getD}
+use lib.ListN.{getD}
 use lib.IntN.{ℤ, pos}
 use native.Mathlib.Omega.{arith}
 use Rattle.machine.specs.Machine as Machines
 use Rattle.base.specs.ChoiceLaws.{tested}
 use Rattle.base.specs.Checks.{Tested, passed, failed}
-use Rattle.tables.specs.Table.{Fields, nOf, mOf, mostProcesses, mostArcs, IsProcess, arcAt}
+use Rattle.tables.specs.Table.{Fields, nOf, mOf, IsProcess, arcAt}
 use Rattle.tables.specs.Layout.{IsArc, Right}
 use Rattle.tables.specs.LayoutLaws.{fieldsNumber-P}
 use Rattle.tables.specs.Reading.{fieldsNumber}
@@ -20,7 +20,7 @@ use Rattle.tables.specs.Waits.{waitsOf, neighbours}
 use Rattle.machine.specs.Formed.{Formed}
 use Rattle.machine.specs.FormedLaws.{wellFormed-P, linkRight-P}
 use Rattle.checks.specs.Run.{knot, linkRight}
-use Rattle.areas.specs.Places.{fieldPlace, areaLength}
+use Rattle.areas.specs.Places.{fieldPlace}
 use Rattle.areas.specs.Area.{fieldTotalOf, numberAt, fieldsIn, runIn, areaRight}
 use Rattle.areas.specs.Arcs.{LinkAt, forth, back}
 use Rattle.areas.specs.AreaFacts.{AreaRight}
@@ -29,25 +29,18 @@ use Rattle.areas.specs.TellsLaws.{tells-map, tells-le, tells-eq, tells-id, tell
 use Rattle.areas.specs.ArcLaws.{linkOf-at}
 use Rattle.areas.specs.WordTestLaws.{counts-of}
 use Rattle.areas.specs.ContainedLaws.{contained-joined}
-use Rattle.areas.specs.RunInLaws.{fieldsIn-n, fieldsIn-m, fieldsIn-at, runIn-n, runIn-contained}
+use Rattle.areas.specs.RunInLaws.{fieldsIn-at, runIn-n, runIn-contained}
 use Rattle.areas.specs.AreaLaws.{areaRight-P}
-use Rattle.area_tests.specs.AreaTests.{sizesTest, fieldTest, recordTest, arcTest, areaTests}
-use Rattle.area_tests.specs.RegionFacts.{SizesFacts, HeadRight, RecordRight, ArcRight, Placed}
-use Rattle.area_tests.specs.RegionLaws.{fieldTest-P, headTest-P, recordTest-P, arcTest-P, placed-P}
+use Rattle.area_tests.specs.AreaTests.{fieldTest, areaTests}
+use Rattle.region_tests.specs.RegionTests.{recordTest, arcTest}
+use Rattle.region_tests.specs.RegionFacts.{SizesFacts, HeadRight, RecordRight, ArcRight, Placed}
+use Rattle.region_tests.specs.RegionLaws.{sizesTest-P, headTest-P, recordTest-P, arcTest-P, placed-P}
+use Rattle.word_tests.specs.LinkTestLaws.{tells-counts}
 
-pub sizesTest-P : (w : List ℤ) → Tells (sizesTest w) (SizesFacts w)
-unfolding sizesTest
-sizesTest-P w =
-    let n : nOf (fieldsIn w) ≡ numberAt w (fieldPlace 0) = fieldsIn-n w in
-    let m : mOf (fieldsIn w) ≡ numberAt w (fieldPlace 1) = fieldsIn-m w in
-    tells-map (λ s. record { long = s .0 .0 .0 .0; sizes = (omega arith, omega arith, omega arith); enough = omega arith })
-    (λ s. ((((s .long, omega arith), omega arith), omega arith), omega arith))
-    (tells-both
-    (tells-both
-    (tells-both (tells-both (tells-le (fieldPlace 2) (length w)) (tells-le 1 (numberAt w (fieldPlace 0))))
-    (tells-le (numberAt w (fieldPlace 0)) mostProcesses))
-    (tells-le (numberAt w (fieldPlace 1)) mostArcs))
-    (tells-le (areaLength (numberAt w (fieldPlace 0)) (numberAt w (fieldPlace 1))) (length w)))
+pub fieldTest-P : (w : List ℤ) (j : ℕ)
+    → Tells (fieldTest w j) ((getD w (fieldPlace j) (pos 0) ≡ pos (numberAt w (fieldPlace j))) × (numberAt w (fieldPlace j) ≤ 65535))
+unfolding fieldTest
+fieldTest-P w j = tells-both (tells-counts w (fieldPlace j)) (tells-le (numberAt w (fieldPlace j)) 65535)
 
 linkRight-empty : linkRight [] ≡ true
 unfolding Machines.linkRight Machines.allRight

@@ -1,20 +1,15 @@
 -- What the code of the test leaves.
 --   sizesOf b w       == the answer of a test that came out as b: N and M of the area, or wrong
---   CopiedTo w c bs     == bytes hold the first c fields of the area's table, and 0 past them
---   SetsAre S l       == the set of each process a in the array l holds exactly those b that pass S a b
---   Waiting t l       == the array holds for each process those that it waits for by the table t
+--   CopiedTo w c bs   == bytes hold the first c fields of the area's table, and 0 past them
 -- Assumes nothing.
-use Prim.Native.Nat.{ℕ, _≤_}
+use Prim.Native.Nat.{ℕ}
 use mathlib.Core.Bool.{Bool, true, false}
 use mathlib.Core.List.{List}
 use mathlib.Core.Path.{_≡_}
 use lib.Dec.{ltb}
 use lib.IntN.{ℤ}
-use lib.ListN.{length}
 use Rattle.base.specs.Choice.{choose}
-use Rattle.tables.specs.Table.{Fields, fieldOf, mostProcesses}
-use Rattle.tables.specs.Waits.{waitsOf}
-use Rattle.sets.specs.Sets.{setsSize, SetIs}
+use Rattle.tables.specs.Table.{fieldOf}
 use Rattle.area_tests.specs.declared.testing.Sizes.{Sizes}
 use Rattle.area_tests.specs.declared.testing.Sizes.the-variants.{Right, Wrong}
 use Rattle.areas.specs.Places.{fieldPlace}
@@ -26,12 +21,3 @@ sizesOf false w = Wrong
 
 pub record CopiedTo (w : List ℤ) (c : ℕ) (bs : List ℕ) : Type 0 where
   pub fields : (j : ℕ) → fieldOf bs j ≡ choose (ltb j c) (numberAt w (fieldPlace j)) 0
-
--- the sets of an array
-pub record SetsAre (S : ℕ → ℕ → Bool) (l : List ℕ) : Type 0 where
-  pub long : length l ≡ setsSize
-  pub sets : (a : ℕ) → a ≤ mostProcesses → SetIs l a (S a)
-
--- the sets of a table
-abbrev pub Waiting : Fields → List ℕ → Type 0
-Waiting t l = SetsAre (waitsOf t .waits) l

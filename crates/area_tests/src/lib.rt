@@ -1,4 +1,3 @@
 // The test of a run area: any words whatever, in one pass.
 
 pub mod testing;
-pub mod word_tests;

@@ -1,5 +1,5 @@
 // One run of a case, from its start to its end, with every call compared with what the plain search expects (the crate `expecting`), for
-// the program `trials`. It calls the library as a host does: `starting`, `runs` and `reports`. It promises only that it is safe and ends; a
+// the program `trials`. It calls the library as a host does: `starting`, `picks`, `runs`, `reports` and `record_reading`. It promises only that it is safe and ends; a
 // difference is an answer. The module `written` compares how a table is read back. Which words a call changes, and what it makes of areas
 // that no run leaves, is compared in hosts/rust/compare, with a plain Rust and word for word.
 pub mod written;
@@ -34,12 +34,12 @@ fn make(area: &mut [i32], found: &[bool; 16899], n: usize, call: Call, c: Course
             answers::picked(
                 found,
                 call,
-                runs::picking::pick(area, p, call.to, call.place),
+                picks::picking::pick(area, p, call.to, call.place),
                 c,
             )
         }
         ordering::RUN_ON | ordering::RUN_SHUFFLED => answers::ran(call, run_on(area, call), c),
-        _ => answers::read(n, p, reports::read_record(area, p), c),
+        _ => answers::read(n, p, record_reading::read_record(area, p), c),
     }
 }
 
@@ -99,7 +99,7 @@ fn are_last(area: &[i32], found: &[bool; 16899], e: Expected) -> bool {
         if p > e.n {
             return true;
         }
-        let answer = reports::read_record(area, p);
+        let answer = record_reading::read_record(area, p);
         if !answers::is_last_record(answer, found, e, p) {
             return false;
         }

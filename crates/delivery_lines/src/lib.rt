@@ -1,12 +1,12 @@
 // The lines of the picks and of the deliveries that the check program makes itself, each put while its delivery is made, behind those before (01, "The
-// check program"; program_text, `Program`). Each function says which run the area holds after it. It stands on `runs`, `choosing`, `inputs`,
-// `lines` and below; it refuses nothing, and puts the number of a refused delivery.
+// check program"; program_text, `Program`). Each function says which run the area holds after it. It stands on `picks`, `runs`, `choosing`,
+// `inputs`, `lines` and below; it refuses nothing, and puts the number of a refused delivery.
 use checks::Delivery;
 use choosing::ChosenDelivery;
 use lenses::heading;
 use link_lenses::links;
 use marks::parts;
-use runs::picking;
+use picks::picking;
 ghost use Prim.Native.Nat.{_+_, _≤_};
 ghost use mathlib.Core.Path.{_≡_};
 ghost use lib.ListN.{length};

@@ -4,7 +4,7 @@
 use host_values::check_values;
 use host_values::step_values;
 use host_values::table_values;
-use runs::picking;
+use picks::picking;
 use runs::running;
 use runs::shuffled;
 use steps::Process;
@@ -218,7 +218,7 @@ pub extern "C" fn pickledune_read_record(
     ensures father { λ _. ⌜ now (father .exit) ≡ readingProcess (readAnswer (now (area .entry)) process) .father ⌝ }
     ensures second { λ _. ⌜ now (second .exit) ≡ readingProcess (readAnswer (now (area .entry)) process) .second ⌝ }
 {
-    let v = check_values::record_values(reports::read_record(area, process));
+    let v = check_values::record_values(record_reading::read_record(area, process));
     let x = v.process;
     *succeeding = x.succeeding;
     *preceding = x.preceding;

@@ -38,7 +38,7 @@ use Rattle.ending.specs.EndingLaws.{ending-runs-out, ending-over}
 use Rattle.ending.specs.SpreadEndLaws.{dOf-most}
 use Rattle.lenses.specs.Storable.{Storable}
 use Rattle.starting.specs.StartCall.{startNumber}
-use Rattle.starting.specs.Starting.{Startable}
+use Rattle.beginning.specs.Starting.{Startable}
 use Rattle.area_ending.specs.AreaEnding as AreaEnding
 use Rattle.area_ending.specs.AreaEnding.{table, fits-last, area-run, area-ending}
 use Rattle.inputs.specs.Input.{startIn, editionIn, tableIn, begunArea}

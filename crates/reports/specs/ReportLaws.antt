@@ -1,10 +1,9 @@
 -- A report by its parts.
---   wayOut-found, wayOut-first, wayOut-none   == a way out was found before; this is the first; there is none yet
 --   escape-first, escape-next, escape-last   == the loop that looks for the escape: before the first process, after one more, after the last
 --   allowed-first, allowed-second   == what the edition asks, under the first and the second
 --   report-told                  == the report at the end, made of the start's record, the verdict, the count and the escape
 -- Assumes nothing.
-use Prim.Native.Nat.{ℕ, zero, suc, _+_, _-_, _≤_}
+use Prim.Native.Nat.{ℕ, _+_, _-_, _≤_}
 use mathlib.Core.Bool.{Bool, true, false, not}
 use mathlib.Core.List.{List}
 use mathlib.Core.Path.{_≡_, refl, sym, ap, _∙_}
@@ -25,23 +24,10 @@ use Rattle.checks.specs.ReachLaws.{someByArcs-waits}
 use Rattle.areas.specs.Area.{runIn, areaRight}
 use Rattle.area_calls.specs.AreaCalls.{reportAnswer}
 use Rattle.area_calls.specs.CallLaws.{report-over}
-use Rattle.reports.specs.Told.{escapeTo, wayOut, allowedIn, knotBy, toldOf}
+use Rattle.report_parts.specs.Told.{wayOut, knotBy, toldOf}
+use Rattle.reports.specs.Judging.{escapeTo, allowedIn}
 
 -- ---- the escape, process by process
-
-module _ (e : ℕ) (x : Process) (p : ℕ) where
-  pub wayOut-found : (e ≡ 0 → ⊥) → e ≡ wayOut e x p
-  wayOut-found h = at e h
-    where
-      at : (e : ℕ) → (e ≡ 0 → ⊥) → e ≡ wayOut e x p
-      at zero h = absurd (h refl)
-      at (suc e) h = refl
-
-  pub wayOut-first : e ≡ 0 → x .subordinate ≡ 1 → p ≡ wayOut e x p
-  wayOut-first z f = rw (z, eq-eqb (x .subordinate) 1 f)
-
-  pub wayOut-none : e ≡ 0 → (x .subordinate ≡ 1 → ⊥) → e ≡ wayOut e x p
-  wayOut-none z f = rw (z, ne-eqb (x .subordinate) 1 f)
 
 pub escape-first : (r : Run) → 0 ≡ escapeTo r (1 - 1)
 escape-first r = sym (lowestTo-none (λ p. isSubordinate (r .process p)))

@@ -22,8 +22,9 @@ use Rattle.checks.specs.Run.{isEdition, startRun}
 use Rattle.areas.specs.Places.{areaLength}
 use Rattle.areas.specs.Area.{stored}
 use Rattle.starting.specs.declared.Started.{Started}
-use Rattle.starting.specs.Starting.{rowMet, Startable}
-use Rattle.starting.specs.StartingLaws.{startNumber-startable}
+use Rattle.beginning.specs.Starting.{Startable}
+use Rattle.starting.specs.Rows.{rowMet}
+use Rattle.starting.specs.StartCallLaws.{startNumber-startable}
 use Rattle.starting.specs.StartCall.{startNumber, startAnswer, startArea}
 use Rattle.tables.specs.ReadingLaws.{refused-told, accepted-told}
 

@@ -1,5 +1,2 @@
--- Laws that the proofs of code share: Laying (the area before anything is sent), Beginning (the record and the probes of the start),
--- Answers (each way out of a start).
-pub mod Laying
-pub mod Beginning
+-- Laws that the proofs of code share: Answers (each way out of a start).
 pub mod Answers

@@ -1,5 +1,5 @@
-// Trials: the library (tables written and read, start, and the calls of `runs` and `reports`) against a plain graph search written apart
-// from it (the crate `searching`).
+// Trials: the library (tables written and read, start, and the calls of `picks`, `runs`, `reports` and `record_reading`) against a plain graph
+// search written apart from it (the crate `searching`).
 //
 // A case is a wait graph and a start. Its table is written by the library and read by the search, from the bytes. It is run in the fixed
 // order, in many other orders by picks (the crate `comparing`) and in one by seeds, with refused picks, readings, runnings on by nothing and

@@ -8,7 +8,7 @@ use denote.Ref.{now}
 use lib.IntN.{ℤ}
 use Rattle.lenses.specs.Ready.{Ready}
 use Rattle.area_calls.specs.AreaCalls.{pickArea}
-use Rattle.runs.proofs.Kept.{pick-ready}
+use Rattle.picks.proofs.Kept.{pick-ready}
 use Rattle.delivery_lines.proofs.Turning.{pick-refused, pick-delivered}
 use Rattle.delivery_lines.proofs.put_pick.Statement.{statement}
 use Rattle.delivery_lines.proofs.put_pick.Tie as tie

@@ -7,7 +7,7 @@ use native.Mathlib.Omega.{arith}
 use borrow.Author.Needs.{needs}
 use Rattle.areas.specs.Area.{runIn}
 use Rattle.lenses.specs.ReadyLaws.{ready-n, ready-sizes}
-use Rattle.reports.specs.Told.{escapeTo}
+use Rattle.reports.specs.Judging.{escapeTo}
 use Rattle.reports.specs.ReportLaws.{escape-first, escape-next, escape-last}
 use Rattle.reports.proofs.escape_of.Statement.{statement}
 use Rattle.reports.proofs.escape_of.Tie as tie

@@ -1,7 +1,7 @@
 -- `starting::set_up` meets its contract: the area that was laid out is ready to begin, and the run begins in it.
 -- Assumes nothing.
 use borrow.Author.Needs.{needs}
-use Rattle.starting.proofs.Beginning.{laid-unbegun, laid-begun}
+use Rattle.beginning.proofs.Beginning.{laid-unbegun, laid-begun}
 use Rattle.starting.proofs.set_up.Statement.{statement}
 use Rattle.starting.proofs.set_up.Tie as tie
 

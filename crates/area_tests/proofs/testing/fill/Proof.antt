@@ -10,8 +10,8 @@ use Rattle.tables.specs.declared.Arc.{Arc}
 use Rattle.tables.specs.Table.{Fields, fieldOf, mOf, mostProcesses, IsProcess, arcAt}
 use Rattle.tables.specs.Layout.{Right}
 use Rattle.sets.specs.Sets.{setsSize, wordDigits, digitOf, word, addedTo}
-use Rattle.area_tests.specs.Testing.{SetsAre}
-use Rattle.area_tests.specs.WaitingLaws.{firstArcs, arcs-none, arcs-asks, arcs-more, arcs-all}
+use Rattle.region_tests.specs.Waiting.{SetsAre}
+use Rattle.region_tests.specs.WaitingLaws.{firstArcs, arcs-none, arcs-asks, arcs-more, arcs-all}
 use Rattle.area_tests.proofs.testing.fill.Statement.{statement}
 use Rattle.area_tests.proofs.testing.fill.Tie as tie
 

@@ -9,9 +9,9 @@ use lib.ListN.{getD}
 use Rattle.areas.specs.Places.{fieldPlace}
 use Rattle.areas.specs.Area.{numberAt}
 use Rattle.areas.specs.RunInLaws.{fieldsIn-n, fieldsIn-m}
-use Rattle.area_tests.specs.AreaTestsLaws.{sizesTest-P}
+use Rattle.region_tests.specs.RegionLaws.{sizesTest-P}
 use Rattle.areas.proofs.Signs.{word-read}
-use Rattle.area_tests.proofs.Ways.{tells-no}
+use Rattle.region_tests.proofs.Ways.{tells-no}
 use Rattle.area_tests.proofs.testing.sizes_of.Statement.{statement}
 use Rattle.area_tests.proofs.testing.sizes_of.Tie as tie
 

@@ -19,11 +19,12 @@ use Rattle.tables.specs.LayoutLaws.{fieldsNumber-P}
 use Rattle.areas.specs.Area.{fieldTotalOf, fieldsIn}
 use Rattle.sets.specs.Sets.{setsSize}
 use Rattle.areas.specs.RunInLaws.{fieldsIn-n}
-use Rattle.area_tests.specs.AreaTests.{mostBytes, fieldTest, recordTest, arcTest}
-use Rattle.area_tests.specs.Testing.{Waiting}
-use Rattle.area_tests.specs.AreaTestsLaws.{sizesTest-P}
+use Rattle.area_tests.specs.AreaTests.{mostBytes, fieldTest}
+use Rattle.region_tests.specs.RegionTests.{recordTest, arcTest}
+use Rattle.region_tests.specs.Waiting.{Waiting}
+use Rattle.region_tests.specs.RegionLaws.{sizesTest-P}
 use Rattle.area_tests.proofs.Loading.{copied-fields}
-use Rattle.area_tests.proofs.Ways.{failing}
+use Rattle.region_tests.proofs.Ways.{failing}
 use Rattle.area_tests.proofs.Whole.{Sized, sized-of, sized-not, bounds, counted, accepted, wrong}
 use Rattle.area_tests.proofs.testing.test.Statement.{statement}
 use Rattle.area_tests.proofs.testing.test.Tie as tie
