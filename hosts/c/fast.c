@@ -1,13 +1,16 @@
 /* fast.c: reading a table, start, pick, running on and running on with a seed, as fast as we can write them in C, for the benchmarks to compare the
- * proved library with (docs/BENCHMARKS.md). It is written from the specification (01, 02) and docs/LAYOUT.md, apart from the proved library, and
- * is held to the plain Rust call by call (hosts/rust/compare --library c). It takes any bytes and words, as the library does.
+ * proved library with (docs/BENCHMARKS.md). Both runnings on are there twice: in place, with every delivery made on the area's own words, as the
+ * proved library makes it, and in a square of queues beside the area. All of it is written from the specification (01, 02) and docs/LAYOUT.md, apart
+ * from the proved library, and is held to the plain Rust call by call (hosts/rust/compare --library c, --library c-in-place). It takes any bytes and
+ * words, as the library does.
  *
  * What makes it fast:
  * - The test of an area asks few questions in branches: range tests are collected as sign bits, links are looked at only where a message waits.
  * - A table whose chains are as the writer makes them is known as such in one pass over the arcs; only others are walked along.
- * - A running on works in a square of its own, a word for each pair of processes that holds up to three messages, and puts what is left into the
- *   area at the end. So no link has to be looked for.
- * - A process keeps its two sums as the acknowledgement that it would send.
+ * - A running on in place numbers the links first, by receiver and then by sender, and notes for each where it begins and which is the one back. So
+ *   no link has to be looked for, and the next link of the fixed order is the lowest bit of a set. Messages and records stand in the area alone.
+ * - A running on in a square works in a word for each pair of processes that holds up to three messages, and puts what is left into the area at the
+ *   end. A process keeps its two sums there as the acknowledgement that it would send.
  *
  * For gcc: it uses its vectors of four words, __builtin_shuffle and __builtin_ctzll. */
 #include "fast.h"
@@ -356,6 +359,14 @@ INLINE bool take_probe(Process *x, uint32_t probe, uint32_t sender, uint32_t deg
     return true;
 }
 
+/* The probes that would change the flags of a process other than the start: one whose flag is not set, and every one if subordinate is not what the
+ * other two say. Two bits for each value of the flags. */
+INLINE uint32_t changing_probes(uint32_t flags)
+{
+    const uint32_t by_flags = 3 | 3 << 2 | 1 << 4 | 0 << 6 | 3 << 8 | 2 << 10 | 3 << 12 | 3 << 14;
+    return by_flags >> 2 * flags & 3;
+}
+
 /* Any process receives an acknowledgement. False for 22. */
 static inline bool take_ack(Process *x, uint32_t ack)
 {
@@ -407,6 +418,14 @@ static uint32_t load_of(const int32_t *link)
     return (uint32_t)(link[0] != 0) + (link[1] != 0) + (link[2] != 0) + (link[3] != 0);
 }
 
+/* Takes the message at a place, counted from 0, off a link. */
+INLINE void take_out(int32_t *link, size_t place)
+{
+    for (; place < MOST_WAITING - 1; place++)
+        link[place] = link[place + 1];
+    link[MOST_WAITING - 1] = 0;
+}
+
 static uint32_t degree_of(const Table *table, uint32_t chain, uint32_t process)
 {
     uint32_t degree = 0;
@@ -453,8 +472,7 @@ static bool deliver(Area *area, uint32_t from, uint32_t to, int32_t *link, size_
     if (!right)
         return false;
     memcpy(before, link, sizeof before);
-    memmove(link + place, link + place + 1, (MOST_WAITING - 1 - place) * sizeof *link);
-    link[MOST_WAITING - 1] = 0;
+    take_out(link, place);
     int32_t *ack_link = sent.to ? link_between(area, to, sent.to) : NULL;
     if (!has_room(area, to, &sent, ack_link)) {
         memcpy(link, before, sizeof before);
@@ -503,6 +521,91 @@ uint32_t fast_pick(
         *second = (message >> 9) - 256;
     }
     return 0;
+}
+
+/* ---- many deliveries: what both ways of making them share */
+
+typedef uint16_t Eight __attribute__((vector_size(16), may_alias));
+
+enum { MOST_SUMS = 16 };
+
+/* One more (1), or one less (-1), in each of 8 or 16 sums that stands behind a place. */
+INLINE void count_behind(uint16_t *sums, uint32_t lanes, uint32_t place, int more)
+{
+    /* From place 15 - p on: 0 up to lane p, and 1 behind it. */
+    static const uint16_t step[2 * MOST_SUMS] = {[MOST_SUMS] = 1, 1, 1, 1, 1, 1, 1, 1, 1, 1, 1, 1, 1, 1, 1, 1};
+    typedef uint16_t Any __attribute__((vector_size(16), aligned(2), may_alias));
+    Eight *eights = (Eight *)sums;
+    const Any *behind = (const Any *)(step + MOST_SUMS - 1 - place);
+    for (uint32_t i = 0; i < lanes / 8; i++)
+        eights[i] = more > 0 ? eights[i] + behind[i] : eights[i] - behind[i];
+}
+
+/* The last of so many sums, which rise from 0, that is at most the rank. A lane's highest bit stays set if its sum is at most the rank. */
+INLINE uint32_t last_upto(const uint16_t *sums, uint32_t lanes, uint32_t rank)
+{
+    const uint64_t each = 0x0001000100010001;
+    uint64_t ranks = (rank | 0x8000) * each, found = 0, four;
+    for (uint32_t i = 0; i < lanes; i += 4) {
+        memcpy(&four, sums + i, sizeof four);
+        found += (ranks - four) >> 15 & each;
+    }
+    return (uint32_t)(found * each >> 48) - 1;
+}
+
+/* 1 in each byte. */
+static const uint64_t BYTES = 0x0101010101010101;
+
+/* The first of eight sums, one in each byte, at most 64 and rising, that is more than the rank, times 8: bit 7 tells which are. */
+INLINE uint32_t first_above(uint64_t sums, uint32_t rank)
+{
+    return (uint32_t)__builtin_ctzll(((sums | 0x80 * BYTES) - (rank + 1) * BYTES) & 0x80 * BYTES) & ~7u;
+}
+
+/* The place of the set bit with so many set bits below it. `sums` has for each byte how many bits are set in it and below: so its byte is found,
+ * and then its place there, by the byte's bits spread over eight bytes. */
+INLINE uint32_t set_bit(uint64_t set, uint64_t sums, uint32_t rank)
+{
+    uint32_t place = first_above(sums, rank);
+    uint64_t bits = ((set >> place & 0xFF) * BYTES & 0x8040201008040201) + 0x7F * BYTES;
+    return place + first_above((bits >> 7 & BYTES) * BYTES, rank - (uint32_t)(sums << 8 >> place & 0xFF)) / 8;
+}
+
+/* The next state of a shuffled order. */
+INLINE uint32_t next_state(uint32_t state)
+{
+    state ^= state << 13;
+    state ^= state >> 17;
+    return state ^ state << 5;
+}
+
+/* What a running on asks of the way in which it is made: to find the next link with a message, and, if it is to deliver, to deliver the oldest
+ * there. 24 if there is no such link; 22 if it is not to deliver or cannot, with nothing changed. */
+typedef uint32_t Next(void *way, bool deliver);
+
+/* Makes up to k deliveries while num, the start's, is not 0: over, spent, 24, 22. */
+INLINE uint32_t make(Next next, void *way, const uint32_t *num, uint32_t left, uint32_t k, uint32_t *over, uint32_t *made)
+{
+    uint32_t most = k < left ? k : left, done = 0, refused = 0;
+    while (done < most) {
+        refused = next(way, true);
+        if (RARE(refused))
+            break;
+        done++;
+        if (RARE(*num == 0))
+            break;
+    }
+    *over = *num == 0;
+    *made = done;
+    /* One more delivery than are counted is refused, if there is a message for it. */
+    return !refused && *num && done < k ? next(way, false) : refused;
+}
+
+/* Whether nothing is left to do: over, or spent at once. */
+INLINE bool nothing_to_do(const Area *area, uint32_t k, uint32_t *over)
+{
+    *over = is_over(area);
+    return *over || k == 0;
 }
 
 /* ---- many deliveries, in a square of queues */
@@ -557,8 +660,6 @@ INLINE void remove_receiver(Receivers *set, uint32_t process)
  * its receivers before each; and of each receiver those from the senders 0 to 63. */
 enum { GROUP = 16, GROUPS = MOST_PROCESSES / GROUP };
 
-typedef uint16_t Eight __attribute__((vector_size(16), may_alias));
-
 typedef struct {
     uint32_t all;
     uint16_t groups[GROUPS] __attribute__((aligned(16)));
@@ -569,54 +670,10 @@ typedef struct {
 /* One link more (1), or less (-1), has a message. */
 INLINE void count_link(Counts *counts, uint32_t from, uint32_t to, int more)
 {
-    /* From place 15 - p on: 0 up to lane p, and 1 behind it. */
-    static const uint16_t step[2 * GROUP] = {[GROUP] = 1, 1, 1, 1, 1, 1, 1, 1, 1, 1, 1, 1, 1, 1, 1, 1};
-    typedef uint16_t Any __attribute__((vector_size(16), aligned(2), may_alias));
-    Eight *groups = (Eight *)counts->groups, *receivers = (Eight *)counts->receivers[to / GROUP];
-    const Any *behind_group = (const Any *)(step + GROUP - 1 - to / GROUP), *behind = (const Any *)(step + GROUP - 1 - to % GROUP);
     counts->all += (uint32_t)more;
     counts->low[to] += (uint8_t)((from < 64) * more);
-    if (more > 0) {
-        groups[0] += behind_group[0];
-        receivers[0] += behind[0];
-        receivers[1] += behind[1];
-    } else {
-        groups[0] -= behind_group[0];
-        receivers[0] -= behind[0];
-        receivers[1] -= behind[1];
-    }
-}
-
-/* The last of so many sums, which rise from 0, that is at most the rank. A lane's highest bit stays set if its sum is at most the rank. */
-INLINE uint32_t last_upto(const uint16_t *sums, uint32_t lanes, uint32_t rank)
-{
-    const uint64_t each = 0x0001000100010001;
-    uint64_t ranks = (rank | 0x8000) * each, found = 0, four;
-    for (uint32_t i = 0; i < lanes; i += 4) {
-        memcpy(&four, sums + i, sizeof four);
-        found += (ranks - four) >> 15 & each;
-    }
-    return (uint32_t)(found * each >> 48) - 1;
-}
-
-/* The place of the set bit with so many set bits below it. The counts of the bits of every two, every four and every byte lead to it; a byte's sum
- * with all below it is at most 64, so that bit 7 tells which sums are more than the rank. */
-static uint32_t set_bit(uint64_t set, uint32_t rank)
-{
-    const uint64_t each = 0x0101010101010101;
-    uint64_t twos = set - (set >> 1 & 0x55 * each), fours = (twos & 0x33 * each) + (twos >> 2 & 0x33 * each);
-    uint64_t sums = ((fours + (fours >> 4)) & 0x0F * each) * each, more = ((sums | 0x80 * each) - (rank + 1) * each) & 0x80 * each;
-    uint32_t place = (uint32_t)__builtin_ctzll(more) & ~7u, count, beyond;
-    rank -= (uint32_t)(sums << 8 >> place & 0xFF);
-    count = fours >> place & 0xF;
-    beyond = rank >= count;
-    rank -= count & -beyond;
-    place += 4 * beyond;
-    count = twos >> place & 3;
-    beyond = rank >= count;
-    rank -= count & -beyond;
-    place += 2 * beyond;
-    return place + (rank >= (set >> place & 1));
+    count_behind(counts->groups, GROUPS, to / GROUP, more);
+    count_behind(counts->receivers[to / GROUP], GROUP, to % GROUP, more);
 }
 
 /* The order of a running on, and what it keeps of the links with a message. */
@@ -707,14 +764,12 @@ INLINE void take_messages(Square *square, const Area *area, uint32_t arc, uint32
 /* The square of a well-formed area. */
 INLINE void fill_square(Square *square, const Area *area, Order *order)
 {
-    /* By flags: a probe whose flag is not set, and every probe if subordinate is not what the other two say. */
-    static const uint8_t changing[8] = {3, 3, 1, 0, 3, 2, 3, 3};
     uint32_t n = area->table.n, m = area->table.m;
     memset(square->senders, 0, sizeof square->senders);
     memset(square->degrees, 0, sizeof square->degrees);
     for (uint32_t p = 0; p < n; p++) {
         square->processes[p] = process_in(record_of(area, p + 1));
-        square->changing[p] = changing[square->processes[p].flags];
+        square->changing[p] = (uint8_t)changing_probes(square->processes[p].flags);
     }
     square->changing[area->start - 1] = 0;
     for (uint32_t arc = 1; arc <= m; arc++) {
@@ -777,14 +832,19 @@ INLINE bool deliver_changing(Square *square, const Area *area, Order *order, uin
     return true;
 }
 
+/* For each byte how many bits are set in it and below, by the counts of every two, every four and every byte. */
+INLINE uint64_t byte_sums(uint64_t set)
+{
+    uint64_t twos = set - (set >> 1 & 0x55 * BYTES), fours = (twos & 0x33 * BYTES) + (twos >> 2 & 0x33 * BYTES);
+    return ((fours + (fours >> 4)) & 0x0F * BYTES) * BYTES;
+}
+
 /* The link that is next, or none. */
 INLINE bool choose(const Square *square, Order *order, uint32_t *from, uint32_t *to)
 {
     if (order->counts) {
         const Counts *counts = order->counts;
-        order->state ^= order->state << 13;
-        order->state ^= order->state >> 17;
-        order->state ^= order->state << 5;
+        order->state = next_state(order->state);
         if (RARE(counts->all == 0))
             return false;
         uint32_t rank = order->state % counts->all, group = last_upto(counts->groups, GROUPS, rank);
@@ -797,7 +857,7 @@ INLINE bool choose(const Square *square, Order *order, uint32_t *from, uint32_t 
         rank -= low & -high;
         /* Most receivers have one message or two. */
         if (RARE(rank >= 2))
-            *from = 64 * high + set_bit(senders, rank);
+            *from = 64 * high + set_bit(senders, byte_sums(senders), rank);
         else
             *from = 64 * high + (uint32_t)__builtin_ctzll(senders & (senders - rank));
         return true;
@@ -857,37 +917,34 @@ refused:
     return false;
 }
 
-/* Running on in a well-formed area: over, spent, 24, 22. */
+/* A running on in a square. */
+typedef struct {
+    Square *square;
+    const Area *area;
+    Order *order;
+} InSquare;
+
+INLINE uint32_t next_in_square(void *way, bool deliver)
+{
+    const InSquare *in = way;
+    uint32_t p, q;
+    if (RARE(!choose(in->square, in->order, &p, &q)))
+        return 24;
+    return deliver && deliver_oldest(in->square, in->area, in->order, p, q) ? 0 : 22;
+}
+
+/* Running on in a well-formed area. */
 INLINE uint32_t run(Area *area, uint32_t k, Order order, uint32_t *over, uint32_t *made)
 {
-    if (is_over(area) || k == 0) {
-        *over = is_over(area);
+    if (nothing_to_do(area, k, over))
         return 0;
-    }
     Square square;
+    InSquare in = {&square, area, &order};
     fill_square(&square, area, &order);
-    const uint32_t *num = &square.processes[area->start - 1].num;
-    uint32_t left = (uint32_t)(MOST_DELIVERIES - area->words[DELIVERIES]), most = k < left ? k : left, done = 0, refused = 0, p, q;
-    while (done < most) {
-        if (RARE(!choose(&square, &order, &p, &q))) {
-            refused = 24;
-            break;
-        }
-        if (RARE(!deliver_oldest(&square, area, &order, p, q))) {
-            refused = 22;
-            break;
-        }
-        done++;
-        if (RARE(*num == 0))
-            break;
-    }
-    *over = *num == 0;
-    /* One more delivery than are counted is refused, if there is a message for it. */
-    if (!refused && *num && done < k)
-        refused = choose(&square, &order, &p, &q) ? 22 : 24;
+    uint32_t left = (uint32_t)(MOST_DELIVERIES - area->words[DELIVERIES]);
+    uint32_t refused = make(next_in_square, &in, &square.processes[area->start - 1].num, left, k, over, made);
     empty_square(&square, area, refused || (order.counts ? order.counts->all : order.set.low | order.set.high));
-    area->words[DELIVERIES] += (int32_t)done;
-    *made = done;
+    area->words[DELIVERIES] += (int32_t)*made;
     return refused;
 }
 
@@ -911,4 +968,347 @@ uint32_t fast_run_shuffled(int32_t *words, size_t length, uint32_t k, uint32_t s
         return 37;
     memset(&counts, 0, sizeof counts);
     return run(&area, k, (Order){{0, 0}, &counts, seed}, over, made);
+}
+
+/* ---- many deliveries, in the area itself */
+
+/* The links, numbered as the fixed order has them, by receiver and then by sender: the next one is the lowest with a message. What stands here
+ * finds links; messages and records are the area's. */
+enum { MOST_LINKS = 2 * MOST_ARCS, SET_WORDS = MOST_LINKS / 64 };
+
+/* A link: its number, and 65536 times the word of the area's links where it begins. */
+typedef uint32_t Link;
+
+INLINE uint32_t number_of(Link link)
+{
+    return link & 0xFFFF;
+}
+
+INLINE int32_t *place_of(const Area *area, Link link)
+{
+    return area->links + (link >> 16);
+}
+
+/* Of a link by its number: the link the other way, the word where it begins, and its receiver. */
+typedef struct {
+    Link back;
+    uint16_t place, to;
+} Numbered;
+
+typedef struct {
+    Numbered numbered[MOST_LINKS];
+    Link along[MOST_ARCS][2];           /* of each arc the link from its from to its to, and the one the other way */
+    Link to_father[MOST_PROCESSES + 1]; /* of each process with a father */
+    uint8_t degrees[2][MOST_PROCESSES + 1];
+} Links;
+
+/* How many links have a message, for a shuffled order: those in the words of the set before each; and of each word those in each byte and below. */
+typedef struct {
+    uint16_t before[SET_WORDS] __attribute__((aligned(16)));
+    uint64_t bytes[SET_WORDS];
+} Sums;
+
+/* The links with a message, and the order in which they are taken. */
+typedef struct {
+    uint64_t *set;  /* a bit for each number */
+    uint32_t words; /* for the fixed order: a bit for each word of the set that is not 0 */
+    Sums *sums;     /* only if it is shuffled */
+    uint32_t all, state;
+} Waiting;
+
+/* One link more (1), or less (-1), has a message. */
+INLINE void count_number(Waiting *waiting, uint32_t number, int more)
+{
+    uint64_t bytes = BYTES << (number & 56);
+    waiting->all += (uint32_t)more;
+    waiting->sums->bytes[number / 64] += more > 0 ? bytes : -bytes;
+    count_behind(waiting->sums->before, SET_WORDS, number / 64, more);
+}
+
+INLINE void set_waiting(Waiting *waiting, uint32_t number)
+{
+    waiting->set[number / 64] |= 1ull << number % 64;
+    if (waiting->sums)
+        count_number(waiting, number, 1);
+    else
+        waiting->words |= 1u << number / 64;
+}
+
+/* The link that was chosen has no message any more. In the fixed order it is the lowest. */
+INLINE void clear_waiting(Waiting *waiting, uint32_t number)
+{
+    if (waiting->sums) {
+        waiting->set[number / 64] ^= 1ull << number % 64;
+        count_number(waiting, number, -1);
+    } else {
+        uint64_t *lowest = &waiting->set[__builtin_ctz(waiting->words)];
+        *lowest &= *lowest - 1;
+        if (*lowest == 0)
+            waiting->words &= waiting->words - 1;
+    }
+}
+
+/* The number of the link that is next, or none. */
+INLINE bool choose_number(Waiting *waiting, uint32_t *number)
+{
+    if (waiting->sums) {
+        const Sums *sums = waiting->sums;
+        waiting->state = next_state(waiting->state);
+        if (RARE(waiting->all == 0))
+            return false;
+        uint32_t rank = waiting->state % waiting->all, word = last_upto(sums->before, SET_WORDS, rank);
+        *number = 64 * word + set_bit(waiting->set[word], sums->bytes[word], rank - sums->before[word]);
+        return true;
+    }
+    if (RARE(waiting->words == 0))
+        return false;
+    uint32_t word = (uint32_t)__builtin_ctz(waiting->words);
+    *number = 64 * word + (uint32_t)__builtin_ctzll(waiting->set[word]);
+    return true;
+}
+
+/* How many arcs each process has, and the number that the first link to it gets. Numbers are left out where arcs both ways share their links. */
+static void first_numbers(Links *links, const Table *table, uint32_t *numbers)
+{
+    uint32_t all = 0;
+    memset(links->degrees, 0, sizeof links->degrees);
+    for (uint32_t arc = 1; arc <= table->m; arc++) {
+        links->degrees[OUT][end_of(table, OUT, arc)]++;
+        links->degrees[IN][end_of(table, IN, arc)]++;
+    }
+    for (uint32_t p = 1; p <= table->n; p++) {
+        numbers[p] = all;
+        all += (uint32_t)links->degrees[OUT][p] + links->degrees[IN][p];
+    }
+}
+
+/* Numbers the links from a process. A link to a process that it waits for is the one along that arc. */
+INLINE void number_from(Links *links, const Area *area, uint32_t p, uint32_t *numbers, Link *from_here)
+{
+    const Table *table = &area->table;
+    for (uint32_t arc = first_arc(table, OUT, p); arc; arc = next_arc(table, OUT, arc)) {
+        uint32_t to = end_of(table, IN, arc);
+        links->along[arc - 1][OUT] = from_here[to] = numbers[to]++ | (2 * LINK_SIZE * (arc - 1)) << 16;
+    }
+    for (uint32_t arc = first_arc(table, IN, p); arc; arc = next_arc(table, IN, arc)) {
+        uint32_t to = end_of(table, OUT, arc);
+        if (!area->waits[pair(p, to)])
+            from_here[to] = numbers[to]++ | (2 * LINK_SIZE * (arc - 1) + LINK_SIZE) << 16;
+        links->along[arc - 1][IN] = from_here[to];
+    }
+}
+
+/* Notes a link under its number. */
+INLINE void note_link(Links *links, Link link, Link back, uint32_t to)
+{
+    Numbered *noted = &links->numbered[number_of(link)];
+    noted->back = back;
+    noted->place = (uint16_t)(link >> 16);
+    noted->to = (uint16_t)to;
+}
+
+/* Numbers the links of a well-formed area, sender by sender, so that those to each receiver come in the order of their senders. */
+static void number_links(Links *links, const Area *area)
+{
+    const Table *table = &area->table;
+    uint32_t numbers[MOST_PROCESSES + 1];
+    Link from_here[MOST_PROCESSES + 1]; /* by receiver */
+    first_numbers(links, table, numbers);
+    from_here[0] = 0;
+    for (uint32_t p = 1; p <= table->n; p++) {
+        number_from(links, area, p, numbers, from_here);
+        links->to_father[p] = from_here[record_of(area, p)[FATHER]];
+    }
+    for (uint32_t arc = 1; arc <= table->m; arc++) {
+        uint32_t from = end_of(table, OUT, arc), to = end_of(table, IN, arc);
+        Link along = links->along[arc - 1][OUT], back = links->along[arc - 1][IN];
+        note_link(links, along, back, to);
+        note_link(links, back, along, from);
+    }
+}
+
+/* The links with a message of a well-formed area. */
+INLINE void find_waiting(Waiting *waiting, const Links *links, const Area *area)
+{
+    for (uint32_t i = 0; i < area->loaded; i++) {
+        uint32_t arc = area->loaded_arcs[i];
+        if (first_link(area, arc)[0])
+            set_waiting(waiting, number_of(links->along[arc - 1][OUT]));
+        if (second_link(area, arc)[0])
+            set_waiting(waiting, number_of(links->along[arc - 1][IN]));
+    }
+}
+
+/* A running on in the area itself. */
+typedef struct {
+    const Area *area;
+    Links *links;
+    Waiting *waiting;
+} InPlace;
+
+INLINE uint32_t receiver(const Links *links, Link link)
+{
+    return links->numbered[number_of(link)].to;
+}
+
+/* A further message on a link; false if it has four. */
+static __attribute__((noinline)) bool put_behind(int32_t *link, uint32_t message)
+{
+    for (int i = 1; i < MOST_WAITING; i++)
+        if (link[i] == 0) {
+            link[i] = (int32_t)message;
+            return true;
+        }
+    return false;
+}
+
+INLINE bool put(const InPlace *in, Link at, uint32_t message)
+{
+    int32_t *link = place_of(in->area, at);
+    if (RARE(link[0]))
+        return put_behind(link, message);
+    link[0] = (int32_t)message;
+    set_waiting(in->waiting, number_of(at));
+    return true;
+}
+
+/* Takes the newest message off a link again, in a run that ends with 22 there. */
+static void unput(const Area *area, Link at)
+{
+    int32_t *link = place_of(area, at);
+    link[load_of(link) - 1] = 0;
+}
+
+/* Puts back the oldest message of a link, which has room for it, in a run that ends with 22 there. */
+static void put_back(int32_t *link, uint32_t message)
+{
+    memmove(link + 1, link, (MOST_WAITING - 1) * sizeof *link);
+    link[0] = (int32_t)message;
+}
+
+/* A probe that changes the flags of its receiver, which is not the start. False for 22, with nothing sent. */
+INLINE bool put_changing(const InPlace *in, uint32_t to, Link back, uint32_t probe)
+{
+    const Area *area = in->area;
+    Links *links = in->links;
+    uint32_t from = receiver(links, back);
+    Process x = process_in(record_of(area, to));
+    Sent sent;
+    uint32_t chain = probe - SUC;
+    if (RARE(!take_probe(&x, probe, from, links->degrees[chain][to], &sent)))
+        return false;
+    /* Whether it had a father or gets one, it is the sender that is acknowledged. */
+    if (sent.to && RARE(!put(in, back, sent.ack)))
+        return false;
+    if (sent.probes)
+        for (uint32_t arc = first_arc(&area->table, chain, to); arc; arc = next_arc(&area->table, chain, arc))
+            if (RARE(!put(in, links->along[arc - 1][chain], probe))) {
+                for (uint32_t sent_on = first_arc(&area->table, chain, to); sent_on != arc; sent_on = next_arc(&area->table, chain, sent_on))
+                    unput(area, links->along[sent_on - 1][chain]);
+                if (sent.to)
+                    unput(area, back);
+                return false;
+            }
+    put_process(record_of(area, to), &x);
+    if (x.father == from)
+        links->to_father[to] = back;
+    return true;
+}
+
+/* Delivers the oldest message of a link. False for 22, with nothing changed. */
+INLINE bool deliver_in_place(const InPlace *in, uint32_t number)
+{
+    const Area *area = in->area;
+    const Numbered *chosen = &in->links->numbered[number];
+    uint32_t to = chosen->to;
+    Link back = chosen->back;
+    int32_t *link = area->links + chosen->place, *record = record_of(area, to);
+    uint32_t message = (uint32_t)link[0], num = (uint32_t)record[NUM];
+    bool is_start = to == area->start;
+    if (RARE(link[1])) {
+        take_out(link, 0);
+    } else {
+        link[0] = 0;
+        clear_waiting(in->waiting, number);
+    }
+    if (message > PRE) {
+        uint32_t cs = (uint32_t)record[CS] + (message & 511) - 256, second = (uint32_t)record[SECOND] + (message >> 9) - 256;
+        num--;
+        if (RARE((cs + 128 > 256) | (second + 128 > 256) | (num >= MOST_NUM)))
+            goto refused;
+        if (num == 0 && !is_start) {
+            if (RARE(record[FATHER] == 0) || RARE(!put(in, in->links->to_father[to], ACK + cs + 512 * second)))
+                goto refused;
+            cs = second = 0;
+        }
+        record[CS] = (int32_t)cs;
+        record[SECOND] = (int32_t)second;
+        record[NUM] = (int32_t)num;
+    } else if (RARE(is_start)) {
+        if (RARE(!put(in, back, ACK)))
+            goto refused;
+    } else if (RARE(changing_probes((uint32_t)record[FLAGS]) & message)) {
+        if (RARE(!put_changing(in, to, back, message)))
+            goto refused;
+    } else {
+        /* With its flags as they are it acknowledges at once: by rule 1, or by rule 4 to the sender as its father. */
+        if (RARE(!put(in, back, (uint32_t)(ACK + record[CS] + 512 * record[SECOND]))))
+            goto refused;
+        if (num == 0) {
+            record[FATHER] = (int32_t)receiver(in->links, back);
+            in->links->to_father[to] = back;
+        }
+        record[CS] = record[SECOND] = 0;
+    }
+    area->words[DELIVERIES] += 1;
+    return true;
+refused:
+    put_back(link, message);
+    return false;
+}
+
+INLINE uint32_t next_in_place(void *way, bool deliver)
+{
+    const InPlace *in = way;
+    uint32_t number;
+    if (RARE(!choose_number(in->waiting, &number)))
+        return 24;
+    return deliver && deliver_in_place(in, number) ? 0 : 22;
+}
+
+/* Running on in a well-formed area, on its own words. */
+INLINE uint32_t run_in_place(Area *area, uint32_t k, Sums *sums, uint32_t seed, uint32_t *over, uint32_t *made)
+{
+    if (nothing_to_do(area, k, over))
+        return 0;
+    Links links;
+    uint64_t set[SET_WORDS] = {0};
+    Waiting waiting = {set, 0, sums, 0, seed};
+    InPlace in = {area, &links, &waiting};
+    number_links(&links, area);
+    find_waiting(&waiting, &links, area);
+    uint32_t left = (uint32_t)(MOST_DELIVERIES - area->words[DELIVERIES]);
+    return make(next_in_place, &in, (const uint32_t *)record_of(area, area->start) + NUM, left, k, over, made);
+}
+
+uint32_t fast_run_on_in_place(int32_t *words, size_t length, uint32_t k, uint32_t *over, uint32_t *made)
+{
+    Area area;
+    *over = *made = 0;
+    if (!test(&area, words, length))
+        return 21;
+    return run_in_place(&area, k, NULL, 0, over, made);
+}
+
+uint32_t fast_run_shuffled_in_place(int32_t *words, size_t length, uint32_t k, uint32_t seed, uint32_t *over, uint32_t *made)
+{
+    Area area;
+    Sums sums;
+    *over = *made = 0;
+    if (!test(&area, words, length))
+        return 21;
+    if (seed == 0)
+        return 37;
+    memset(&sums, 0, sizeof sums);
+    return run_in_place(&area, k, &sums, seed, over, made);
 }
