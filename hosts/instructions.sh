@@ -1,5 +1,5 @@
 #!/bin/sh
-# Counts the instructions of a delivery, a start and a pick, of the proved library, the plain Rust and the C comparators, by callgrind.
+# Counts the instructions of a delivery, a start and a pick, of the proved library, the plain Rust and the C comparator, by callgrind.
 #
 #   hosts/instructions.sh [N ..]
 #
@@ -72,7 +72,6 @@ of() {
     proved) name=proved ;;
     plain) name="plain Rust" ;;
     c) name=C ;;
-    c-in-place) name="C in place" ;;
     esac
     line="| $3 | $name | $start"
     for what in run shuffled picks; do
@@ -88,7 +87,7 @@ for n; do
     printf '\n| instructions, N %s, M %s | of | a start | a delivery, running on | a delivery, shuffled | a pick |\n' "$n" "$((4 * n))"
     echo "|---|---|---|---|---|---|"
     for shape in "next four" "ring with random waits" random bipartite "two hubs"; do
-        for library in proved plain c c-in-place; do
+        for library in proved plain c; do
             of "$library" "$n" "$shape"
         done
     done

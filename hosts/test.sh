@@ -1,6 +1,6 @@
 #!/bin/sh
 # Builds what hosts use and runs all tests of hosts: the program where reads and writes fail, the C example, the stack, the installed files, the
-# Rust side, and the comparison, of the library and of the C comparators of the benchmarks.
+# Rust side, and the comparison, of the library and of the C comparator of the benchmarks.
 #
 #   hosts/test.sh
 #
@@ -304,9 +304,7 @@ comparison() {
 }
 
 c_comparison() {
-    for library in c c-in-place; do
-        compares "$CARGO_TARGET_DIR/release/compare" --library "$library" || return 1
-    done
+    compares "$CARGO_TARGET_DIR/release/compare" --library c
 }
 
 # The same with the C compiled so that it stops where C leaves open what happens. It is built apart, since it is slower.
@@ -315,14 +313,14 @@ sanitized_comparison() {
         CARGO_TARGET_DIR=$here/target/host-sanitized
         CFLAGS="-fsanitize=undefined -fsanitize-undefined-trap-on-error"
         export CFLAGS
-        rust build --release --package compare && c_comparison
+        rust build --release --package compare && compares "$CARGO_TARGET_DIR/release/compare" --library c
     )
 }
 
 # Counts of instructions on the smallest of the timed checks: a line for each shape and library, with four numbers.
 instructions() {
     BENCH=$CARGO_TARGET_DIR/release/bench hosts/instructions.sh 16 > "$work/instructions" && cat "$work/instructions" &&
-        [ "$(grep -cE '^\| [a-z ]* \| (proved|plain Rust|C|C in place)( \| [1-9][0-9]*){4} \|$' "$work/instructions")" -eq 20 ]
+        [ "$(grep -cE '^\| [a-z ]* \| (proved|plain Rust|C)( \| [1-9][0-9]*){4} \|$' "$work/instructions")" -eq 15 ]
 }
 
 # The programs of the Rust side over the plain Rust in the archive's place. They are built apart, since they compare nothing.
@@ -342,8 +340,8 @@ done
 [ -z "$clippy" ] || run "cargo clippy, warnings as errors" rust clippy --release --all-targets -- -D warnings
 run "the Rust side without the archive" standin
 run "the comparison, call by call and with the program" comparison
-run "the comparison of the C comparators" c_comparison
-run "the comparison of the C comparators with the sanitizer undefined" sanitized_comparison
+run "the comparison of the C comparator" c_comparison
+run "the comparison of the C comparator with the sanitizer undefined" sanitized_comparison
 [ -z "$valgrind" ] || run "instructions are counted" instructions
 
 finish

@@ -1,16 +1,13 @@
 /* fast.c: reading a table, start, pick, running on and running on with a seed, as fast as we can write them in C, for the benchmarks to compare the
- * proved library with (docs/BENCHMARKS.md). Both runnings on are there twice: in place, with every delivery made on the area's own words, as the
- * proved library makes it, and in a square of queues beside the area. All of it is written from the specification (01, 02) and docs/LAYOUT.md, apart
- * from the proved library, and is held to the plain Rust call by call (hosts/rust/compare --library c, --library c-in-place). It takes any bytes and
- * words, as the library does.
+ * proved library with (docs/BENCHMARKS.md). It is written from the specification (01, 02) and docs/LAYOUT.md, apart from the proved library, and
+ * is held to the plain Rust call by call (hosts/rust/compare --library c). It takes any bytes and words, as the library does.
  *
  * What makes it fast:
  * - The test of an area asks few questions in branches: range tests are collected as sign bits, links are looked at only where a message waits.
  * - A table whose chains are as the writer makes them is known as such in one pass over the arcs; only others are walked along.
- * - A running on in place numbers the links first, by receiver and then by sender, and notes for each where it begins and which is the one back. So
- *   no link has to be looked for, and the next link of the fixed order is the lowest bit of a set. Messages and records stand in the area alone.
- * - A running on in a square works in a word for each pair of processes that holds up to three messages, and puts what is left into the area at the
- *   end. A process keeps its two sums there as the acknowledgement that it would send.
+ * - A running on numbers the links first, by receiver and then by sender, and notes for each where it begins and which is the one back. So no link
+ *   has to be looked for, and the next link of the fixed order is the lowest bit of a set. Messages and records stand in the area alone, and of a
+ *   record a delivery writes only the words that change.
  *
  * For gcc: it uses its vectors of four words, __builtin_shuffle and __builtin_ctzll. */
 #include "fast.h"
@@ -523,7 +520,7 @@ uint32_t fast_pick(
     return 0;
 }
 
-/* ---- many deliveries: what both ways of making them share */
+/* ---- running on: sums and sets */
 
 typedef uint16_t Eight __attribute__((vector_size(16), may_alias));
 
@@ -579,398 +576,14 @@ INLINE uint32_t next_state(uint32_t state)
     return state ^ state << 5;
 }
 
-/* What a running on asks of the way in which it is made: to find the next link with a message, and, if it is to deliver, to deliver the oldest
- * there. 24 if there is no such link; 22 if it is not to deliver or cannot, with nothing changed. */
-typedef uint32_t Next(void *way, bool deliver);
-
-/* Makes up to k deliveries while num, the start's, is not 0: over, spent, 24, 22. */
-INLINE uint32_t make(Next next, void *way, const uint32_t *num, uint32_t left, uint32_t k, uint32_t *over, uint32_t *made)
-{
-    uint32_t most = k < left ? k : left, done = 0, refused = 0;
-    while (done < most) {
-        refused = next(way, true);
-        if (RARE(refused))
-            break;
-        done++;
-        if (RARE(*num == 0))
-            break;
-    }
-    *over = *num == 0;
-    *made = done;
-    /* One more delivery than are counted is refused, if there is a message for it. */
-    return !refused && *num && done < k ? next(way, false) : refused;
-}
-
-/* Whether nothing is left to do: over, or spent at once. */
-INLINE bool nothing_to_do(const Area *area, uint32_t k, uint32_t *over)
+/* Whether a running on ends before its first delivery: over, which it sets, or spent. */
+INLINE bool ends_at_once(const Area *area, uint32_t k, uint32_t *over)
 {
     *over = is_over(area);
     return *over || k == 0;
 }
 
-/* ---- many deliveries, in a square of queues */
-
-/* The messages on the link from p to q, processes counted from 0, stand in queue[q][p], the oldest lowest, 20 bits each: a probe as 1 or 2, an
- * acknowledgement four times, so that its two lowest bits are 0. A fourth message stands in `fourth`, and the highest bit tells that there is one.
- * An entry counts only while its bit in `senders` is set, so that none has to be cleared. The rows are a bit longer than 128, lest they all
- * fall on the same lines of the cache. */
-enum { BITS = 20, ROW = MOST_PROCESSES + 8 };
-
-static const uint64_t MESSAGE = (1ull << BITS) - 1, HAS_FOURTH = 1ull << 63;
-
-typedef struct {
-    uint64_t queue[MOST_PROCESSES][ROW];
-    uint64_t senders[MOST_PROCESSES][2]; /* bit p of row q: a message waits on the link from p to q */
-    Process processes[MOST_PROCESSES];
-    uint8_t changing[MOST_PROCESSES]; /* the probes that would change the process's flags; none for the start */
-    uint8_t degrees[2][MOST_PROCESSES];
-    uint32_t fourth[MOST_PROCESSES][ROW];
-} Square;
-
-INLINE uint32_t packed(int32_t message)
-{
-    return message <= PRE ? (uint32_t)message : (uint32_t)message << 2;
-}
-
-INLINE int32_t unpacked(uint64_t message)
-{
-    return (int32_t)(message <= PRE ? message : message >> 2);
-}
-
-/* The receivers with a message, for the fixed order. */
-typedef struct {
-    uint64_t low, high;
-} Receivers;
-
-INLINE void add_receiver(Receivers *set, uint32_t process)
-{
-    uint64_t bit = 1ull << (process & 63), high = -(uint64_t)(process >> 6);
-    set->low |= bit & ~high;
-    set->high |= bit & high;
-}
-
-INLINE void remove_receiver(Receivers *set, uint32_t process)
-{
-    uint64_t bit = 1ull << (process & 63), high = -(uint64_t)(process >> 6);
-    set->low &= ~(bit & ~high);
-    set->high &= ~(bit & high);
-}
-
-/* How many links have a message, for a shuffled order: all of them; those to receivers of the groups before each group of 16; of each group those to
- * its receivers before each; and of each receiver those from the senders 0 to 63. */
-enum { GROUP = 16, GROUPS = MOST_PROCESSES / GROUP };
-
-typedef struct {
-    uint32_t all;
-    uint16_t groups[GROUPS] __attribute__((aligned(16)));
-    uint16_t receivers[GROUPS][GROUP] __attribute__((aligned(16)));
-    uint8_t low[MOST_PROCESSES];
-} Counts;
-
-/* One link more (1), or less (-1), has a message. */
-INLINE void count_link(Counts *counts, uint32_t from, uint32_t to, int more)
-{
-    counts->all += (uint32_t)more;
-    counts->low[to] += (uint8_t)((from < 64) * more);
-    count_behind(counts->groups, GROUPS, to / GROUP, more);
-    count_behind(counts->receivers[to / GROUP], GROUP, to % GROUP, more);
-}
-
-/* The order of a running on, and what it keeps of the links with a message. */
-typedef struct {
-    Receivers set;
-    Counts *counts; /* only if it is shuffled */
-    uint32_t state;
-} Order;
-
-INLINE void note_filled(Order *order, uint32_t from, uint32_t to)
-{
-    if (order->counts)
-        count_link(order->counts, from, to, 1);
-    else
-        add_receiver(&order->set, to);
-}
-
-INLINE void note_emptied(Order *order, uint32_t from, uint32_t to, bool last)
-{
-    if (order->counts)
-        count_link(order->counts, from, to, -1);
-    else if (last)
-        remove_receiver(&order->set, to);
-}
-
-/* A further message on a link; false if it has four. */
-static __attribute__((noinline)) bool send_behind(Square *square, uint32_t from, uint32_t to, uint32_t message)
-{
-    uint64_t *queue = &square->queue[to][from];
-    if (*queue >> BITS == 0) {
-        *queue |= (uint64_t)message << BITS;
-    } else if (*queue >> 2 * BITS == 0) {
-        *queue |= (uint64_t)message << 2 * BITS;
-    } else if (!(*queue & HAS_FOURTH)) {
-        *queue |= HAS_FOURTH;
-        square->fourth[to][from] = message;
-    } else {
-        return false;
-    }
-    return true;
-}
-
-INLINE bool send(Square *square, Order *order, uint32_t from, uint32_t to, uint32_t message)
-{
-    uint64_t *senders = &square->senders[to][from >> 6], bit = 1ull << (from & 63);
-    if (RARE(*senders & bit))
-        return send_behind(square, from, to, message);
-    square->queue[to][from] = message;
-    *senders |= bit;
-    note_filled(order, from, to);
-    return true;
-}
-
-/* Takes the newest message off a link again, in a run that ends with 22 there. */
-static void unsend(Square *square, uint32_t from, uint32_t to)
-{
-    uint64_t *queue = &square->queue[to][from];
-    if (*queue & HAS_FOURTH)
-        *queue &= ~HAS_FOURTH;
-    else if (*queue >> 2 * BITS)
-        *queue &= (1ull << 2 * BITS) - 1;
-    else if (*queue >> BITS)
-        *queue &= MESSAGE;
-    else
-        square->senders[to][from >> 6] &= ~(1ull << (from & 63));
-}
-
-/* What is behind a queue's oldest message. */
-static __attribute__((noinline)) uint64_t behind(const Square *square, uint32_t from, uint32_t to)
-{
-    uint64_t queue = square->queue[to][from];
-    if (queue & HAS_FOURTH)
-        return (queue & ~HAS_FOURTH) >> BITS | (uint64_t)square->fourth[to][from] << 2 * BITS;
-    return queue >> BITS;
-}
-
-/* Takes the messages of one link of an arc, the first or the one back, out of the area. */
-INLINE void take_messages(Square *square, const Area *area, uint32_t arc, uint32_t end, Order *order)
-{
-    int32_t *link = first_link(area, arc) + LINK_SIZE * end;
-    uint32_t from = end_of(&area->table, end, arc) - 1, to = end_of(&area->table, 1 - end, arc) - 1;
-    for (int i = 0; i < MOST_WAITING && link[i]; i++) {
-        send(square, order, from, to, packed(link[i]));
-        link[i] = 0;
-    }
-}
-
-/* The square of a well-formed area. */
-INLINE void fill_square(Square *square, const Area *area, Order *order)
-{
-    uint32_t n = area->table.n, m = area->table.m;
-    memset(square->senders, 0, sizeof square->senders);
-    memset(square->degrees, 0, sizeof square->degrees);
-    for (uint32_t p = 0; p < n; p++) {
-        square->processes[p] = process_in(record_of(area, p + 1));
-        square->changing[p] = (uint8_t)changing_probes(square->processes[p].flags);
-    }
-    square->changing[area->start - 1] = 0;
-    for (uint32_t arc = 1; arc <= m; arc++) {
-        square->degrees[OUT][end_of(&area->table, OUT, arc) - 1]++;
-        square->degrees[IN][end_of(&area->table, IN, arc) - 1]++;
-    }
-    for (uint32_t i = 0; i < area->loaded; i++) {
-        take_messages(square, area, area->loaded_arcs[i], OUT, order);
-        take_messages(square, area, area->loaded_arcs[i], IN, order);
-    }
-}
-
-/* The messages of a link back into the area. */
-INLINE void put_messages(const Square *square, int32_t *link, uint32_t from, uint32_t to)
-{
-    if (square->senders[to][from >> 6] >> (from & 63) & 1) {
-        uint64_t queue = square->queue[to][from];
-        for (int i = 0; i < MOST_WAITING - 1; i++)
-            link[i] = unpacked(queue >> BITS * i & MESSAGE);
-        link[MOST_WAITING - 1] = queue & HAS_FOURTH ? unpacked(square->fourth[to][from]) : 0;
-    }
-}
-
-/* Puts all that the square holds into the area, its messages too if any are waiting. */
-static void empty_square(const Square *square, const Area *area, bool waiting)
-{
-    for (uint32_t p = 0; p < area->table.n; p++)
-        put_process(record_of(area, p + 1), &square->processes[p]);
-    if (waiting)
-        for (uint32_t arc = 1; arc <= area->table.m; arc++) {
-            uint32_t from = end_of(&area->table, OUT, arc), to = end_of(&area->table, IN, arc);
-            put_messages(square, first_link(area, arc), from - 1, to - 1);
-            if (!area->waits[pair(to, from)])
-                put_messages(square, second_link(area, arc), to - 1, from - 1);
-        }
-}
-
-/* A probe that changes the flags of its receiver, which is not the start. False for 22, with nothing sent. */
-INLINE bool deliver_changing(Square *square, const Area *area, Order *order, uint32_t from, uint32_t to, uint32_t probe)
-{
-    Process x = square->processes[to];
-    Sent sent;
-    uint32_t chain = probe - SUC;
-    if (RARE(!take_probe(&x, probe, from + 1, square->degrees[chain][to], &sent)))
-        return false;
-    if (sent.to && RARE(!send(square, order, to, sent.to - 1, sent.ack << 2)))
-        return false;
-    if (sent.probes)
-        for (uint32_t arc = first_arc(&area->table, chain, to + 1); arc; arc = next_arc(&area->table, chain, arc))
-            if (RARE(!send(square, order, to, end_of(&area->table, 1 - chain, arc) - 1, probe))) {
-                for (uint32_t sent_on = first_arc(&area->table, chain, to + 1); sent_on != arc; sent_on = next_arc(&area->table, chain, sent_on))
-                    unsend(square, to, end_of(&area->table, 1 - chain, sent_on) - 1);
-                if (sent.to)
-                    unsend(square, to, sent.to - 1);
-                return false;
-            }
-    square->processes[to] = x;
-    /* The flags are now as the last probe left them. */
-    square->changing[to] = 3 & ~x.flags;
-    return true;
-}
-
-/* For each byte how many bits are set in it and below, by the counts of every two, every four and every byte. */
-INLINE uint64_t byte_sums(uint64_t set)
-{
-    uint64_t twos = set - (set >> 1 & 0x55 * BYTES), fours = (twos & 0x33 * BYTES) + (twos >> 2 & 0x33 * BYTES);
-    return ((fours + (fours >> 4)) & 0x0F * BYTES) * BYTES;
-}
-
-/* The link that is next, or none. */
-INLINE bool choose(const Square *square, Order *order, uint32_t *from, uint32_t *to)
-{
-    if (order->counts) {
-        const Counts *counts = order->counts;
-        order->state = next_state(order->state);
-        if (RARE(counts->all == 0))
-            return false;
-        uint32_t rank = order->state % counts->all, group = last_upto(counts->groups, GROUPS, rank);
-        rank -= counts->groups[group];
-        uint32_t place = last_upto(counts->receivers[group], GROUP, rank);
-        rank -= counts->receivers[group][place];
-        *to = GROUP * group + place;
-        uint32_t low = counts->low[*to], high = rank >= low;
-        uint64_t senders = square->senders[*to][high];
-        rank -= low & -high;
-        /* Most receivers have one message or two. */
-        if (RARE(rank >= 2))
-            *from = 64 * high + set_bit(senders, byte_sums(senders), rank);
-        else
-            *from = 64 * high + (uint32_t)__builtin_ctzll(senders & (senders - rank));
-        return true;
-    }
-    uint64_t low = order->set.low, high = order->set.high;
-    if (RARE((low | high) == 0))
-        return false;
-    *to = low ? (uint32_t)__builtin_ctzll(low) : 64 + (uint32_t)__builtin_ctzll(high);
-    low = square->senders[*to][0];
-    *from = low ? (uint32_t)__builtin_ctzll(low) : 64 + (uint32_t)__builtin_ctzll(square->senders[*to][1]);
-    return true;
-}
-
-/* Delivers the oldest message from p to q. False for 22, with nothing changed. */
-INLINE bool deliver_oldest(Square *square, const Area *area, Order *order, uint32_t p, uint32_t q)
-{
-    uint64_t queue = square->queue[q][p], *senders = square->senders[q];
-    uint32_t message = (uint32_t)(queue & MESSAGE);
-    bool is_start = q == area->start - 1;
-    Process *x = &square->processes[q];
-    if (RARE(queue >> BITS)) {
-        square->queue[q][p] = behind(square, p, q);
-    } else {
-        senders[p >> 6] &= ~(1ull << (p & 63));
-        note_emptied(order, p, q, (senders[0] | senders[1]) == 0);
-    }
-    if (RARE(square->changing[q] & message)) {
-        if (RARE(!deliver_changing(square, area, order, p, q, message)))
-            goto refused;
-    } else if (message <= PRE) {
-        /* With its flags as they are it acknowledges at once: by rule 1, or by rule 4 to p as its father. The start sends none of its sums. */
-        if (RARE(!send(square, order, q, p, (is_start ? ACK : x->sums) << 2)))
-            goto refused;
-        if (!is_start) {
-            x->father = x->num ? x->father : p + 1;
-            x->sums = ACK;
-        }
-    } else {
-        uint32_t sums = x->sums + (message >> 2) - ACK, num = x->num - 1;
-        if (RARE(!small(sums) | (num >= MOST_NUM)))
-            goto refused;
-        if (num == 0 && !is_start) {
-            if (RARE(x->father == 0) || RARE(!send(square, order, q, x->father - 1, sums << 2)))
-                goto refused;
-            sums = ACK;
-        }
-        x->sums = sums;
-        x->num = num;
-    }
-    return true;
-refused:
-    /* A fourth message became the third, and one that was sent on a loop may have taken its place since. */
-    if (queue & HAS_FOURTH)
-        square->fourth[q][p] = (uint32_t)(square->queue[q][p] >> 2 * BITS & MESSAGE);
-    square->queue[q][p] = queue;
-    senders[p >> 6] |= 1ull << (p & 63);
-    return false;
-}
-
-/* A running on in a square. */
-typedef struct {
-    Square *square;
-    const Area *area;
-    Order *order;
-} InSquare;
-
-INLINE uint32_t next_in_square(void *way, bool deliver)
-{
-    const InSquare *in = way;
-    uint32_t p, q;
-    if (RARE(!choose(in->square, in->order, &p, &q)))
-        return 24;
-    return deliver && deliver_oldest(in->square, in->area, in->order, p, q) ? 0 : 22;
-}
-
-/* Running on in a well-formed area. */
-INLINE uint32_t run(Area *area, uint32_t k, Order order, uint32_t *over, uint32_t *made)
-{
-    if (nothing_to_do(area, k, over))
-        return 0;
-    Square square;
-    InSquare in = {&square, area, &order};
-    fill_square(&square, area, &order);
-    uint32_t left = (uint32_t)(MOST_DELIVERIES - area->words[DELIVERIES]);
-    uint32_t refused = make(next_in_square, &in, &square.processes[area->start - 1].num, left, k, over, made);
-    empty_square(&square, area, refused || (order.counts ? order.counts->all : order.set.low | order.set.high));
-    area->words[DELIVERIES] += (int32_t)*made;
-    return refused;
-}
-
-uint32_t fast_run_on(int32_t *words, size_t length, uint32_t k, uint32_t *over, uint32_t *made)
-{
-    Area area;
-    *over = *made = 0;
-    if (!test(&area, words, length))
-        return 21;
-    return run(&area, k, (Order){{0, 0}, NULL, 0}, over, made);
-}
-
-uint32_t fast_run_shuffled(int32_t *words, size_t length, uint32_t k, uint32_t seed, uint32_t *over, uint32_t *made)
-{
-    Area area;
-    Counts counts;
-    *over = *made = 0;
-    if (!test(&area, words, length))
-        return 21;
-    if (seed == 0)
-        return 37;
-    memset(&counts, 0, sizeof counts);
-    return run(&area, k, (Order){{0, 0}, &counts, seed}, over, made);
-}
-
-/* ---- many deliveries, in the area itself */
+/* ---- running on: many deliveries, in the area itself */
 
 /* The links, numbered as the fixed order has them, by receiver and then by sender: the next one is the lowest with a message. What stands here
  * finds links; messages and records are the area's. */
@@ -1144,7 +757,7 @@ typedef struct {
     const Area *area;
     Links *links;
     Waiting *waiting;
-} InPlace;
+} Run;
 
 INLINE uint32_t receiver(const Links *links, Link link)
 {
@@ -1162,13 +775,13 @@ static __attribute__((noinline)) bool put_behind(int32_t *link, uint32_t message
     return false;
 }
 
-INLINE bool put(const InPlace *in, Link at, uint32_t message)
+INLINE bool put(const Run *run, Link at, uint32_t message)
 {
-    int32_t *link = place_of(in->area, at);
+    int32_t *link = place_of(run->area, at);
     if (RARE(link[0]))
         return put_behind(link, message);
     link[0] = (int32_t)message;
-    set_waiting(in->waiting, number_of(at));
+    set_waiting(run->waiting, number_of(at));
     return true;
 }
 
@@ -1187,10 +800,10 @@ static void put_back(int32_t *link, uint32_t message)
 }
 
 /* A probe that changes the flags of its receiver, which is not the start. False for 22, with nothing sent. */
-INLINE bool put_changing(const InPlace *in, uint32_t to, Link back, uint32_t probe)
+INLINE bool put_changing(const Run *run, uint32_t to, Link back, uint32_t probe)
 {
-    const Area *area = in->area;
-    Links *links = in->links;
+    const Area *area = run->area;
+    Links *links = run->links;
     uint32_t from = receiver(links, back);
     Process x = process_in(record_of(area, to));
     Sent sent;
@@ -1198,11 +811,11 @@ INLINE bool put_changing(const InPlace *in, uint32_t to, Link back, uint32_t pro
     if (RARE(!take_probe(&x, probe, from, links->degrees[chain][to], &sent)))
         return false;
     /* Whether it had a father or gets one, it is the sender that is acknowledged. */
-    if (sent.to && RARE(!put(in, back, sent.ack)))
+    if (sent.to && RARE(!put(run, back, sent.ack)))
         return false;
     if (sent.probes)
         for (uint32_t arc = first_arc(&area->table, chain, to); arc; arc = next_arc(&area->table, chain, arc))
-            if (RARE(!put(in, links->along[arc - 1][chain], probe))) {
+            if (RARE(!put(run, links->along[arc - 1][chain], probe))) {
                 for (uint32_t sent_on = first_arc(&area->table, chain, to); sent_on != arc; sent_on = next_arc(&area->table, chain, sent_on))
                     unput(area, links->along[sent_on - 1][chain]);
                 if (sent.to)
@@ -1216,10 +829,10 @@ INLINE bool put_changing(const InPlace *in, uint32_t to, Link back, uint32_t pro
 }
 
 /* Delivers the oldest message of a link. False for 22, with nothing changed. */
-INLINE bool deliver_in_place(const InPlace *in, uint32_t number)
+INLINE bool deliver_oldest(const Run *run, uint32_t number)
 {
-    const Area *area = in->area;
-    const Numbered *chosen = &in->links->numbered[number];
+    const Area *area = run->area;
+    const Numbered *chosen = &run->links->numbered[number];
     uint32_t to = chosen->to;
     Link back = chosen->back;
     int32_t *link = area->links + chosen->place, *record = record_of(area, to);
@@ -1229,7 +842,7 @@ INLINE bool deliver_in_place(const InPlace *in, uint32_t number)
         take_out(link, 0);
     } else {
         link[0] = 0;
-        clear_waiting(in->waiting, number);
+        clear_waiting(run->waiting, number);
     }
     if (message > PRE) {
         uint32_t cs = (uint32_t)record[CS] + (message & 511) - 256, second = (uint32_t)record[SECOND] + (message >> 9) - 256;
@@ -1237,7 +850,7 @@ INLINE bool deliver_in_place(const InPlace *in, uint32_t number)
         if (RARE((cs + 128 > 256) | (second + 128 > 256) | (num >= MOST_NUM)))
             goto refused;
         if (num == 0 && !is_start) {
-            if (RARE(record[FATHER] == 0) || RARE(!put(in, in->links->to_father[to], ACK + cs + 512 * second)))
+            if (RARE(record[FATHER] == 0) || RARE(!put(run, run->links->to_father[to], ACK + cs + 512 * second)))
                 goto refused;
             cs = second = 0;
         }
@@ -1245,18 +858,18 @@ INLINE bool deliver_in_place(const InPlace *in, uint32_t number)
         record[SECOND] = (int32_t)second;
         record[NUM] = (int32_t)num;
     } else if (RARE(is_start)) {
-        if (RARE(!put(in, back, ACK)))
+        if (RARE(!put(run, back, ACK)))
             goto refused;
     } else if (RARE(changing_probes((uint32_t)record[FLAGS]) & message)) {
-        if (RARE(!put_changing(in, to, back, message)))
+        if (RARE(!put_changing(run, to, back, message)))
             goto refused;
     } else {
         /* With its flags as they are it acknowledges at once: by rule 1, or by rule 4 to the sender as its father. */
-        if (RARE(!put(in, back, (uint32_t)(ACK + record[CS] + 512 * record[SECOND]))))
+        if (RARE(!put(run, back, (uint32_t)(ACK + record[CS] + 512 * record[SECOND]))))
             goto refused;
         if (num == 0) {
-            record[FATHER] = (int32_t)receiver(in->links, back);
-            in->links->to_father[to] = back;
+            record[FATHER] = (int32_t)receiver(run->links, back);
+            run->links->to_father[to] = back;
         }
         record[CS] = record[SECOND] = 0;
     }
@@ -1267,40 +880,59 @@ refused:
     return false;
 }
 
-INLINE uint32_t next_in_place(void *way, bool deliver)
+/* Finds the next link with a message, and, if it is to deliver, delivers the oldest there. 24 if there is no such link; 22 if it is not to deliver or
+ * cannot, with nothing changed. */
+INLINE uint32_t next_delivery(const Run *run, bool deliver)
 {
-    const InPlace *in = way;
     uint32_t number;
-    if (RARE(!choose_number(in->waiting, &number)))
+    if (RARE(!choose_number(run->waiting, &number)))
         return 24;
-    return deliver && deliver_in_place(in, number) ? 0 : 22;
+    return deliver && deliver_oldest(run, number) ? 0 : 22;
+}
+
+/* Makes up to k deliveries while num, the start's, is not 0: over, spent, 24, 22. */
+INLINE uint32_t make(const Run *run, const uint32_t *num, uint32_t left, uint32_t k, uint32_t *over, uint32_t *made)
+{
+    uint32_t most = k < left ? k : left, done = 0, refused = 0;
+    while (done < most) {
+        refused = next_delivery(run, true);
+        if (RARE(refused))
+            break;
+        done++;
+        if (RARE(*num == 0))
+            break;
+    }
+    *over = *num == 0;
+    *made = done;
+    /* One more delivery than are counted is refused, if there is a message for it. */
+    return !refused && *num && done < k ? next_delivery(run, false) : refused;
 }
 
 /* Running on in a well-formed area, on its own words. */
-INLINE uint32_t run_in_place(Area *area, uint32_t k, Sums *sums, uint32_t seed, uint32_t *over, uint32_t *made)
+INLINE uint32_t run_on_words(Area *area, uint32_t k, Sums *sums, uint32_t seed, uint32_t *over, uint32_t *made)
 {
-    if (nothing_to_do(area, k, over))
+    if (ends_at_once(area, k, over))
         return 0;
     Links links;
     uint64_t set[SET_WORDS] = {0};
     Waiting waiting = {set, 0, sums, 0, seed};
-    InPlace in = {area, &links, &waiting};
+    Run run = {area, &links, &waiting};
     number_links(&links, area);
     find_waiting(&waiting, &links, area);
     uint32_t left = (uint32_t)(MOST_DELIVERIES - area->words[DELIVERIES]);
-    return make(next_in_place, &in, (const uint32_t *)record_of(area, area->start) + NUM, left, k, over, made);
+    return make(&run, (const uint32_t *)record_of(area, area->start) + NUM, left, k, over, made);
 }
 
-uint32_t fast_run_on_in_place(int32_t *words, size_t length, uint32_t k, uint32_t *over, uint32_t *made)
+uint32_t fast_run_on(int32_t *words, size_t length, uint32_t k, uint32_t *over, uint32_t *made)
 {
     Area area;
     *over = *made = 0;
     if (!test(&area, words, length))
         return 21;
-    return run_in_place(&area, k, NULL, 0, over, made);
+    return run_on_words(&area, k, NULL, 0, over, made);
 }
 
-uint32_t fast_run_shuffled_in_place(int32_t *words, size_t length, uint32_t k, uint32_t seed, uint32_t *over, uint32_t *made)
+uint32_t fast_run_shuffled(int32_t *words, size_t length, uint32_t k, uint32_t seed, uint32_t *over, uint32_t *made)
 {
     Area area;
     Sums sums;
@@ -1310,5 +942,5 @@ uint32_t fast_run_shuffled_in_place(int32_t *words, size_t length, uint32_t k, u
     if (seed == 0)
         return 37;
     memset(&sums, 0, sizeof sums);
-    return run_in_place(&area, k, &sums, seed, over, made);
+    return run_on_words(&area, k, &sums, seed, over, made);
 }

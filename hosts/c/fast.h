@@ -1,4 +1,4 @@
-/* fast.h: the calls of the knot check that are timed, in C, as the second and third comparator for the benchmarks. It is no part of the library. Each has the
+/* fast.h: the calls of the knot check that are timed, in C, as a second comparator for the benchmarks. It is no part of the library. Each has the
  * parameters, the answers and the refusals of its namesake in include/pickledune.h, and leaves the same bytes and words. */
 #ifndef FAST_H
 #define FAST_H
@@ -16,10 +16,5 @@ uint32_t fast_pick(
 uint32_t fast_run_on(int32_t *area, size_t words, uint32_t k, uint32_t *over, uint32_t *made);
 
 uint32_t fast_run_shuffled(int32_t *area, size_t words, uint32_t k, uint32_t seed, uint32_t *over, uint32_t *made);
-
-/* The same two with each delivery made in place, on the area's own words; those above make them beside the area and put back what is left. */
-uint32_t fast_run_on_in_place(int32_t *area, size_t words, uint32_t k, uint32_t *over, uint32_t *made);
-
-uint32_t fast_run_shuffled_in_place(int32_t *area, size_t words, uint32_t k, uint32_t seed, uint32_t *over, uint32_t *made);
 
 #endif

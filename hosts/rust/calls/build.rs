@@ -1,5 +1,5 @@
 //! Links libpickledune.a from PICKLEDUNE_LIB_DIR, by default the repository's target/staticlib, and the
-//! C comparators, hosts/c/fast.c, which it compiles with the compiler that CC names, by default gcc, and
+//! C comparator, hosts/c/fast.c, which it compiles with the compiler that CC names, by default gcc, and
 //! the flags that CFLAGS adds.
 
 use std::path::{Path, PathBuf};
@@ -9,7 +9,7 @@ use std::{env, fs};
 fn main() {
     println!("cargo:rerun-if-changed=build.rs");
     let package = folder("CARGO_MANIFEST_DIR");
-    link_comparators(&package.join("../../c"), &folder("OUT_DIR"));
+    link_comparator(&package.join("../../c"), &folder("OUT_DIR"));
     println!("cargo:rerun-if-env-changed=PICKLEDUNE_LIB_DIR");
     if env::var_os("CARGO_FEATURE_STANDIN").is_none() {
         let given = env::var_os("PICKLEDUNE_LIB_DIR").map(PathBuf::from);
@@ -34,8 +34,8 @@ fn link_archive(folder: &Path) {
     println!("cargo:rustc-link-lib=static=pickledune");
 }
 
-/// They are always compiled for speed, since they are there to be timed.
-fn link_comparators(sources: &Path, out: &Path) {
+/// It is always compiled for speed, since it is there to be timed.
+fn link_comparator(sources: &Path, out: &Path) {
     for file in ["fast.c", "fast.h"] {
         println!("cargo:rerun-if-changed={}", sources.join(file).display());
     }
@@ -65,7 +65,7 @@ fn run(command: &mut Command) {
             exit(1);
         }
         Err(error) => {
-            eprintln!("{command:?}: {error}; the C comparators need gcc and ar");
+            eprintln!("{command:?}: {error}; the C comparator needs gcc and ar");
             exit(1);
         }
     }

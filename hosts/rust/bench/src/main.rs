@@ -1,6 +1,6 @@
-//! Times the proved library against the plain Rust and against the C comparators in one run, on the same
-//! inputs. Every time is the median of repetitions in which they take turns, each time on the next of 64
-//! variants. Reading, start, one pick and a whole check by one running on, and by one that is
+//! Times the proved library against the plain Rust and against the C comparator in one run, on the same
+//! inputs. Every time is the median of repetitions in which the three take turns, each time on the next
+//! of 64 variants. Reading, start, one pick and a whole check by one running on, and by one that is
 //! shuffled, are timed on waits of several shapes, with the bounds that they are to keep; the first
 //! shape, in which each process waits for the next four, is the one of the plot. `HELP` says how it is
 //! called.
@@ -25,7 +25,7 @@ use std::time::Instant;
 use timing::{time_all, Library, Timed};
 
 const HELP: &str = "\
-Times the proved library against the plain Rust and the C comparators on the same inputs.
+Times the proved library against the plain Rust and the C comparator on the same inputs.
 
   bench [PLOT.svg]
   bench --repeat TIMES LIBRARY WHAT SHAPE N
@@ -35,8 +35,8 @@ KNOT_CHECK set to the built check program, that program is timed too, from proce
 against plain_check, which stands beside this program or where PLAIN_CHECK says.
 
 With --repeat nothing is timed. One thing is made so many times by one library, for a count of its
-instructions (hosts/instructions.sh), and the number of deliveries is printed. LIBRARY is proved, plain,
-c or c-in-place; WHAT is start, or start with a whole check: run, shuffled or picks; SHAPE is as in the tables,
+instructions (hosts/instructions.sh), and the number of deliveries is printed. LIBRARY is proved, plain
+or c; WHAT is start, or start with a whole check: run, shuffled or picks; SHAPE is as in the tables,
 such as 'next four'; N is 16, 32, 64 or 128.
 ";
 
@@ -75,7 +75,6 @@ type Run = fn(&dyn Calls, &Input, &mut [u8], &mut [i32]);
 /// next turn it is done on the next ones, so that none is repeated before all others have been done.
 fn timed<'a>(
     what: &'static str,
-    libraries: &'static [Library],
     inputs: &'a Inputs,
     batch: usize,
     before: fn(&Input) -> &[i32],
@@ -106,7 +105,7 @@ fn timed<'a>(
         }
         time / batch as u32
     };
-    Timed::new(what, Some(inputs.size), libraries, once)
+    Timed::new(what, Some(inputs.size), &Library::ALL, once)
 }
 
 /// So many variants of a short call at once that reading the clock does not count, in caches that hold
@@ -137,7 +136,6 @@ fn started(input: &Input) -> &[i32] {
 fn read(inputs: &Inputs) -> Timed<'_> {
     timed(
         READ,
-        &Library::WITHOUT_RUNS,
         inputs,
         short(inputs),
         |_| &[],
@@ -151,7 +149,6 @@ fn read(inputs: &Inputs) -> Timed<'_> {
 fn start(inputs: &Inputs) -> Timed<'_> {
     timed(
         START,
-        &Library::WITHOUT_RUNS,
         inputs,
         short(inputs),
         |input| &input.middle,
@@ -164,7 +161,6 @@ fn start(inputs: &Inputs) -> Timed<'_> {
 fn pick(inputs: &Inputs) -> Timed<'_> {
     timed(
         PICK,
-        &Library::WITHOUT_RUNS,
         inputs,
         short(inputs),
         |input| &input.middle,
@@ -176,7 +172,7 @@ fn pick(inputs: &Inputs) -> Timed<'_> {
 }
 
 fn whole(inputs: &Inputs) -> Timed<'_> {
-    timed(WHOLE, &Library::ALL, inputs, 1, started, |library, input, _, area| {
+    timed(WHOLE, inputs, 1, started, |library, input, _, area| {
         expect_over(library.run_on(area, u32::MAX), input);
     })
 }
@@ -185,13 +181,13 @@ fn whole(inputs: &Inputs) -> Timed<'_> {
 const SEED: u32 = 2_463_534_242;
 
 fn shuffled(inputs: &Inputs) -> Timed<'_> {
-    timed(SHUFFLED, &Library::ALL, inputs, 1, started, |library, input, _, area| {
+    timed(SHUFFLED, inputs, 1, started, |library, input, _, area| {
         expect_over(library.run_shuffled(area, u32::MAX, SEED), input);
     })
 }
 
 fn picks(inputs: &Inputs) -> Timed<'_> {
-    timed(PICKS, &Library::WITHOUT_RUNS, inputs, 1, started, |library, input, _, area| {
+    timed(PICKS, inputs, 1, started, |library, input, _, area| {
         for &(from, to) in &input.picks {
             expect(library.pick(area, from, to, 1).number);
         }
@@ -208,8 +204,7 @@ fn by_shape(inputs: &[Inputs], rows: impl Iterator<Item = Row>) -> Vec<Shaped> {
     shaped.collect()
 }
 
-/// What the proved code is to keep: against the plain Rust and against the C that runs on in place, on
-/// the same words.
+/// What the proved code is to keep: against the plain Rust and against the C.
 fn short_bounds(_: usize) -> Bounds {
     [Some(1.2), None]
 }

@@ -45,24 +45,15 @@ struct Plot {
     legend: f64,
 }
 
-/// The times of one thing by who was timed: a label, and a time if there is one.
-type Of = (&'static str, fn(&Row) -> Option<f64>);
-
-const OF: [Of; 4] = [
-    ("proved", |row| Some(row.proved)),
-    ("plain Rust", |row| Some(row.plain)),
-    ("C", |row| row.c),
-    ("C in place", |row| row.c_in_place),
-];
+/// There is C of all that is plotted.
+fn in_c(row: &Row) -> f64 {
+    row.c.unwrap_or(row.plain)
+}
 
 pub fn draw(growth: &[[Row; 4]]) -> String {
     let arcs = |rows: &[Row; 4]| rows[0].size.map_or(1.0, |size| size.m as f64);
     let times = || {
-        growth
-            .iter()
-            .flat_map(|rows| &rows[1..])
-            .flat_map(|row| OF.map(|(_, of)| of(row)))
-            .flatten()
+        growth.iter().flat_map(|rows| &rows[1..]).flat_map(|row| [row.proved, row.plain, in_c(row)])
     };
     let low = times().fold(f64::MAX, f64::min).log10().floor();
     let high = times().fold(0.0, f64::max).log10().ceil();
@@ -76,15 +67,15 @@ pub fn draw(growth: &[[Row; 4]]) -> String {
     let mut plot = Plot { svg: String::new(), x, y, legend: TOP + 14.0 };
     plot.frame(growth);
     for (thing, label, colour) in THINGS {
-        let styles = [("none", colour), ("6 4", "white"), ("2 3", "white"), ("8 3 2 3", "white")];
-        for ((name, of), (dashes, inside)) in OF.into_iter().zip(styles) {
-            let times = growth.iter().filter_map(|rows| Some((arcs(rows), of(&rows[thing])?)));
-            let points: Vec<(f64, f64)> = times.collect();
-            if !points.is_empty() {
-                let style = Style { colour, dashes, marks: Some(inside) };
-                plot.curve(&format!("{label}, {name}"), &points, style);
-            }
-        }
+        let points = |of: fn(&Row) -> f64| -> Vec<(f64, f64)> {
+            growth.iter().map(|rows| (arcs(rows), of(&rows[thing]))).collect()
+        };
+        let plain = Style { colour, dashes: "6 4", marks: Some("white") };
+        let c = Style { colour, dashes: "2 3", marks: Some("white") };
+        let proved = Style { colour, dashes: "none", marks: Some(colour) };
+        plot.curve(&format!("{label}, proved"), &points(|row| row.proved), proved);
+        plot.curve(&format!("{label}, plain Rust"), &points(|row| row.plain), plain);
+        plot.curve(&format!("{label}, C"), &points(in_c), c);
         plot.legend += 12.0;
     }
     let (low, least) = (plot.x.low, 2.0 * plot.y.low);

@@ -29,12 +29,8 @@ pub struct Repeated {
     n: usize,
 }
 
-pub const LIBRARIES: [(&str, Library); 4] = [
-    ("proved", Library::Proved),
-    ("plain", Library::Plain),
-    ("c", Library::C),
-    ("c-in-place", Library::CInPlace),
-];
+pub const LIBRARIES: [(&str, Library); 3] =
+    [("proved", Library::Proved), ("plain", Library::Plain), ("c", Library::C)];
 const WHATS: [(&str, What); 4] = [
     ("start", What::Start),
     ("run", What::Run),
@@ -114,9 +110,7 @@ mod tests {
         let refused = |line: &str| Repeated::named(&words(line)).unwrap_err();
         assert!(refused("3,c,shuffled,two hubs").contains("wants TIMES LIBRARY WHAT SHAPE N"));
         assert!(refused("x,c,run,random,16").contains("no number of times: x"));
-        assert!(
-            refused("3,x,run,random,16").contains("no x; there are: proved; plain; c; c-in-place")
-        );
+        assert!(refused("3,x,run,random,16").contains("no x; there are: proved; plain; c"));
         assert!(refused("3,c,x,random,16").contains("no x; there are: start; run"));
         assert!(refused("3,c,run,x,16").contains("no x; there are: next four"));
         assert!(refused("3,c,run,random,17").contains("no N: 17"));
@@ -127,7 +121,7 @@ mod tests {
         for what in [What::Start, What::Run, What::Shuffled, What::Picks] {
             let made = Library::ALL
                 .map(|library| Repeated { times: 2, library, what, shape: 2, n: 16 }.make());
-            assert_eq!(made, [made[0]; 4], "{what:?}");
+            assert_eq!(made, [made[0]; 3], "{what:?}");
             assert_eq!(made[0] == 0, what == What::Start);
         }
     }

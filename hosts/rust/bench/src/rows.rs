@@ -6,8 +6,7 @@ pub struct Size {
     pub m: usize,
 }
 
-/// The times of one thing, in seconds. There is no program in C, and only runnings on are made in two
-/// ways there: by C in a square of its own, and by C in place, in the area itself.
+/// The times of one thing, in seconds. There is no program in C.
 #[derive(Clone, Copy, Debug)]
 pub struct Row {
     pub what: &'static str,
@@ -15,7 +14,6 @@ pub struct Row {
     pub proved: f64,
     pub plain: f64,
     pub c: Option<f64>,
-    pub c_in_place: Option<f64>,
 }
 
 impl Row {
@@ -23,9 +21,13 @@ impl Row {
         self.size.map_or(String::new(), |size| format!("{}, {}", size.n, size.m))
     }
 
-    /// A time of another, and how many times as long the proved code takes.
-    fn with_ratio(&self, other: Option<f64>) -> [String; 2] {
-        [or_empty(other, time), or_empty(other, |time| two(self.proved / time))]
+    /// How many times as long the proved code takes as the plain Rust and as the C.
+    fn ratios(&self) -> [String; 2] {
+        [Some(self.plain), self.c].map(|other| or_empty(other, |time| two(self.proved / time)))
+    }
+
+    fn c(&self) -> String {
+        or_empty(self.c, time)
     }
 }
 
@@ -64,23 +66,11 @@ fn print_line(cells: &[String]) {
 }
 
 pub fn print_rows(rows: &[Row]) {
-    print_heading(&[
-        "what",
-        "N, M",
-        "proved",
-        "plain Rust",
-        "ratio",
-        "C",
-        "ratio",
-        "C in place",
-        "ratio",
-    ]);
+    print_heading(&["what", "N, M", "proved", "plain Rust", "ratio", "C", "ratio"]);
     for row in rows {
-        let [plain, to_plain] = row.with_ratio(Some(row.plain));
-        let [c, to_c] = row.with_ratio(row.c);
-        let [in_place, to_in_place] = row.with_ratio(row.c_in_place);
-        let (what, proved) = (row.what.into(), time(row.proved));
-        print_line(&[what, row.size(), proved, plain, to_plain, c, to_c, in_place, to_in_place]);
+        let [to_plain, to_c] = row.ratios();
+        let (proved, plain) = (time(row.proved), time(row.plain));
+        print_line(&[row.what.into(), row.size(), proved, plain, to_plain, row.c(), to_c]);
     }
 }
 
@@ -98,9 +88,6 @@ pub fn print_growth(growth: &[[Row; 4]]) {
         "C",
         TIMES,
         "ratio",
-        "C in place",
-        TIMES,
-        "ratio",
     ]);
     for thing in 0..4 {
         let rows: Vec<Row> = growth.iter().map(|rows| rows[thing]).collect();
@@ -109,15 +96,19 @@ pub fn print_growth(growth: &[[Row; 4]]) {
                 let before = place.checked_sub(1).and_then(|before| of(&rows[before]));
                 or_empty(of(row).zip(before), |(time, before)| two(time / before))
             };
-            let other = |of: fn(&Row) -> Option<f64>| {
-                let [time, ratio] = row.with_ratio(of(row));
-                [time, factor(of), ratio]
-            };
-            let proved =
-                [row.what.into(), row.size(), time(row.proved), factor(|row| Some(row.proved))];
-            let plain = other(|row| Some(row.plain));
-            let (c, in_place) = (other(|row| row.c), other(|row| row.c_in_place));
-            print_line(&[&proved[..], &plain, &c, &in_place].concat());
+            let [to_plain, to_c] = row.ratios();
+            print_line(&[
+                row.what.into(),
+                row.size(),
+                time(row.proved),
+                factor(|row| Some(row.proved)),
+                time(row.plain),
+                factor(|row| Some(row.plain)),
+                to_plain,
+                row.c(),
+                factor(|row| row.c),
+                to_c,
+            ]);
         }
     }
 }
@@ -129,47 +120,35 @@ pub struct Shaped {
     pub row: Row,
 }
 
-/// How many times as long as the plain Rust and as the C in place the proved code may take, if that is
-/// bounded.
+/// How many times as long as the plain Rust and as the C the proved code may take, if that is bounded.
 pub type Bounds = [Option<f64>; 2];
 
 /// How many times as long one delivery may take in the largest check as in the one before.
 const DELIVERY_BOUND: f64 = 1.1;
 
-/// For each shape its times by size, with the bounds for each N. The C in place has columns only where it
-/// was timed.
+/// For each shape its times by size, with the bounds for each N.
 pub fn print_shapes(shaped: &[Shaped], bounds: fn(usize) -> Bounds) {
     const WITHIN: &str = "to be within";
-    const COLUMNS: [&str; 8] =
-        ["N, M", "deliveries", "proved", "plain Rust", "ratio", WITHIN, "C", "ratio"];
-    let Some(first) = shaped.first() else { return };
-    let in_place: &[&str] = match first.row.c_in_place {
-        Some(_) => &["C in place", "ratio", WITHIN],
-        None => &[],
-    };
-    print_heading(&[&[first.row.what], &COLUMNS[..], in_place].concat());
+    let what = shaped.first().map_or("", |check| check.row.what);
+    let columns =
+        [what, "N, M", "deliveries", "proved", "plain Rust", "ratio", WITHIN, "C", "ratio", WITHIN];
+    print_heading(&columns);
     for Shaped { shape, deliveries, row } in shaped {
         let Some(Size { n, .. }) = row.size else { continue };
+        let [to_plain, to_c] = row.ratios();
         let [within_plain, within_c] = bounds(n).map(|bound| or_empty(bound, |b| b.to_string()));
-        let [plain, to_plain] = row.with_ratio(Some(row.plain));
-        let [c, to_c] = row.with_ratio(row.c);
-        let [c_in_place, to_c_in_place] = row.with_ratio(row.c_in_place);
-        let (shape, deliveries) = (shape.to_string(), deliveries.to_string());
-        let cells = [
-            shape,
+        print_line(&[
+            shape.to_string(),
             row.size(),
-            deliveries,
+            deliveries.to_string(),
             time(row.proved),
-            plain,
+            time(row.plain),
             to_plain,
             within_plain,
-            c,
+            row.c(),
             to_c,
-            c_in_place,
-            to_c_in_place,
             within_c,
-        ];
-        print_line(&cells[..1 + COLUMNS.len() + in_place.len()]);
+        ]);
     }
 }
 
@@ -185,8 +164,6 @@ pub fn print_deliveries(shaped: &[Shaped]) {
         TIMES,
         "C",
         TIMES,
-        "C in place",
-        TIMES,
     ]);
     for sizes in shaped.chunk_by(|a, b| a.shape == b.shape) {
         let [.., smaller, larger] = sizes else { continue };
@@ -198,10 +175,11 @@ pub fn print_deliveries(shaped: &[Shaped]) {
                 or_empty(both, |(from, to)| two(to / from)),
             ]
         };
-        let [proved, times] = each(|row| Some(row.proved));
-        let proved = [larger.shape.to_string(), proved, times, DELIVERY_BOUND.to_string()];
-        let plain = each(|row| Some(row.plain));
-        let (c, in_place) = (each(|row| row.c), each(|row| row.c_in_place));
-        print_line(&[&proved[..], &plain, &c, &in_place].concat());
+        let [proved, proved_times] = each(|row| Some(row.proved));
+        let [plain, plain_times] = each(|row| Some(row.plain));
+        let [c, c_times] = each(|row| row.c);
+        let within = DELIVERY_BOUND.to_string();
+        let shape = larger.shape.to_string();
+        print_line(&[shape, proved, proved_times, within, plain, plain_times, c, c_times]);
     }
 }

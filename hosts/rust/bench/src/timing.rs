@@ -1,7 +1,7 @@
 //! Repetitions in which the libraries take turns, and their medians.
 
 use crate::rows::{Row, Size};
-use calls::{Calls, Plain, Proved, FAST, FAST_IN_PLACE};
+use calls::{Calls, Fast, Plain, Proved};
 use std::time::{Duration, Instant};
 
 /// What is timed.
@@ -10,21 +10,16 @@ pub enum Library {
     Proved,
     Plain,
     C,
-    CInPlace,
 }
 
 impl Library {
-    pub const ALL: [Library; 4] = [Library::Proved, Library::Plain, Library::C, Library::CInPlace];
-
-    /// Those that differ in calls other than running on: the two in C have the same ones.
-    pub const WITHOUT_RUNS: [Library; 3] = [Library::Proved, Library::Plain, Library::C];
+    pub const ALL: [Library; 3] = [Library::Proved, Library::Plain, Library::C];
 
     pub fn calls(self) -> &'static dyn Calls {
         match self {
             Library::Proved => &Proved,
             Library::Plain => &Plain,
-            Library::C => &FAST,
-            Library::CInPlace => &FAST_IN_PLACE,
+            Library::C => &Fast,
         }
     }
 }
@@ -37,7 +32,7 @@ pub struct Timed<'a> {
     once: Box<dyn FnMut(Library, usize) -> Duration + 'a>,
     turns: usize,
     /// By library.
-    times: [Vec<f64>; 4],
+    times: [Vec<f64>; 3],
 }
 
 /// How often all things are timed one after another: what else the machine does in some seconds
@@ -54,7 +49,7 @@ impl<'a> Timed<'a> {
         libraries: &'static [Library],
         once: impl FnMut(Library, usize) -> Duration + 'a,
     ) -> Timed<'a> {
-        let times = [const { Vec::new() }; 4];
+        let times = [const { Vec::new() }; 3];
         Timed { what, size, libraries, once: Box::new(once), turns: 0, times }
     }
 
@@ -86,10 +81,9 @@ impl<'a> Timed<'a> {
 
     fn row(self) -> Row {
         let Timed { what, size, times, .. } = self;
-        let [proved, plain, c, c_in_place] = times.map(median);
+        let [proved, plain, c] = times.map(median);
         let missing = "each is timed but for C";
-        let (proved, plain) = (proved.expect(missing), plain.expect(missing));
-        Row { what, size, proved, plain, c, c_in_place }
+        Row { what, size, proved: proved.expect(missing), plain: plain.expect(missing), c }
     }
 }
 

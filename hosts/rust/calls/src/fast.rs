@@ -1,6 +1,6 @@
-//! The C comparators, `hosts/c/fast.c`, behind the trait.
+//! The C comparator, `hosts/c/fast.c`, behind the trait.
 
-use crate::interface::{pick, read_table, run_on, run_shuffled, start, RunOn, RunShuffled};
+use crate::interface::{pick, read_table, run_on, run_shuffled, start};
 use crate::{Answer, Calls, LentRecord, Plain, Received};
 
 // As `hosts/c/fast.h` declares them.
@@ -33,36 +33,10 @@ extern "C" {
         over: *mut u32,
         made: *mut u32,
     ) -> u32;
-    fn fast_run_on_in_place(
-        area: *mut i32,
-        words: usize,
-        k: u32,
-        over: *mut u32,
-        made: *mut u32,
-    ) -> u32;
-    fn fast_run_shuffled_in_place(
-        area: *mut i32,
-        words: usize,
-        k: u32,
-        seed: u32,
-        over: *mut u32,
-        made: *mut u32,
-    ) -> u32;
 }
 
-/// The calls that are timed, in C, with one of its two ways of running on. It has no others: those are
-/// the plain Rust's.
-pub struct Fast {
-    run_on: RunOn,
-    run_shuffled: RunShuffled,
-}
-
-/// Runs on in a square of its own.
-pub const FAST: Fast = Fast { run_on: fast_run_on, run_shuffled: fast_run_shuffled };
-
-/// Runs on in the area itself.
-pub const FAST_IN_PLACE: Fast =
-    Fast { run_on: fast_run_on_in_place, run_shuffled: fast_run_shuffled_in_place };
+/// The calls that are timed, in C. It has no others: those are the plain Rust's.
+pub struct Fast;
 
 impl Calls for Fast {
     fn read_table(&self, table: &mut [u8]) -> Answer {
@@ -90,11 +64,11 @@ impl Calls for Fast {
     }
 
     fn run_on(&self, area: &mut [i32], k: u32) -> Answer {
-        run_on(self.run_on, area, k)
+        run_on(fast_run_on, area, k)
     }
 
     fn run_shuffled(&self, area: &mut [i32], k: u32, seed: u32) -> Answer {
-        run_shuffled(self.run_shuffled, area, k, seed)
+        run_shuffled(fast_run_shuffled, area, k, seed)
     }
 
     fn report(&self, area: &mut [i32]) -> Answer {

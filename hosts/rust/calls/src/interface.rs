@@ -74,7 +74,7 @@ impl<T: Given> Slot<T> {
     }
 }
 
-/// The types of the calls that the C comparators have, too.
+/// The types of the calls that the C comparator has, too.
 pub(crate) type ReadTable = unsafe extern "C" fn(*const u8, usize, *mut usize, *mut usize) -> u32;
 pub(crate) type Start =
     unsafe extern "C" fn(*const u8, usize, usize, usize, *mut i32, usize) -> u32;

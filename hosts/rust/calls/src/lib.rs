@@ -1,6 +1,5 @@
 //! 01's calls behind one trait, so that programs can make the same call on the proved library
-//! (`Proved`, by its C interface), on the plain Rust (`Plain`) and on the two C comparators (`FAST` and
-//! `FAST_IN_PLACE`).
+//! (`Proved`, by its C interface), on the plain Rust (`Plain`) and on the C comparator (`Fast`).
 
 #![deny(missing_docs)]
 
@@ -10,7 +9,7 @@ mod plain_calls;
 #[cfg(feature = "standin")]
 mod standin;
 
-pub use fast::{Fast, FAST, FAST_IN_PLACE};
+pub use fast::Fast;
 pub use interface::Proved;
 pub use plain_calls::Plain;
 

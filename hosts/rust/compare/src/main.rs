@@ -1,4 +1,4 @@
-//! Compares the proved library, or a C comparator, with the plain Rust, call by call, on more than two
+//! Compares the proved library, or the C comparator, with the plain Rust, call by call, on more than two
 //! million calls drawn from a seeded generator. `HELP` says how it is called.
 
 mod driver;
@@ -14,7 +14,7 @@ mod running;
 #[cfg(test)]
 mod seconds;
 
-use calls::{Calls, Proved, FAST, FAST_IN_PLACE, STANDIN};
+use calls::{Calls, Fast, Proved, STANDIN};
 use driver::{Driver, Outcome};
 use rng::Rng;
 use std::io::Write;
@@ -27,9 +27,8 @@ Compares the proved library with the plain Rust, call by call.
 
   compare [--library NAME] [--seed NUMBER] [--family NAME] [--program PATH]
 
-  --library NAME   compares the library named: proved, which is meant without this, or one of the
-                   comparators of the benchmarks, c and c-in-place, which have no calls but those
-                   that are timed and differ in how they run on
+  --library NAME   compares the library named: proved, which is meant without this, or c, the
+                   comparator of the benchmarks, which has no calls but those that are timed
   --seed NUMBER    draws the calls from another seed than 1982
   --family NAME    makes the calls of one family only
   --program PATH   compares the built check program, knot_check, too
@@ -44,7 +43,6 @@ argument that is wrong is named with status 2. The families are:
 enum Library {
     Proved,
     C,
-    CInPlace,
 }
 
 struct Options {
@@ -83,8 +81,7 @@ fn library(value: &str) -> Result<Library, String> {
     match value {
         "proved" => Ok(Library::Proved),
         "c" => Ok(Library::C),
-        "c-in-place" => Ok(Library::CInPlace),
-        _ => Err(format!("no library {value}; there are: proved; c; c-in-place")),
+        _ => Err(format!("no library {value}; there are: proved; c")),
     }
 }
 
@@ -163,8 +160,7 @@ fn main() -> ExitCode {
             }
             compare_all(&Proved, &options)
         }
-        Library::C => compare_all(&FAST, &options),
-        Library::CInPlace => compare_all(&FAST_IN_PLACE, &options),
+        Library::C => compare_all(&Fast, &options),
     }
 }
 
@@ -199,8 +195,7 @@ fn arguments_are_known_or_named() {
     assert_eq!((options.seed, options.program), (7, Some("a/b".into())));
     assert_eq!(options.library, Library::Proved);
     assert_eq!(given("--library c").unwrap().unwrap().library, Library::C);
-    assert_eq!(given("--library c-in-place").unwrap().unwrap().library, Library::CInPlace);
-    assert!(refused("--library x").contains("no library x; there are: proved; c; c-in-place"));
+    assert!(refused("--library x").contains("no library x; there are: proved; c"));
     assert!(refused("--sed 7").contains("unknown argument --sed"));
     assert!(refused("--seed").contains("--seed wants a value"));
     assert!(refused("--seed x").contains("no seed: x"));
@@ -209,12 +204,10 @@ fn arguments_are_known_or_named() {
 
 /// A part of what hosts/test.sh compares.
 #[test]
-fn the_c_comparators_are_as_the_plain_rust() {
-    let options = Options { seed: 7, ..Options::default() };
-    for library in [FAST, FAST_IN_PLACE] {
-        let mut driver = Driver::new(&library, options.seed);
-        if let Err(difference) = compare(&mut driver, &options, 50) {
-            panic!("{difference}");
-        }
+fn the_c_comparator_is_as_the_plain_rust() {
+    let options = Options { library: Library::C, seed: 7, ..Options::default() };
+    let mut driver = Driver::new(&Fast, options.seed);
+    if let Err(difference) = compare(&mut driver, &options, 50) {
+        panic!("{difference}");
     }
 }
