@@ -16,18 +16,15 @@
 // no whole case, `input ends early` is the last line. No case is refused for its length: any 16 bits will do.
 //
 // The program promises only that it is safe and ends: what it prints is held to the file stdout, which tools/table_vectors.py makes
-// with the file stdin. It stands on those three and on the kit's `io` and `libc`. A part of an array is written from 0, `[0..end]`, which
-// asks only for the bounds.
-mod output;
-mod walking;
-
-use crate::output::print;
-use crate::output::print_number;
-use crate::walking::print_both;
-use crate::walking::print_steps;
-use crate::walking::print_walks;
+// with the file stdin. It stands on those three, on `walk_output`, which prints the walks, and on the kit's `io` and `libc`. A part of an
+// array is written from 0, `[0..end]`, which asks only for the bounds.
 use table_writer::Writing;
 use tables::Reading;
+use walk_output::output::print;
+use walk_output::output::print_number;
+use walk_output::walking::print_both;
+use walk_output::walking::print_steps;
+use walk_output::walking::print_walks;
 ghost use Prim.Native.Nat.{_≤_};
 ghost use lib.ListN.{length};
 

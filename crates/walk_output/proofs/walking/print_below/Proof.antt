@@ -1,8 +1,8 @@
 -- `print_below` is safe and ends. The measure is the number of processes that are left. Assumes nothing.
 use Prim.Native.Nat.{_-_}
 use borrow.Author.Needs.{needs}
-use Rattle.table_vectors.proofs.walking.print_below.Statement.{statement}
-use Rattle.table_vectors.proofs.walking.print_below.Tie as tie
+use Rattle.walk_output.proofs.walking.print_below.Statement.{statement}
+use Rattle.walk_output.proofs.walking.print_below.Tie as tie
 
 abbrev Inv-loop : tie.InvT-loop
 Inv-loop s n p₀ p = Unit {0}

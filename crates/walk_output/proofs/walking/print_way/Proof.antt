@@ -1,8 +1,8 @@
 -- `print_way` is safe and ends. The measure is the number of steps that are left. Assumes nothing.
 use Prim.Native.Nat.{_-_}
 use borrow.Author.Needs.{needs}
-use Rattle.table_vectors.proofs.walking.print_way.Statement.{statement}
-use Rattle.table_vectors.proofs.walking.print_way.Tie as tie
+use Rattle.walk_output.proofs.walking.print_way.Statement.{statement}
+use Rattle.walk_output.proofs.walking.print_way.Tie as tie
 
 abbrev Inv-loop : tie.InvT-loop
 Inv-loop s chain p steps₀ steps = Unit {0}
