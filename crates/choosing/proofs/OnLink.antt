@@ -43,16 +43,16 @@ use Rattle.lenses.specs.Ready.{Ready}
 use Rattle.lenses.specs.ReadyLaws.{right-storable, ready-n, ready-sizes}
 use Rattle.lenses.proofs.Holding.{Holding, holding-first, holding-run, holding-next}
 use Rattle.marks.specs.Changes.{Points, MarkedAt, Turns}
+use Rattle.remembering.specs.Running.{Running}
+use Rattle.remembering.specs.RunningLaws.{running-linked, running-kept, linked-kept}
+use Rattle.remembering.specs.Memory.{Remembers}
+use Rattle.remembering.specs.Noting.{notedMarks}
+use Rattle.remembering.specs.NotedLaws.{remembers-noted}
 use Rattle.choosing.specs.declared.Chosen.{Chosen}
 use Rattle.choosing.specs.declared.Chosen.the-variants.{Nobody, Link}
 use Rattle.choosing.specs.declared.ChosenDelivery.{ChosenDelivery}
-use Rattle.choosing.specs.Running.{Running}
-use Rattle.choosing.specs.RunningLaws.{running-linked, running-kept, linked-kept}
-use Rattle.choosing.specs.Memory.{Remembers}
-use Rattle.choosing.specs.Noting.{notedMarks}
 use Rattle.choosing.specs.Answers.{chosenOf, chosenAnswer}
 use Rattle.choosing.specs.OrderLaws.{Names, Within, points-drawn}
-use Rattle.choosing.specs.NotedLaws.{remembers-noted}
 use Rattle.choosing.specs.AnswerLaws.{chosenOf-nobody, chosenOf-link, deliverOn-nobody, deliverOn-pair, chosenAnswer-refused, chosenAnswer-delivered}
 
 module _ {w : List ℤ} {n m : ℕ} (y : Ready w n m) where

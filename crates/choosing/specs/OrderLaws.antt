@@ -25,7 +25,7 @@ use Rattle.checks.specs.Run.{Run}
 use Rattle.sets.specs.Sets.{Nth}
 use Rattle.marks.specs.Marks.{heldTo}
 use Rattle.marks.specs.Changes.{Points}
-use Rattle.choosing.specs.Memory.{Remembers}
+use Rattle.remembering.specs.Memory.{Remembers}
 
 -- ---- what is chosen
 

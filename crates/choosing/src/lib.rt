@@ -2,18 +2,17 @@
 // order by a state, which points to a place in that list (02, N13). The fixed order is that of state 0, which points to the first place.
 //
 // So that a delivery costs little that grows with the table unless it broadcasts, something of the links is remembered from one delivery
-// to the next: an array of numbers, which `remember` fills and each delivery keeps, behind the predicate `Remembers`. It says which links hold
-// a message, and how many to each receiver and to each group of receivers, whatever the order. It stands on `delivery` and below; it refuses
-// what a delivery refuses, 24 and 22.
-mod filling;
-mod noting;
-
+// to the next: an array of numbers, which `remember` fills and each delivery keeps, behind the predicate `Remembers` (the crate `remembering`).
+// It says which links hold a message, and how many to each receiver and to each group of receivers, whatever the order. It stands on
+// `remembering`, `delivery` and below; it refuses what a delivery refuses, 24 and 22.
 use areas::squares;
 use delivery::delivering;
 use delivery::delivering::Told;
 use link_lenses::links;
 use marks::Beginning;
 use marks::parts;
+use remembering::filling;
+use remembering::noting;
 use steps::Message;
 ghost use mathlib.Core.Path.{_≡_};
 ghost use Prim.Native.Nat.{_≤_};
@@ -23,9 +22,9 @@ ghost use Rattle.areas.specs.Squares.{Linked};
 ghost use Rattle.machine.specs.Calls.{linkAt, linksOf, lowest, drawn};
 ghost use Rattle.delivery.specs.Delivering.{toldAt, deliverAt};
 ghost use Rattle.marks.specs.Marks.{memorySize};
+ghost use Rattle.remembering.specs.Memory.{Remembers};
+ghost use Rattle.remembering.specs.Running.{Running};
 ghost use Rattle.choosing.specs.Answers.{chosenOf, chosenAnswer, drawnOf, nextOf};
-ghost use Rattle.choosing.specs.Memory.{Remembers};
-ghost use Rattle.choosing.specs.Running.{Running};
 
 // A link with a message, or none.
 enum Chosen {

@@ -6,8 +6,8 @@ use mathlib.Core.List.{List}
 use lib.IntN.{ℤ}
 use Rattle.checks.specs.Run.{Run}
 use Rattle.lenses.proofs.Holding.{Holding}
-use Rattle.choosing.specs.Running.{Running}
-use Rattle.choosing.specs.RunningLaws.{running-kept}
+use Rattle.remembering.specs.Running.{Running}
+use Rattle.remembering.specs.RunningLaws.{running-kept}
 
 pub running-holds : {w v : List ℤ} {sq : List ℕ} {n m : ℕ} {r : Run} → Running w sq n m → Holding w v r → Running v sq n m
 running-holds y h = rw (h .is) (running-kept y (h .fit))

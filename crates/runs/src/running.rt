@@ -11,8 +11,8 @@ ghost use Rattle.machine.specs.Calls.{shuffledOrder, runFrom};
 ghost use Rattle.checks.specs.Run.{knot};
 ghost use Rattle.areas.specs.Area.{runIn, keeping};
 ghost use Rattle.lenses.specs.Ready.{Ready};
-ghost use Rattle.choosing.specs.Running.{Running};
-ghost use Rattle.choosing.specs.Memory.{Remembers};
+ghost use Rattle.remembering.specs.Running.{Running};
+ghost use Rattle.remembering.specs.Memory.{Remembers};
 ghost use Rattle.area_calls.specs.AreaCalls.{runOnAnswer, runOnArea};
 
 // The deliveries in a tested area: over, then spent, then 24, 22. The state is moved on before each; from state 0 it stays 0, which is the

@@ -20,8 +20,8 @@ use Rattle.lenses.specs.ReadyLaws.{ready-n, ready-sizes}
 use Rattle.marks.specs.Marks.{countAt, heldTo}
 use Rattle.sets.specs.Sets.{Ranked}
 use Rattle.marks.specs.GroupLaws.{heldTo-within, heldTo-next}
+use Rattle.remembering.specs.Memory.{Remembers}
 use Rattle.choosing.specs.declared.Chosen.the-variants.{Nobody, Link}
-use Rattle.choosing.specs.Memory.{Remembers}
 use Rattle.choosing.specs.Answers.{chosenOf}
 use Rattle.choosing.specs.OrderLaws.{link-found, sender-in, link-waits, link-none}
 use Rattle.choosing.proofs.OnLink.{ready-few, ready-within}

@@ -4,7 +4,7 @@ use mathlib.Core.Path.{refl}
 use native.Mathlib.Omega.{arith}
 use borrow.Author.Needs.{needs}
 use Rattle.lenses.specs.ReadyLaws.{ready-sizes}
-use Rattle.choosing.specs.RunningLaws.{running-row}
+use Rattle.remembering.specs.RunningLaws.{running-row}
 use Rattle.choosing.proofs.deliver_on.Statement.{statement}
 use Rattle.choosing.proofs.deliver_on.Tie as tie
 

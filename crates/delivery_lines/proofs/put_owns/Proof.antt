@@ -12,8 +12,8 @@ use Rattle.checks.specs.Run.{knot}
 use Rattle.areas.specs.Area.{runIn, keeping}
 use Rattle.lenses.proofs.Holding.{holding-ready, holding-length}
 use Rattle.machine.specs.Calls.{fixedOrder}
+use Rattle.remembering.specs.Memory.{Remembers}
 use Rattle.choosing.specs.OrderLaws.{lowest-names}
-use Rattle.choosing.specs.Memory.{Remembers}
 use Rattle.runs.proofs.Kept.{running-holds}
 use Rattle.runs.proofs.Turns.{Turn, turn-first, turn-over, turn-full, turn-unmade, turn-made}
 use Rattle.choosing.specs.Answers.{nextOf}

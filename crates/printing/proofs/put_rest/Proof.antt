@@ -6,7 +6,7 @@ use Rattle.tables.specs.Pairs.{squareSize}
 use Rattle.checks.specs.Run.{knot}
 use Rattle.areas.specs.Area.{runIn}
 use Rattle.area_calls.specs.TestedLaws.{fresh-long, fresh-empty}
-use Rattle.choosing.specs.Running.{Running}
+use Rattle.remembering.specs.Running.{Running}
 use Rattle.lines.specs.AddingLaws.{_put-then_, room-first, room-then}
 use Rattle.program_text.specs.Program.{endRun, ownText, endText, restText}
 use Rattle.printing.proofs.put_rest.Statement.{statement}

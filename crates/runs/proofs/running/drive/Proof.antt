@@ -11,8 +11,8 @@ use Rattle.areas.specs.Area.{runIn}
 use Rattle.lenses.proofs.Holding.{holding-ready, holding-length}
 use Rattle.machine.specs.Calls.{drawn, shuffledOrder}
 use Rattle.shuffling.specs.Shuffle.{movedOn}
+use Rattle.remembering.specs.Memory.{Remembers}
 use Rattle.choosing.specs.declared.ChosenDelivery.{ChosenDelivery}
-use Rattle.choosing.specs.Memory.{Remembers}
 use Rattle.choosing.specs.OrderLaws.{drawn-names}
 use Rattle.choosing.proofs.OnLink.{Left, left-refusal, left-message}
 use Rattle.runs.proofs.Kept.{running-holds}

@@ -4,7 +4,7 @@ use mathlib.Core.Path.{refl}
 use borrow.Author.Needs.{needs}
 use Rattle.tables.specs.Pairs.{squareSize}
 use Rattle.area_calls.specs.TestedLaws.{fresh-long, fresh-empty}
-use Rattle.choosing.specs.Running.{Running}
+use Rattle.remembering.specs.Running.{Running}
 use Rattle.runs.proofs.running.run_in.Statement.{statement}
 use Rattle.runs.proofs.running.run_in.Tie as tie
 

@@ -25,8 +25,8 @@ use Rattle.delivery.specs.StorableLaws.{waiting-joined}
 use Rattle.marks.specs.Marks.{Marks}
 use Rattle.marks.specs.Changes.{Turns}
 use Rattle.marks.specs.GroupLaws.{marks-cong}
-use Rattle.choosing.specs.Memory.{Remembers}
-use Rattle.choosing.specs.Noting.{lookedMarks, alongMarks}
+use Rattle.remembering.specs.Memory.{Remembers}
+use Rattle.remembering.specs.Noting.{lookedMarks, alongMarks}
 
 pub both-ways : (p q : Bool) → (p ≡ true → q ≡ true) → (q ≡ true → p ≡ true) → p ≡ q
 both-ways true q f g = sym (f refl)

@@ -1,10 +1,10 @@
--- `choosing::filling::look` meets its contract.
+-- `remembering::filling::look` meets its contract.
 -- Assumes nothing.
 use Rattle.areas.specs.Area.{runIn}
-use Rattle.choosing.proofs.Following.{process-most}
-use Rattle.choosing.proofs.Looking.{looked-empty, looked-some}
-use Rattle.choosing.proofs.filling.look.Statement.{statement}
-use Rattle.choosing.proofs.filling.look.Tie as tie
+use Rattle.remembering.proofs.Following.{process-most}
+use Rattle.remembering.proofs.Looking.{looked-empty, looked-some}
+use Rattle.remembering.proofs.filling.look.Statement.{statement}
+use Rattle.remembering.proofs.filling.look.Tie as tie
 
 returns : tie.Need-returns
 returns c =

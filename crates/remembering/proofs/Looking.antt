@@ -19,8 +19,8 @@ use Rattle.areas.specs.Area.{fieldsIn}
 use Rattle.areas.specs.AreaLaws.{areaRight-table}
 use Rattle.lenses.specs.Ready.{Ready}
 use Rattle.marks.specs.Changes.{turned, Turns}
-use Rattle.choosing.specs.Noting.{lookedMarks, alongMarks}
-use Rattle.choosing.proofs.Following.{turns-then}
+use Rattle.remembering.specs.Noting.{lookedMarks, alongMarks}
+use Rattle.remembering.proofs.Following.{turns-then}
 
 module _ (r : Run) (a b : ℕ) {l : List ℕ} {i : Bool} (e : i ≡ waiting (r .link a b)) where
   pub looked-empty : not i ≡ true → Turns l (lookedMarks r a b) l

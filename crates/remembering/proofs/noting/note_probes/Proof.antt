@@ -1,4 +1,4 @@
--- `choosing::noting::note_probes` meets its contract: in each case the probes go where the broadcast goes.
+-- `remembering::noting::note_probes` meets its contract: in each case the probes go where the broadcast goes.
 -- Assumes nothing.
 use Prim.Native.Nat.{ℕ}
 use mathlib.Core.List.{List}
@@ -12,10 +12,10 @@ use Rattle.steps.specs.declared.Probes.the-variants.{Sucs, Pres}
 use Rattle.areas.specs.Area.{runIn}
 use Rattle.preparing.specs.Receiving.{probesGo}
 use Rattle.marks.specs.Changes.{Turns}
-use Rattle.choosing.specs.Noting.{sentMarks}
-use Rattle.choosing.proofs.Following.{sent-nobody}
-use Rattle.choosing.proofs.noting.note_probes.Statement.{statement}
-use Rattle.choosing.proofs.noting.note_probes.Tie as tie
+use Rattle.remembering.specs.Noting.{sentMarks}
+use Rattle.remembering.proofs.Following.{sent-nobody}
+use Rattle.remembering.proofs.noting.note_probes.Statement.{statement}
+use Rattle.remembering.proofs.noting.note_probes.Tie as tie
 
 module _ (w : Waits) (b : ℕ) {y : Probes} {l : List ℕ} where
   nothing : y ≡ Probes.Nothing → Turns l (λ held. sentMarks held b (probesGo w y b)) l

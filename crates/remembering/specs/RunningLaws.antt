@@ -23,7 +23,7 @@ use Rattle.areas.specs.SquareLaws.{cellOf-place, square-row}
 use Rattle.lenses.specs.Storable.{Storable}
 use Rattle.lenses.specs.ReadyLaws.{keeping-fields, ready-kept, ready-sizes}
 use Rattle.delivery.specs.StorableLaws.{waiting-joined}
-use Rattle.choosing.specs.Running.{Running}
+use Rattle.remembering.specs.Running.{Running}
 
 module _ {w : List ℤ} {sq : List ℕ} {n m : ℕ} (y : Running w sq n m) where
   pub running-row : {b : ℕ} → b ≤ n → {from to : ℕ} → from ≡ b * squareSide → to ≡ from + squareSide

@@ -33,9 +33,9 @@ use Rattle.lenses.proofs.ChainWalks.{Walked, ends, toGo, left-on, left-end, wal
 use Rattle.marks.specs.Marks.{Marks}
 use Rattle.marks.specs.Changes.{turned, Marked, Turns}
 use Rattle.marks.specs.GroupLaws.{marks-cong}
-use Rattle.choosing.specs.Noting.{takenMarks, sentMarks}
-use Rattle.choosing.specs.NotedLaws.{sent-turned}
-use Rattle.choosing.specs.FillLaws.{both-ways}
+use Rattle.remembering.specs.Noting.{takenMarks, sentMarks}
+use Rattle.remembering.specs.NotedLaws.{sent-turned}
+use Rattle.remembering.specs.FillLaws.{both-ways}
 
 -- ---- changes
 

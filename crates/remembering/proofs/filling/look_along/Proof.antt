@@ -1,11 +1,11 @@
--- `choosing::filling::look_along` meets its contract.
+-- `remembering::filling::look_along` meets its contract.
 -- Assumes nothing.
 use Rattle.areas.specs.Area.{runIn}
-use Rattle.choosing.specs.Noting.{lookedMarks}
-use Rattle.choosing.proofs.Following.{turns-marked}
-use Rattle.choosing.proofs.Looking.{arc-ends, looked-along}
-use Rattle.choosing.proofs.filling.look_along.Statement.{statement}
-use Rattle.choosing.proofs.filling.look_along.Tie as tie
+use Rattle.remembering.specs.Noting.{lookedMarks}
+use Rattle.remembering.proofs.Following.{turns-marked}
+use Rattle.remembering.proofs.Looking.{arc-ends, looked-along}
+use Rattle.remembering.proofs.filling.look_along.Statement.{statement}
+use Rattle.remembering.proofs.filling.look_along.Tie as tie
 
 look-requires : tie.Need-look-requires
 look-requires c κs =

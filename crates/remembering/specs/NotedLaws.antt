@@ -33,8 +33,8 @@ use Rattle.delivery.specs.Delivering.{changed, carriedOut, Carried}
 use Rattle.delivery.specs.DeliveryLaws.{relinked-waits, answered-relinked, spreadBy-relinked, carried-link}
 use Rattle.marks.specs.Changes.{turned, Turns}
 use Rattle.marks.specs.GroupLaws.{marks-cong}
-use Rattle.choosing.specs.Memory.{Remembers}
-use Rattle.choosing.specs.Noting.{takenMarks, sentMarks, notedMarks}
+use Rattle.remembering.specs.Memory.{Remembers}
+use Rattle.remembering.specs.Noting.{takenMarks, sentMarks, notedMarks}
 
 -- ---- marks
 

@@ -1,9 +1,9 @@
--- `choosing::noting::note_taken` meets its contract.
+-- `remembering::noting::note_taken` meets its contract.
 -- Assumes nothing.
 use Rattle.areas.specs.Area.{runIn}
-use Rattle.choosing.proofs.Following.{process-most, taken-stays, taken-falls}
-use Rattle.choosing.proofs.noting.note_taken.Statement.{statement}
-use Rattle.choosing.proofs.noting.note_taken.Tie as tie
+use Rattle.remembering.proofs.Following.{process-most, taken-stays, taken-falls}
+use Rattle.remembering.proofs.noting.note_taken.Statement.{statement}
+use Rattle.remembering.proofs.noting.note_taken.Tie as tie
 
 returns : tie.Need-returns
 returns c =

@@ -18,7 +18,7 @@ ghost use Rattle.areas.specs.Squares.{Linked};
 ghost use Rattle.lenses.specs.Ready.{Ready};
 ghost use Rattle.preparing.specs.Receiving.{probesGo, replyGoes};
 ghost use Rattle.marks.specs.Changes.{Marked, MarkedAt, Turns};
-ghost use Rattle.choosing.specs.Noting.{takenMarks, sentMarks, notedMarks};
+ghost use Rattle.remembering.specs.Noting.{takenMarks, sentMarks, notedMarks};
 
 // A message has come off the link from a to b, which begins at word i: the link has fallen empty if it was the last one.
 fn note_taken(

@@ -9,9 +9,9 @@ ghost use Rattle.tables.specs.Table.{arcAt, IsProcess};
 ghost use Rattle.areas.specs.Area.{fieldsIn, runIn};
 ghost use Rattle.marks.specs.Marks.{memorySize};
 ghost use Rattle.marks.specs.Changes.{Marked, Turns};
-ghost use Rattle.choosing.specs.Memory.{Remembers};
-ghost use Rattle.choosing.specs.Noting.{lookedMarks, alongMarks};
-ghost use Rattle.choosing.specs.Running.{Running};
+ghost use Rattle.remembering.specs.Memory.{Remembers};
+ghost use Rattle.remembering.specs.Noting.{lookedMarks, alongMarks};
+ghost use Rattle.remembering.specs.Running.{Running};
 
 // Marks the link from a to b if it holds a message.
 fn look(

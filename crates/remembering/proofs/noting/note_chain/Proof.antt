@@ -1,4 +1,4 @@
--- `choosing::noting::note_chain` meets its contract. The loop's invariant: whatever marks the array held, it holds them and those of the far ends
+-- `remembering::noting::note_chain` meets its contract. The loop's invariant: whatever marks the array held, it holds them and those of the far ends
 -- that were passed, and no other (`Sent`). The measure is the number of arcs to come.
 -- Assumes nothing.
 use Prim.Native.Nat.{ℕ}
@@ -10,9 +10,9 @@ use Rattle.areas.specs.Area.{fieldsIn}
 use Rattle.lenses.specs.ReadyLaws.{right-storable}
 use Rattle.lenses.proofs.ChainWalks.{toGo, left-on, ready-right, ready-process, ahead-arc, ahead-far, far-is, next-is}
 use Rattle.marks.specs.Marks.{Marks}
-use Rattle.choosing.proofs.Following.{process-most, Sent, sent-first, sent-next, sent-last}
-use Rattle.choosing.proofs.noting.note_chain.Statement.{statement}
-use Rattle.choosing.proofs.noting.note_chain.Tie as tie
+use Rattle.remembering.proofs.Following.{process-most, Sent, sent-first, sent-next, sent-last}
+use Rattle.remembering.proofs.noting.note_chain.Statement.{statement}
+use Rattle.remembering.proofs.noting.note_chain.Tie as tie
 
 abbrev Inv-loop : tie.InvT-loop
 Inv-loop area n m c b memory₀ k₀ memory k = (before : ℕ → ℕ → Bool) → Marks before memory₀ → Sent c (fieldsIn area) b k before memory

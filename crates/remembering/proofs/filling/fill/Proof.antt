@@ -1,4 +1,4 @@
--- `choosing::filling::fill` meets its contract. The loop's invariant: the marks of the links that stand with an arc before k (`Filled`). The
+-- `remembering::filling::fill` meets its contract. The loop's invariant: the marks of the links that stand with an arc before k (`Filled`). The
 -- measure is what is left.
 -- Assumes nothing.
 use Prim.Native.Nat.{_-_, _≤_}
@@ -6,9 +6,9 @@ use native.Mathlib.Omega.{arith}
 use Rattle.areas.specs.Area.{fieldsIn, runIn}
 use Rattle.areas.specs.RunInLaws.{runIn-contained}
 use Rattle.lenses.specs.ReadyLaws.{ready-sizes}
-use Rattle.choosing.specs.FillLaws.{Filled, filled-first, filled-next, filled-last}
-use Rattle.choosing.proofs.filling.fill.Statement.{statement}
-use Rattle.choosing.proofs.filling.fill.Tie as tie
+use Rattle.remembering.specs.FillLaws.{Filled, filled-first, filled-next, filled-last}
+use Rattle.remembering.proofs.filling.fill.Statement.{statement}
+use Rattle.remembering.proofs.filling.fill.Tie as tie
 
 abbrev Inv-loop : tie.InvT-loop
 Inv-loop area square n m memory₀ end k₀ memory k = (1 ≤ k) × (k ≤ end) × Filled (fieldsIn area) (runIn area) k memory

@@ -1,4 +1,4 @@
--- `choosing::noting::note_reply` meets its contract.
+-- `remembering::noting::note_reply` meets its contract.
 -- Assumes nothing.
 use Prim.Native.Nat.{ℕ}
 use mathlib.Core.Bool.{true}
@@ -10,10 +10,10 @@ use Rattle.steps.specs.declared.Reply.the-variants.{To}
 use Rattle.steps.specs.declared.TwoCounts.{TwoCounts}
 use Rattle.preparing.specs.Receiving.{replyGoes}
 use Rattle.marks.specs.Changes.{turned, Turns}
-use Rattle.choosing.specs.Noting.{sentMarks}
-use Rattle.choosing.proofs.Following.{sent-nobody, sent-one}
-use Rattle.choosing.proofs.noting.note_reply.Statement.{statement}
-use Rattle.choosing.proofs.noting.note_reply.Tie as tie
+use Rattle.remembering.specs.Noting.{sentMarks}
+use Rattle.remembering.proofs.Following.{sent-nobody, sent-one}
+use Rattle.remembering.proofs.noting.note_reply.Statement.{statement}
+use Rattle.remembering.proofs.noting.note_reply.Tie as tie
 
 nothing : (b : ℕ) {z : Reply} → z ≡ Reply.Nothing → {l : List ℕ} → Turns l (λ held. sentMarks held b (replyGoes z)) l
 nothing b e = rw e (sent-nobody b)

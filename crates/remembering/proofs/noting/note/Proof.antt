@@ -1,4 +1,4 @@
--- `choosing::noting::note` meets its contract: the three parts one after another.
+-- `remembering::noting::note` meets its contract: the three parts one after another.
 -- Assumes nothing.
 use Prim.Native.Nat.{ℕ}
 use mathlib.Core.List.{List}
@@ -10,10 +10,10 @@ use Rattle.steps.specs.declared.Probes.{Probes}
 use Rattle.steps.specs.declared.Reply.{Reply}
 use Rattle.preparing.specs.Receiving.{probesGo, replyGoes}
 use Rattle.marks.specs.Changes.{Marked, MarkedAt, Turns}
-use Rattle.choosing.specs.Noting.{takenMarks, sentMarks, notedMarks}
-use Rattle.choosing.proofs.Following.{process-most, turns-marked}
-use Rattle.choosing.proofs.noting.note.Statement.{statement}
-use Rattle.choosing.proofs.noting.note.Tie as tie
+use Rattle.remembering.specs.Noting.{takenMarks, sentMarks, notedMarks}
+use Rattle.remembering.proofs.Following.{process-most, turns-marked}
+use Rattle.remembering.proofs.noting.note.Statement.{statement}
+use Rattle.remembering.proofs.noting.note.Tie as tie
 
 all-parts : (r : Run) (a b : ℕ) (y : Probes) (z : Reply) {l i j k : List ℕ}
     → Turns l (takenMarks (waiting (r .link a b)) a b) i
