@@ -35,7 +35,8 @@ use Rattle.machine.specs.Calls.{Selection, nobody, pair, waiting, linkAt, links
 use Rattle.areas.specs.Area.{fieldsIn, runIn, keeping}
 use Rattle.areas.specs.Squares.{placeIn, Linked, cell}
 use Rattle.delivery.specs.declared.delivering.Told.{Told}
-use Rattle.delivery.specs.Delivering.{carriedOut, deliverAt, toldAt}
+use Rattle.carrying.specs.Carrying.{carriedOut}
+use Rattle.delivery.specs.Delivering.{deliverAt, toldAt}
 use Rattle.delivery.specs.DeliveryFacts.{Going}
 use Rattle.delivery.specs.PreparedLaws.{told-refused, told-going}
 use Rattle.delivery.specs.StorableLaws.{storable-on, waiting-joined}

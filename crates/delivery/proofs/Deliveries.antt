@@ -46,7 +46,8 @@ use Rattle.lenses.specs.ChangeLaws.{link-message}
 use Rattle.link_lenses.specs.StandingLaws.{message-standing}
 use Rattle.preparing.specs.Rooms.{roomy, roomTo}
 use Rattle.preparing.specs.Receiving.{steppedAt}
-use Rattle.delivery.specs.Delivering.{carriedOut, Carried, deliverAt, PreparedFor, preparedOf, toldOf, toldAt}
+use Rattle.carrying.specs.Carrying.{carriedOut, Carried}
+use Rattle.delivery.specs.Delivering.{deliverAt, PreparedFor, preparedOf, toldOf, toldAt}
 use Rattle.delivery.specs.AcceptLaws.{accepts-refused, accepts-full, taken-replied, accepts-crowded}
 use Rattle.delivery.specs.PreparedLaws.{prepared-nothing, prepared-beyond, prepared-at, prepared-refused, prepared-go}
 use Rattle.delivery.specs.PreparedLaws.{refused-of, going-of, told-refused, told-going}

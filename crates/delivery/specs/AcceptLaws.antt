@@ -47,8 +47,9 @@ use Rattle.checks.specs.Run.{Run, mostDeliveries, knot, turnOf, wellFormed, tur
 use Rattle.preparing.specs.LentLaws.{lent}
 use Rattle.preparing.specs.Rooms.{loadAfter, roomy}
 use Rattle.preparing.specs.Receiving.{steppedAt}
-use Rattle.delivery.specs.Delivering.{carriedOut, Carried, deliverAt}
-use Rattle.delivery.specs.DeliveryLaws.{carriedOut-is, loadAfter-is}
+use Rattle.carrying.specs.Carrying.{carriedOut, Carried}
+use Rattle.carrying.specs.DeliveryLaws.{carriedOut-is, loadAfter-is}
+use Rattle.delivery.specs.Delivering.{deliverAt}
 use Rattle.delivery.specs.DeliveryFacts.{Taking}
 
 -- ---- the receiver's step

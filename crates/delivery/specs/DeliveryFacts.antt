@@ -13,7 +13,8 @@ use Rattle.steps.specs.declared.Reply.{Reply}
 use Rattle.steps.specs.declared.Reply.the-variants.{To}
 use Rattle.checks.specs.declared.Delivery.the-variants.{Delivered}
 use Rattle.checks.specs.Run.{Run, turnAt}
-use Rattle.delivery.specs.Delivering.{carriedOut, Carried, deliverAt}
+use Rattle.carrying.specs.Carrying.{carriedOut, Carried}
+use Rattle.delivery.specs.Delivering.{deliverAt}
 use Rattle.steps.specs.Step.{fitting, answer}
 
 -- x, y and z are what the receiver's turn leaves, and it meets no 22

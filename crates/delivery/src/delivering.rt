@@ -1,5 +1,4 @@
 // The delivery of one message in a tested area: refused with nothing changed, or carried out.
-use crate::carrying;
 use checks::Delivery;
 use lenses::heading;
 use link_lenses::links;

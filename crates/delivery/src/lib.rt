@@ -1,4 +1,3 @@
 // A delivery in a tested run area: refused with nothing changed, or carried out.
 
-pub mod carrying;
 pub mod delivering;

@@ -29,8 +29,8 @@ use Rattle.checks.specs.Run.{Run, one, replyTo, probesTo}
 use Rattle.areas.specs.Replaced.{putProcess, putLink, putCount}
 use Rattle.link_lenses.specs.Changes.{answered}
 use Rattle.preparing.specs.Receiving.{probesGo, replyGoes}
-use Rattle.delivery.specs.Delivering.{changed, carriedOut, Carried}
-use Rattle.delivery.specs.DeliveryLaws.{relinked-waits, answered-relinked, spreadBy-relinked, carried-link}
+use Rattle.carrying.specs.Carrying.{changed, carriedOut, Carried}
+use Rattle.carrying.specs.DeliveryLaws.{relinked-waits, answered-relinked, spreadBy-relinked, carried-link}
 use Rattle.marks.specs.Changes.{turned, Turns}
 use Rattle.marks.specs.GroupLaws.{marks-cong}
 use Rattle.remembering.specs.Memory.{Remembers}

@@ -1,11 +1,11 @@
--- `delivery::carrying::send` meets its contract, by the kind of probes.
+-- `carrying::send` meets its contract, by the kind of probes.
 -- Assumes nothing.
 use mathlib.Core.Path.{sym}
 use borrow.Author.Needs.{needs}
 use Rattle.tables.specs.declared.Chain.the-variants.{Out, In}
 use Rattle.areas.specs.AreaLaws.{stored-same}
-use Rattle.delivery.proofs.carrying.send.Statement.{statement}
-use Rattle.delivery.proofs.carrying.send.Tie as tie
+use Rattle.carrying.proofs.send.Statement.{statement}
+use Rattle.carrying.proofs.send.Tie as tie
 
 broadcast-requires : tie.Need-broadcast-requires
 broadcast-requires c κs =

@@ -38,7 +38,7 @@ use Rattle.areas.specs.Replaced.{withLinks, putProcess, putLink, putCount}
 use Rattle.link_lenses.specs.Changes.{probeOf, spreadTo, answered, spread, off}
 use Rattle.lenses.specs.ChangeLaws.{joins-high}
 use Rattle.preparing.specs.Rooms.{loadAfter}
-use Rattle.delivery.specs.Delivering.{spreadBy, changed, Relinked, carriedOut}
+use Rattle.carrying.specs.Carrying.{spreadBy, changed, Relinked, carriedOut}
 
 -- ---- what a step sends
 

@@ -1,4 +1,4 @@
--- `delivery::carrying::carry_out` meets its contract: each call gets the area as the last one left it, with the run that it left in it.
+-- `carrying::carry_out` meets its contract: each call gets the area as the last one left it, with the run that it left in it.
 -- Assumes nothing.
 use mathlib.Core.List.{List}
 use native.Mathlib.Omega.{arith}
@@ -7,11 +7,11 @@ use lib.IntN.{ℤ}
 use Rattle.checks.specs.Run.{Run}
 use Rattle.areas.specs.Area.{runIn}
 use Rattle.link_lenses.specs.Changes.{answered, off}
-use Rattle.delivery.specs.Delivering.{spreadBy, changed}
+use Rattle.carrying.specs.Carrying.{spreadBy, changed}
 use Rattle.lenses.proofs.Holding.{Holding, holding-ready}
-use Rattle.delivery.proofs.InOrder.{take-asks, taken-off, put-asks, record-put, reply-asks, reply-sent, send-asks, probes-sent, count-asks, all-done}
-use Rattle.delivery.proofs.carrying.carry_out.Statement.{statement}
-use Rattle.delivery.proofs.carrying.carry_out.Tie as tie
+use Rattle.carrying.proofs.InOrder.{take-asks, taken-off, put-asks, record-put, reply-asks, reply-sent, send-asks, probes-sent, count-asks, all-done}
+use Rattle.carrying.proofs.carry_out.Statement.{statement}
+use Rattle.carrying.proofs.carry_out.Tie as tie
 
 -- the area, and the run after each change
 abbrev area : tie.Start → List ℤ

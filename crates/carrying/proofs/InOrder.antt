@@ -29,9 +29,9 @@ use Rattle.link_lenses.specs.Changes.{answered, off, Spreadable, Answerable}
 use Rattle.lenses.specs.Storable.{Storable}
 use Rattle.lenses.specs.ReadyLaws.{right-storable, keeping-fields, runIn-few, ready-n}
 use Rattle.preparing.specs.Receiving.{probesOf}
-use Rattle.delivery.specs.Delivering.{spreadBy, changed, carriedOut, Carried}
-use Rattle.delivery.specs.CarryLaws.{carried-ends, storable-off, off-father, storable-changed, reply-room, storable-replied, probes-room}
-use Rattle.delivery.specs.CarryLaws.{storable-sent, carried-count, storable-carried}
+use Rattle.carrying.specs.Carrying.{spreadBy, changed, carriedOut, Carried}
+use Rattle.carrying.specs.CarryLaws.{carried-ends, storable-off, off-father, storable-changed, reply-room, storable-replied, probes-room}
+use Rattle.carrying.specs.CarryLaws.{storable-sent, carried-count, storable-carried}
 use Rattle.lenses.proofs.Holding.{Holding, holding-run, holding-ready, holding-next}
 
 module _ {w : List ℤ} {n m : ℕ} (y : Ready w n m) {a b i : ℕ} {x : Process} {p : Probes} {z : Reply} (k : Carried (runIn w) a b i x p z) where

@@ -32,8 +32,8 @@ use Rattle.lenses.specs.Storable.{Storable}
 use Rattle.lenses.specs.ChangeLaws.{storable-size, storable-count, storable-process}
 use Rattle.link_lenses.specs.LinkChangeLaws.{storable-take, storable-answered, storable-spread}
 use Rattle.preparing.specs.Receiving.{probesOf}
-use Rattle.delivery.specs.Delivering.{spreadBy, changed, carriedOut, Carried}
-use Rattle.delivery.specs.DeliveryLaws.{relinked-waits, relinked-count, answered-relinked, spreadBy-relinked, answered-link, off-length}
+use Rattle.carrying.specs.Carrying.{spreadBy, changed, carriedOut, Carried}
+use Rattle.carrying.specs.DeliveryLaws.{relinked-waits, relinked-count, answered-relinked, spreadBy-relinked, answered-link, off-length}
 
 -- an acknowledgement goes to its process, and a probe along its chain
 reply-one : (p : ℕ) (c : TwoCounts) → length (replyTo (To p c) p) ≡ 1

@@ -1,4 +1,4 @@
-// A delivery carried out: the changes that a step makes in a tested area.
+// A delivery carried out: the changes that a step makes in a tested run area, one after another. The crate `delivery` makes its tests before.
 use lenses::heading;
 use lenses::records;
 use link_lenses::links;
@@ -13,7 +13,7 @@ ghost use Rattle.areas.specs.Area.{fieldsIn, runIn, keeping};
 ghost use Rattle.areas.specs.Squares.{Linked, Row};
 ghost use Rattle.lenses.specs.Ready.{Ready};
 ghost use Rattle.preparing.specs.Receiving.{probesOf};
-ghost use Rattle.delivery.specs.Delivering.{spreadBy, carriedOut, Carried};
+ghost use Rattle.carrying.specs.Carrying.{spreadBy, carriedOut, Carried};
 ghost use Rattle.tables.specs.declared.Chain.{Chain};
 ghost use Rattle.link_lenses.specs.Changes.{Spreadable};
 
