@@ -1,7 +1,7 @@
 // One run of a case, from its start to its end, with every call compared with what the plain search expects (the crate `expecting`), for
-// the program `trials`. It calls the library as a host does: `starting`, `picks`, `runs`, `reports` and `record_reading`. It promises only that it is safe and ends; a
-// difference is an answer. The module `written` compares how a table is read back. Which words a call changes, and what it makes of areas
-// that no run leaves, is compared in hosts/rust/compare, with a plain Rust and word for word.
+// the program `trials`. It calls the library as a host does: `starting`, `picks`, `runs`, `reports` and `record_reading`. It promises only
+// that it is safe and ends; a difference is an answer. The module `written` compares how a table is read back. Which words a call changes,
+// and what it makes of areas that no run leaves, is compared in hosts/rust/compare, with a plain Rust and word for word.
 pub mod written;
 
 use expecting::Expected;
