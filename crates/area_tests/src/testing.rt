@@ -14,7 +14,7 @@ ghost use Rattle.area_tests.specs.Testing.{sizes_of, CopiedTo};
 use areas::{places, words};
 
 // N and M of an area, or that it is not well formed.
-#[derive(Drop)]
+#[derive(Clone, Copy)]
 pub enum Sizes {
     Right { n: usize, m: usize },
     Wrong,

@@ -66,7 +66,8 @@ and_left false b e = e
 
 pub and_right : (a b : Bool) → (a && b) ≡ true → b ≡ true
 and_right true b e = e
-and_right false b e = elim b [ true ↦ refl | false ↦ e ]
+and_right false true e = refl
+and_right false false e = e
 
 pub and_both : (a b : Bool) → a ≡ true → b ≡ true → (a && b) ≡ true
 and_both true b p q = q
@@ -84,7 +85,8 @@ or_cases false b e = inr e
 
 pub or_left : (a b : Bool) → a ≡ true → (a || b) ≡ true
 or_left true b p = refl
-or_left false b p = elim b [ true ↦ refl | false ↦ p ]
+or_left false true p = refl
+or_left false false p = p
 
 pub or_right : (a b : Bool) → b ≡ true → (a || b) ≡ true
 or_right true b p = refl

@@ -1,5 +1,7 @@
 // The run area of a check from an accepted table, in lent words, whatever they hold: laid out with all values 0, and then begun at the start. The
 // crate `starting` makes the checks before it.
+#![tactic(auto)]
+
 ghost use Rattle.std.specs.Prelude.{◌≡◌, ◌+◌, ◌*◌, ◌≤◌, length};
 ghost use Rattle.tables.specs.Table.{field_of};
 ghost use Rattle.checks.specs.Run.{started};

@@ -1,4 +1,6 @@
 // A delivery carried out: the changes that a step makes in a tested run area, one after another. The crate `delivery` makes its tests before.
+#![tactic(auto)]
+
 ghost use Rattle.std.specs.Prelude.{◌≡◌, ◌+◌, ◌≤◌};
 ghost use Rattle.areas.specs.Area.{fields_in, run_in, keeping};
 ghost use Rattle.areas.specs.Squares.{Linked, Row};

@@ -5,6 +5,8 @@
 //
 // The program promises only that it is safe and ends: what it prints is held to the file stdout, which tools/check_cases.py makes with
 // the file stdin.
+#![tactic(auto)]
+
 fn print(text: &[u8]) {
     io::write_all(libc::STDOUT_FILENO, text);
 }
@@ -15,7 +17,7 @@ fn word(low: u8, high: u8) -> u16 {
 }
 
 // What stands next in the input: the number of a case's bytes, too few bytes for that, or nothing.
-#[derive(Drop)]
+#[derive(Clone, Copy)]
 enum Heading {
     Case(u16),
     Short,

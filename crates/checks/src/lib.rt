@@ -1,5 +1,7 @@
 // The answers of a knot check's calls, and the test of an edition. What the calls do is defined in specs/ and proved to end alike for every
 // order in the crate `ending`; the calls on lent words stand in a crate above. Running on answers with `machine::Ran`, as in any check.
+#![tactic(auto)]
+
 ghost use Rattle.std.specs.Prelude.{◌≡◌};
 ghost use Rattle.checks.specs.Run.{is_edition};
 
@@ -22,28 +24,28 @@ pub fn is_edition(edition: usize) -> bool
 }
 
 // The answer of a pick: the delivered message, or the number of the refusal.
-#[derive(Drop)]
+#[derive(Clone, Copy)]
 pub enum Delivery {
     Delivered(Message),
     Refused(u32),
 }
 
 // The verdict: knot, or none.
-#[derive(Drop)]
+#[derive(Clone, Copy)]
 pub enum Verdict {
     Knot,
     Free,
 }
 
 // The mark of a payment: returned, or held.
-#[derive(Drop)]
+#[derive(Clone, Copy)]
 pub enum Mark {
     Returned,
     Held,
 }
 
 // The report of a run that is over, or the number of the refusal.
-#[derive(Drop)]
+#[derive(Clone, Copy)]
 pub enum Report {
     Over {
         deliveries: u32,
@@ -56,7 +58,7 @@ pub enum Report {
 }
 
 // The answer of reading one process's record.
-#[derive(Drop)]
+#[derive(Clone, Copy)]
 pub enum Reading {
     Found(Process),
     Refused(u32),

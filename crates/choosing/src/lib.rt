@@ -5,6 +5,8 @@
 // to the next: an array of numbers, which `remember` fills and each delivery keeps, behind the predicate `Remembers` (the crate `remembering`).
 // It says which links hold a message, and how many to each receiver and to each group of receivers, whatever the order. It stands on
 // `remembering`, `delivery` and below; it refuses what a delivery refuses, 24 and 22.
+#![tactic(auto)]
+
 ghost use Rattle.std.specs.Prelude.{◌≡◌, ◌≤◌, length};
 ghost use Rattle.areas.specs.Area.{fields_in, run_in, keeping};
 ghost use Rattle.areas.specs.Squares.{Linked};
@@ -24,14 +26,14 @@ use remembering::{filling, noting};
 use steps::Message;
 
 // A link with a message, or none.
-#[derive(Drop)]
+#[derive(Clone, Copy)]
 enum Chosen {
     Link { from: usize, to: usize },
     Nobody,
 }
 
 // The answer of one delivery on a chosen link: the message with its link, or the number of the refusal.
-#[derive(Drop)]
+#[derive(Clone, Copy)]
 pub enum ChosenDelivery {
     Delivered {
         from: usize,

@@ -2,6 +2,8 @@
 // the program `trials`. It calls the library as a host does: `starting`, `picks`, `runs`, `reports` and `record_reading`. It promises only
 // that it is safe and ends; a difference is an answer. The module `written` compares how a table is read back. Which words a call changes,
 // and what it makes of areas that no run leaves, is compared in hosts/rust/compare, with a plain Rust and word for word.
+#![tactic(auto)]
+
 pub mod written;
 
 use expecting::{Expected, answers, faults, starts, words};

@@ -15,7 +15,7 @@ use preparing::{rooms, stepping};
 use steps::{Message, Probes, Process, Reply, Stepped};
 
 // A delivery before anything is changed: the message, and what the receiver's step leaves and sends; or the number of the refusal.
-#[derive(Drop)]
+#[derive(Clone, Copy)]
 enum Prepared {
     Go {
         message: Message,
@@ -27,7 +27,7 @@ enum Prepared {
 }
 
 // A delivery that was made: the message, and what the receiver's step sent; or the number of the refusal.
-#[derive(Drop)]
+#[derive(Clone, Copy)]
 pub enum Told {
     Delivered {
         message: Message,

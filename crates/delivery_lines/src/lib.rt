@@ -1,6 +1,8 @@
 // The lines of the picks and of the deliveries that the check program makes itself, each put while its delivery is made, behind those before (01, "The
 // check program"; program_text, `Program`). Each function says which run the area holds after it. It stands on `picks`, `runs`, `choosing`,
 // `inputs`, `lines` and below; it refuses nothing, and puts the number of a refused delivery.
+#![tactic(auto)]
+
 ghost use Rattle.std.specs.Prelude.{◌+◌, ◌≤◌, ◌≡◌, length};
 ghost use Rattle.base.specs.Choice.{bit};
 ghost use Rattle.areas.specs.Area.{run_in, keeping};
@@ -83,7 +85,7 @@ pub fn put_picks(
 }
 
 // Where the line of a delivery ends, and whether the delivery was made.
-#[derive(Drop)]
+#[derive(Clone, Copy)]
 struct Own {
     made: bool,
     end: usize,

@@ -8,7 +8,7 @@ const DRAWN: usize = 3;
 const SHAPED: usize = 8;
 
 // A family: how many cases, the most processes and waits that one may have, whether each has that many, and the runs of each.
-#[derive(Drop)]
+#[derive(Clone, Copy)]
 pub struct Family {
     pub cases: usize,
     pub n: usize,
@@ -18,7 +18,7 @@ pub struct Family {
 }
 
 // A case: N, the start, the number of entries in the list of its waits, and the last random number.
-#[derive(Drop)]
+#[derive(Clone, Copy)]
 pub struct Case {
     pub n: usize,
     pub start: usize,

@@ -36,7 +36,7 @@ pub const FUNNEL: usize = 10;
 pub const SHAPES: usize = 11;
 
 // What drawing leaves: the number of entries in the list, and the last random number.
-#[derive(Drop)]
+#[derive(Clone, Copy)]
 pub struct Drawn {
     pub entries: usize,
     pub seed: usize,

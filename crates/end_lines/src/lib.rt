@@ -1,5 +1,7 @@
 // The lines of the processes and of the report, with which the check program's output ends, put behind those before (01, "The check program";
 // program_text, `Program`). It stands on `reports`, `lenses`, `lines` and below; it refuses nothing, and puts the number of a refused report.
+#![tactic(auto)]
+
 ghost use Rattle.std.specs.Prelude.{◌+◌, ◌≤◌, length};
 ghost use Rattle.areas.specs.Area.{run_in};
 ghost use Rattle.checks.specs.Calls.{report};

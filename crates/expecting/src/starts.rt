@@ -71,7 +71,7 @@ fn start(area: &mut [i32], table: &[u8], s: usize, edition: usize) -> u32 {
 }
 
 // A start that is to be refused: where, under which edition, in how many words, and with which number.
-#[derive(Drop)]
+#[derive(Clone, Copy)]
 struct WrongStart {
     start: usize,
     edition: usize,

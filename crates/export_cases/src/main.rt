@@ -13,6 +13,8 @@
 //
 // The program promises only that it is safe and ends: what it prints is held to the file stdout, which tools/export_cases.py makes with the file
 // stdin. It stands on `pickledune`, a function of `areas`, and on the kit's `io` and `libc`.
+#![tactic(auto)]
+
 ghost use Rattle.std.specs.Prelude.{◌≤◌};
 
 use areas::words;

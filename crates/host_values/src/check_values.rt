@@ -14,7 +14,7 @@ use starting::Started;
 use steps::{Message, Process, TwoCounts};
 
 // Of a pick: the kind and the counts of the message.
-#[derive(Drop)]
+#[derive(Clone, Copy)]
 pub struct DeliveryValues {
     pub number: u32,
     pub kind: u32,
@@ -22,7 +22,7 @@ pub struct DeliveryValues {
 }
 
 // Of running on: whether it is over, and the number made.
-#[derive(Drop)]
+#[derive(Clone, Copy)]
 pub struct RanValues {
     pub number: u32,
     pub over: u32,
@@ -30,7 +30,7 @@ pub struct RanValues {
 }
 
 // Of a report: its five values.
-#[derive(Drop)]
+#[derive(Clone, Copy)]
 pub struct ReportValues {
     pub number: u32,
     pub deliveries: u32,
@@ -41,7 +41,7 @@ pub struct ReportValues {
 }
 
 // Of reading a record: the record.
-#[derive(Drop)]
+#[derive(Clone, Copy)]
 pub struct RecordValues {
     pub number: u32,
     pub process: Process,

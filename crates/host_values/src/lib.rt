@@ -1,5 +1,7 @@
 // What the public calls tell a host, on numbers: for each case of an answer 01's number and values, zeros elsewhere; the message and the chain that
 // a number names; and the versions of the library and of the layout of areas. It stands on the types of the answers; it refuses nothing.
+#![tactic(auto)]
+
 pub mod check_values;
 pub mod step_values;
 pub mod table_values;

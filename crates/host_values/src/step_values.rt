@@ -9,7 +9,7 @@ ghost use Rattle.lending.specs.Lent.{lent_record};
 use steps::{Message, Probes, Process, Reply, Stepped, TwoCounts};
 
 // Of a step: the record, the probes, and the acknowledgement with its receiver.
-#[derive(Drop)]
+#[derive(Clone, Copy)]
 pub struct StepValues {
     pub number: u32,
     pub process: Process,

@@ -8,7 +8,7 @@ use table_writer::Writing;
 use tables::{Chain, Next, Opened, Reading};
 
 // Of reading: N and M.
-#[derive(Drop)]
+#[derive(Clone, Copy)]
 pub struct ReadValues {
     pub number: u32,
     pub n: usize,
@@ -16,14 +16,14 @@ pub struct ReadValues {
 }
 
 // Of writing: the length.
-#[derive(Drop)]
+#[derive(Clone, Copy)]
 pub struct WriteValues {
     pub number: u32,
     pub length: usize,
 }
 
 // Of opening: the arc.
-#[derive(Drop)]
+#[derive(Clone, Copy)]
 pub struct OpenValues {
     pub number: u32,
     pub arc: usize,

@@ -1,5 +1,7 @@
 // The check program's input: the start process, the edition (02, N4), the table, and the picks. It is split by its own N and M, refused by the
 // rows 13, 1, 2, 3 and 12 of 01, in order, and then its table is started: "then 4 to 8", and 30.
+#![tactic(auto)]
+
 ghost use Rattle.std.specs.Prelude.{◌≡◌, ◌<◌};
 ghost use Rattle.inputs.specs.Input.{table_end, picks_in, split_of, pick_in, begun_of, begun_area};
 
@@ -10,7 +12,7 @@ pub const LONGEST: usize = 20480;
 
 // The answer of splitting: the start process, the edition, where the table ends and the picks begin, and the number of picks; or the number of
 // the refusal.
-#[derive(Drop)]
+#[derive(Clone, Copy)]
 pub enum Splitting {
     Parts {
         start: usize,
@@ -22,14 +24,14 @@ pub enum Splitting {
 }
 
 // The two ends that a pick names.
-#[derive(Drop)]
+#[derive(Clone, Copy)]
 pub struct Pick {
     pub from: u32,
     pub to: u32,
 }
 
 // The answer of beginning: the run area is ready, and so many picks begin at the end of the table; or the number of the refusal.
-#[derive(Drop)]
+#[derive(Clone, Copy)]
 pub enum Begun {
     Ready { end: usize, picks: usize },
     Refused(u32),

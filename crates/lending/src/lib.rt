@@ -1,6 +1,8 @@
 // One process record, lent with one message and updated by the step of a process other than the start (01, section "Steps").
 // step_value decides, by value and with one_step::step; step_record takes the record by &mut and only stores what it is given; lend has a
 // record of its own to lend, for callers that hold none behind a reference.
+#![tactic(auto)]
+
 ghost use Rattle.std.specs.Prelude.{◌≡◌};
 ghost use Rattle.steps.specs.Step.{stepped};
 ghost use Rattle.lending.specs.Lent.{lent_answer, lent_record, lent_outcome};
@@ -8,14 +10,14 @@ ghost use Rattle.lending.specs.Lent.{lent_answer, lent_record, lent_outcome};
 use steps::{Message, Probes, Process, Reply, Stepped};
 
 // The answer of a step on a lent record: what it sends, or the number of the refusal.
-#[derive(Drop)]
+#[derive(Clone, Copy)]
 pub enum Lent {
     Taken { probes: Probes, reply: Reply },
     Refused(u32),
 }
 
 // The record afterwards and the answer.
-#[derive(Drop)]
+#[derive(Clone, Copy)]
 pub struct Outcome {
     pub process: Process,
     pub answer: Lent,

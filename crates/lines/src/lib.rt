@@ -1,6 +1,8 @@
 // The lines that the check program prints (01, "The check program"), put into bytes that the caller lends, at any place that has room for just
 // that line: of any numbers, messages and records whatever. Each piece of a line is put where it goes, in just the room that it takes. It stands
 // on steps and checks for the values that are printed, and on areas for a signed number without its sign.
+#![tactic(auto)]
+
 ghost use Rattle.std.specs.Prelude.{◌+◌, ◌≤◌, length};
 ghost use Rattle.lines.specs.Text.{delivery_line, refused_pick_line, refused_line, process_line, verdict_line, outside_line, mark_line, report_text};
 ghost use Rattle.lines.specs.Adding.{Put};

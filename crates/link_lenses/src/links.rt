@@ -17,7 +17,7 @@ use steps::Message;
 pub const OLDEST: usize = 1;
 
 // What waits at a place of a link: nothing on the whole link, no message at that place, or a message.
-#[derive(Drop)]
+#[derive(Clone, Copy)]
 pub enum AtPlace {
     Nothing,
     Beyond,

@@ -2,7 +2,9 @@
 // lists of calls, and what holds of all of them, in specs/. It has no functions of its own; it stands on base and tables.
 
 // The answer of running on: over or spent with the number of deliveries made, or a refusal with its number and the deliveries made before it.
-#[derive(Drop)]
+#![tactic(auto)]
+
+#[derive(Clone, Copy)]
 pub enum Ran {
     Over(u32),
     Spent(u32),

@@ -3,6 +3,8 @@
 // is: a test of pairs says which links are marked (`Marks` in specs/).
 //
 // It stands on `sets`, `tables` and below; it refuses nothing.
+#![tactic(auto)]
+
 pub mod parts;
 
 ghost use Rattle.std.specs.Prelude.{◌≡◌, true, false, ◌+◌, ◌-◌, ◌*◌, ◌≤◌, length};
@@ -130,7 +132,7 @@ pub fn place_of(memory: &[usize; parts::MEMORY_SIZE], state: u32) -> usize
 }
 
 // Where to look for the link at a place: a receiver, and how many links to it and to those after it stand before the place.
-#[derive(Drop)]
+#[derive(Clone, Copy)]
 pub struct Beginning {
     pub receiver: usize,
     pub left: usize,

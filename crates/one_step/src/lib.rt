@@ -1,5 +1,7 @@
 // One process's step (01, section "Steps"), by value, rule by rule. `step` takes any values whatever and refuses with 21, 25 or 22; in a run
 // `other_step` and `start_step` refuse with 22. It stands on `rules`, `steps`, and `tables` for the largest N.
+#![tactic(auto)]
+
 ghost use Rattle.std.specs.Prelude.{◌≡◌, true};
 ghost use Rattle.tables.specs.Table.{most_processes, IsProcess};
 ghost use Rattle.steps.specs.declared.Message.TheVariants.{Suc};

@@ -1,6 +1,8 @@
 // The orders in which the program `trials` brings a run to its end, and the calls past it: which call comes next. A list of pairs gives
 // the links: the entry at place l is the sender of link l, and the other entry of its pair the receiver. It promises only that it is safe
 // and ends.
+#![tactic(auto)]
+
 use drawing::{graphs, numbers};
 
 // Running on at once.
@@ -53,7 +55,7 @@ const SMALL: usize = 616;
 
 // What stays the same through a run: N, the order of the links and from which places its picks go down; the first link of the row and the step; after
 // about how many deliveries the order goes back to the first; for how many tries in vain it keeps to its own choice.
-#[derive(Drop)]
+#[derive(Clone, Copy)]
 pub struct Way {
     pub n: usize,
     pub order: usize,
@@ -68,7 +70,7 @@ pub struct Way {
 // many running on with a seed made; the last random number; the link tried last, as its place in the list, and the place below the one tried
 // there, 0 if no message is known to wait on that link; the receiver of the last delivery by a pick, before it the start, and the tries since;
 // which call past the end is next, 0 before the end; the first difference.
-#[derive(Drop)]
+#[derive(Clone, Copy)]
 pub struct Course {
     pub start: usize,
     pub made: u32,
@@ -97,7 +99,7 @@ pub const RUN_SHUFFLED: usize = 3;
 
 // A call: its kind, the numbers and the place of a pick, the first number being what a reading reads, by how many to run on and with which
 // seed; the link tried last, and whether the order itself picks from it.
-#[derive(Drop)]
+#[derive(Clone, Copy)]
 pub struct Call {
     pub kind: usize,
     pub from: usize,

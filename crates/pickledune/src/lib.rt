@@ -1,6 +1,8 @@
 // The public calls for C and Rust, on numbers, byte slices and word slices (include/pickledune.h). None asks anything of its caller. A call
 // that may refuse gives 0 or the number of its refusal, whose order its comment has, and stores 01's values through its references, zeros on a
 // refusal.
+#![tactic(auto)]
+
 ghost use Rattle.std.specs.Prelude.{◌≡◌, pos};
 ghost use Rattle.areas.specs.Area.{knot_check};
 ghost use Rattle.tables.specs.Reading.{reading_of};

@@ -5,6 +5,8 @@
 //
 // `check_standard_input` reads, calls `form` and writes. It stands on `inputs`, `delivery_lines`, `end_lines`, `reading` and below, and the kit's
 // `io` and `libc`.
+#![tactic(auto)]
+
 ghost use Rattle.std.specs.Prelude.{◌+◌, ◌≤◌, ◌≡◌, true, length};
 ghost use Rattle.areas.specs.Area.{run_in, area_right};
 ghost use Rattle.lenses.specs.Ready.{Ready};
@@ -29,7 +31,7 @@ pub const LONGEST_OUTPUT: usize = 28 * MOST_PICKS
     + 61;
 
 // The answer of forming: so many bytes, or the number of the refusal.
-#[derive(Drop)]
+#[derive(Clone, Copy)]
 pub enum Text {
     Formed(usize),
     Refused(u32),

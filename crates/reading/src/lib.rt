@@ -1,12 +1,14 @@
 // Reading a whole input from standard input, so that a read that fails is told from the end of the input. It stands on `lines` for putting bytes, on
 // `inputs` for the longest input, and on the kit's `io` and `libc`.
+#![tactic(auto)]
+
 ghost use Rattle.std.specs.Prelude.{◌-◌, ◌≤◌, length, take};
 ghost use Rattle.lines.specs.Adding.{Put};
 
 use lines::pieces;
 
 // How many bytes stand at the front, and whether a read failed.
-#[derive(Drop)]
+#[derive(Clone, Copy)]
 pub struct Taken {
     pub failed: bool,
     pub length: usize,

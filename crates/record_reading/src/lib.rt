@@ -1,5 +1,7 @@
 // Reading a record, on any words that a caller lends. It tests the area first; one that is not well formed gets 21. It changes no word. What follows
 // the test is a function of its own (`read_in`), for whoever has tested the area already.
+#![tactic(auto)]
+
 ghost use Rattle.std.specs.Prelude.{◌≡◌};
 ghost use Rattle.lenses.specs.Ready.{Ready};
 ghost use Rattle.area_calls.specs.AreaCalls.{read_answer};

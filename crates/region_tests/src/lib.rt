@@ -1,4 +1,6 @@
 // The tests of a run area's regions, on any words whatever: the heading, the records and the links. The crate `area_tests` makes them in turn.
+#![tactic(auto)]
+
 ghost use Rattle.std.specs.Prelude.{◌≡◌, true, ◌||◌, ◌+◌, ◌≤◌, length};
 ghost use Rattle.base.specs.Sums.{all_to};
 ghost use Rattle.tables.specs.Table.{field_of, n_of, m_of, most_processes, IsProcess};

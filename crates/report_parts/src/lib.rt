@@ -1,4 +1,6 @@
 // The parts of a report that need no area: whether a process is the way out, the verdict, the mark, and the report made of these.
+#![tactic(auto)]
+
 ghost use Rattle.std.specs.Prelude.{◌≡◌};
 ghost use Rattle.checks.specs.Calls.{mark_of};
 ghost use Rattle.report_parts.specs.Told.{way_out, knot_by, told_of};

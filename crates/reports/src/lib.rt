@@ -1,5 +1,7 @@
 // The report on any words that a caller lends. It tests the area first; one that is not well formed gets 21. It changes no word. What follows the
 // test is a function of its own (`report_in`), for whoever has tested the area already.
+#![tactic(auto)]
+
 ghost use Rattle.std.specs.Prelude.{◌≡◌, ◌+◌};
 ghost use Rattle.areas.specs.Area.{run_in};
 ghost use Rattle.checks.specs.Calls.{escape_of};

@@ -1,4 +1,6 @@
 // The rows and the square of cells (areas::squares), made from a tested area, and where a link begins by a row.
+#![tactic(auto)]
+
 ghost use Rattle.std.specs.Prelude.{◌≡◌, true, ℕ, ◌+◌, ◌*◌, ◌≤◌, ◌<◌, length, get_or, set};
 ghost use Rattle.tables.specs.Table.{most_processes, most_arcs};
 ghost use Rattle.tables.specs.Pairs.{square_side, square_size};

@@ -1,5 +1,7 @@
 // A function for each rule of a step (01, section "Steps"), by value: what a rule makes of the record, and what it sends. No sum wraps. It stands
 // on `steps`; it refuses nothing.
+#![tactic(auto)]
+
 ghost use Rattle.std.specs.Prelude.{◌≡◌, true, ◌≤◌, pos, ◌+ℤ◌, ◌-ℤ◌};
 ghost use Rattle.tables.specs.Table.{most_processes};
 ghost use Rattle.steps.specs.Step.{most_num, small, both_small, sums_of, new_subordinate, rule1, set_succeeding, set_preceding, rule3, rule4, acknowledged};

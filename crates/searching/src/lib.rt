@@ -7,6 +7,8 @@
 // reaches it.
 
 // The row of those who are reachable from the start.
+#![tactic(auto)]
+
 pub const AFTER: usize = 129;
 // The row of those who reach it.
 pub const BEFORE: usize = 130;

@@ -2,6 +2,8 @@
 // the first 64 processes in the first word, the others in the second. Only this file says where a digit stands.
 //
 // Whoever lends a longer array has the words behind the sets for its own. It stands on `tables`; it refuses nothing.
+#![tactic(auto)]
+
 ghost use Rattle.std.specs.Prelude.{◌≡◌, ◌+◌, ◌/◌, ◌%◌, ◌^◌, ◌≤◌, ◌<◌, eqb, length};
 ghost use Rattle.tables.specs.Table.{most_processes, IsProcess};
 ghost use Rattle.sets.specs.Sets.{sets_size, word_digits, set_at, word_at, digit_of};

@@ -1,4 +1,6 @@
 // The states of a shuffled run (02, N13: "Marsaglia's xorshift32"), in shifts, masks and xor on 32 bits. It stands on no other crate.
+#![tactic(auto)]
+
 ghost use Rattle.std.specs.Prelude.{◌≡◌};
 ghost use Rattle.shuffling.specs.Shuffle.{moved_on};
 

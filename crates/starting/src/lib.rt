@@ -1,5 +1,7 @@
 // Start: reads the table on any bytes, and makes the run area of a check in lent words, whatever they hold. It refuses by the rows 1 to 8
 // of 01, then by 30 (02, N4) and 9, and then leaves every word as it was.
+#![tactic(auto)]
+
 ghost use Rattle.std.specs.Prelude.{◌≡◌};
 ghost use Rattle.tables.specs.Table.{field_of};
 ghost use Rattle.areas.specs.Area.{stored};
@@ -11,7 +13,7 @@ use areas::places;
 use tables::{Reading, is_process};
 
 // The answer of a start: the run area is ready, or the number of the refusal.
-#[derive(Drop)]
+#[derive(Clone, Copy)]
 pub enum Started {
     Ready,
     Refused(u32),

@@ -10,6 +10,8 @@
 //
 // The program promises only that it is safe and ends: what it prints is held to the file stdout, which tools/step_cases.py makes with the
 // file stdin. It stands on `lending`, `steps`, a function of `areas`, and on the kit's `io` and `libc`.
+#![tactic(auto)]
+
 use areas::words;
 use lending::{Lent, Outcome};
 use steps::{Message, Probes, Process, Reply, TwoCounts};

@@ -1,5 +1,7 @@
 // Messages and process records, the tests of their ranges, and what a process adds of its own; what one process's step is (01, section "Steps") is
 // defined in specs/. The code of a step stands above: `rules` and `one_step`. It refuses nothing; a law of it stands on machine.
+#![tactic(auto)]
+
 ghost use Rattle.std.specs.Prelude.{◌≡◌, pos};
 ghost use Rattle.steps.specs.Step.{small, both_small, in_range, count_small, own_count};
 
@@ -13,14 +15,14 @@ pub const LEAST_COUNT: i32 = -MOST_COUNT;
 pub const MOST_NUM: u32 = 256;
 
 // "Acknowledgements carry a second count .. of reachable processes that wait for nobody" (02, N3): the count, and the second one.
-#[derive(Drop)]
+#[derive(Clone, Copy)]
 pub struct TwoCounts {
     pub count: i32,
     pub second: i32,
 }
 
 // A message: "a suc probe, a pre probe or an acknowledgement with its count", and its second count (02, N3).
-#[derive(Drop)]
+#[derive(Clone, Copy)]
 pub enum Message {
     Suc,
     Pre,
@@ -28,7 +30,7 @@ pub enum Message {
 }
 
 // A process's record: "succeeding, preceding, subordinate .., cs .., num .. and father", and the second sum (02, N3).
-#[derive(Drop)]
+#[derive(Clone, Copy)]
 pub struct Process {
     pub succeeding: u32,
     pub preceding: u32,
@@ -40,7 +42,7 @@ pub struct Process {
 }
 
 // The probes that a step broadcasts: suc to all successors, pre to all predecessors, or none.
-#[derive(Drop)]
+#[derive(Clone, Copy)]
 pub enum Probes {
     Nothing,
     Sucs,
@@ -48,14 +50,14 @@ pub enum Probes {
 }
 
 // The acknowledgement that a step sends: to whom and with which counts, or none.
-#[derive(Drop)]
+#[derive(Clone, Copy)]
 pub enum Reply {
     Nothing,
     To { process: u32, counts: TwoCounts },
 }
 
 // What a step leaves: the process's new record and what it sends.
-#[derive(Drop)]
+#[derive(Clone, Copy)]
 pub struct Turn {
     pub process: Process,
     pub probes: Probes,
@@ -63,7 +65,7 @@ pub struct Turn {
 }
 
 // The answer of one process's step: its new record and what it sends, or the number of the refusal.
-#[derive(Drop)]
+#[derive(Clone, Copy)]
 pub enum Stepped {
     Taken {
         process: Process,

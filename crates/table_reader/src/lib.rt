@@ -1,6 +1,8 @@
 // Reads a wait table (01, "Wait table") on any bytes and follows its chains. Reading refuses by the rows 1 to 7 of "Refused because of the
 // input", in order, and opening a walk by row 8 too. Every field is read through `field`, and every arc through `arc_at`. It stands on
 // `base` and `tables`.
+#![tactic(auto)]
+
 ghost use Rattle.std.specs.Prelude.{◌≡◌, true, ◌+◌, ◌*◌, ◌≤◌, length};
 ghost use Rattle.base.specs.Sums.{all_to};
 ghost use Rattle.tables.specs.Table.{field_of, n_of, m_of, table_length, IsProcess, first, arc_at, near, next};
@@ -129,7 +131,7 @@ fn nexts_right(s: &[u8], n: usize, m: usize) -> bool
 }
 
 // How many arcs are left once a chain is followed, or that it goes wrong.
-#[derive(Drop)]
+#[derive(Clone, Copy)]
 enum ArcsLeft {
     Left(usize),
     Wrong,

@@ -18,6 +18,8 @@
 // The program promises only that it is safe and ends: what it prints is held to the file stdout, which tools/table_vectors.py makes
 // with the file stdin. It stands on those three, on `walk_output`, which prints the walks, and on the kit's `io` and `libc`. A part of an
 // array is written from 0, `[0..end]`, which asks only for the bounds.
+#![tactic(auto)]
+
 ghost use Rattle.std.specs.Prelude.{◌≤◌, length};
 
 use table_writer::Writing;
@@ -32,7 +34,7 @@ const MARK: u8 = 165;
 const FEW: usize = 16;
 
 // What stands next in the input: the kind of a case with the number of its bytes, too few bytes for that, or nothing.
-#[derive(Drop)]
+#[derive(Clone, Copy)]
 enum Heading {
     Case(u8, u16),
     Short,

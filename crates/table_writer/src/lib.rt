@@ -1,6 +1,8 @@
 // The writer of wait tables (01, "Wait table"): from N and a list of from, to pairs. It checks 10, 2, 4, 7, 11 and writes nothing
 // if one of them is met. Each call is of linear time, and it needs no room but the lent output and a few local arrays. It stands on
 // `base` and `tables`.
+#![tactic(auto)]
+
 ghost use Rattle.std.specs.Prelude.{◌≡◌, ◌+◌, ◌*◌, ◌<◌, ◌≤◌, length, get_or};
 ghost use Rattle.base.specs.Sums.{all_to};
 ghost use Rattle.tables.specs.Table.{most_processes};
@@ -13,7 +15,7 @@ use tables::{Chain, is_process};
 const SLOTS: usize = 2 * (tables::MOST_PROCESSES + 1);
 
 // The answer of writing a table: its length in bytes, or the number of the refusal.
-#[derive(Drop)]
+#[derive(Clone, Copy)]
 pub enum Writing {
     Written(usize),
     Refused(u32),

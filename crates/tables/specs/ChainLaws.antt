@@ -63,7 +63,8 @@ unfolding along
 follows_along zero stop h = refl
 follows_along (suc l) stop h = refl
 follows_along zero (go f) h = absurd (omega arith)
-follows_along (suc l) (go {k} {ks} f) h = ap {B = List ℕ} (λ r. suc k ∷ r) (follows_along l f (omega arith))
+follows_along {c = c} {t = t} (suc l) (go {k = k} {ks = ks} f) h =
+    ap {B = List ℕ} (λ r. suc k ∷ r) (follows_along {k = next c (arc_at t (suc k))} l f (omega arith))
 
 follows_same : {c : Chain} {t : Fields} {k : ℕ} {ks ks' : List ℕ} → Follows c t k ks → Follows c t k ks' → ks ≡ ks'
 follows_same {ks = ks} {ks' = ks'} f f' =

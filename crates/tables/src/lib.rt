@@ -1,5 +1,7 @@
 // Wait tables (01, "Wait table"): what a table is (specs), its largest sizes, the types of the answers, and the one test of a process. The
 // crate `table_reader` reads and follows tables, `table_writer` writes them. It stands on the crate `base` alone.
+#![tactic(auto)]
+
 ghost use Rattle.std.specs.Prelude.{◌≡◌};
 ghost use Rattle.tables.specs.Table.{is_process};
 
@@ -16,14 +18,14 @@ pub const SIDE: usize = MOST_PROCESSES + 1;
 pub const SQUARE_SIZE: usize = SIDE * SIDE;
 
 // The two chains of a process.
-#[derive(Drop)]
+#[derive(Clone, Copy)]
 pub enum Chain {
     Out,
     In,
 }
 
 // An arc record of a table.
-#[derive(Drop)]
+#[derive(Clone, Copy)]
 pub struct Arc {
     pub from: usize,
     pub to: usize,
@@ -32,21 +34,21 @@ pub struct Arc {
 }
 
 // The answer of reading a table: its N and M, or the number of the refusal.
-#[derive(Drop)]
+#[derive(Clone, Copy)]
 pub enum Reading {
     Accepted { n: usize, m: usize },
     Refused(u32),
 }
 
 // The answer of opening a walk: the arc that it stands at, 0 if the chain has none, or the number of the refusal.
-#[derive(Drop)]
+#[derive(Clone, Copy)]
 pub enum Opened {
     At(usize),
     Refused(u32),
 }
 
 // The answer of a step along a chain: the next arc, or the end.
-#[derive(Drop)]
+#[derive(Clone, Copy)]
 pub enum Next {
     Arc(usize),
     End,

@@ -10,7 +10,7 @@ use table_writer::Writing;
 // What a family adds up to: its cases, how many of them the search finds to be knots by the first edition and by the second, and to be returned
 // (02, N3), the runs, their deliveries, how many of these overtook and how many running on with a seed made; the last random number. The case at
 // hand: N, the start and how many runs it is to have before the shuffled one; edition, order, A, D and difference of the last run.
-#[derive(Drop)]
+#[derive(Clone, Copy)]
 pub struct Tally {
     pub cases: u64,
     pub first: u64,

@@ -20,6 +20,8 @@
 //
 // It prints a line for each family of cases, and a last line that names the first difference or says that there is none. It stops at the
 // first difference. Random numbers come from fixed seeds, so a difference is found again. It promises only that it is safe and ends.
+#![tactic(auto)]
+
 mod cases;
 
 use cases::Tally;

@@ -1,6 +1,8 @@
 // A walk along one chain (01, "Wait table"): it carries the table that it reads and the arc that it has come to. The functions over the
 // struct `Walk` are thin: each takes it apart and leaves the work to one on the slice and the numbers, in `places`. Callers that hold no
 // walk have `next_from` and `stand_after`. An opening is refused by the rows 1 to 8. It stands on `base`, `tables` and `table_reader`.
+#![tactic(auto)]
+
 mod places;
 
 ghost use Rattle.std.specs.Prelude.{◌≡◌};
@@ -12,7 +14,7 @@ use tables::{Chain, Next};
 
 // The table, the chain that is followed, the arc that the walk stands at, 0 if at none, and the number of the opening's refusal, 0 if it
 // was accepted.
-#[derive(Drop)]
+#[derive(Clone, Copy)]
 pub struct Walk<'a> {
     pub table: &'a [u8],
     pub chain: Chain,
@@ -22,7 +24,7 @@ pub struct Walk<'a> {
 
 // What is seen of a walk after some steps: the number of its opening, the arc that it stands at, what the next step gives, and the arc that
 // it stands at then.
-#[derive(Drop)]
+#[derive(Clone, Copy)]
 pub struct Stood {
     pub number: u32,
     pub arc: usize,

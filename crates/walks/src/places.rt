@@ -6,14 +6,14 @@ ghost use Rattle.walks.specs.Places.{place_of, step_of};
 use tables::{Chain, Next, Opened};
 
 // Where an opened walk stands: the arc, 0 if there is none, and the number of the refusal, 0 if there is none.
-#[derive(Drop)]
+#[derive(Clone, Copy)]
 pub struct Place {
     pub arc: usize,
     pub number: u32,
 }
 
 // What a step gives, and the arc that the walk stands at then, 0 at the end.
-#[derive(Drop)]
+#[derive(Clone, Copy)]
 pub struct Step {
     pub next: Next,
     pub arc: usize,

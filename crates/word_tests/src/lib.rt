@@ -1,4 +1,6 @@
 // Tests of words: what one word, a run of free words and one link may hold.
+#![tactic(auto)]
+
 ghost use Rattle.std.specs.Prelude.{◌≡◌, true, ◌+◌, ◌-◌, ◌≤◌, length, get_or, pos, nat_abs};
 ghost use Rattle.base.specs.Sums.{all_to};
 ghost use Rattle.areas.specs.Area.{same_word};
