@@ -35,9 +35,10 @@ use Rattle.machine.specs.Lists.{accepted_pick, answer_number, in_turn, passed_by
 use Rattle.machine.specs.Made.{Made, none, more, Stopped, went, nothing, no_place, full}
 use Rattle.machine.specs.Made.{Answered, none_refused, was_over, none_waits, no_link, not_over, beyond, no_seed}
 use Rattle.machine.specs.Made.{Finds, PickMade, RunMade, Sure, PassMade}
-use Rattle.machine.specs.ChooserLaws.{shuffled_order_chooses}
+use Rattle.machine.proofs.ChooserLaws.{shuffled_order_chooses}
 use Rattle.machine.specs.Among.{Among, Placed, there, not_there}
-use Rattle.machine.specs.AmongLaws.{between_among, at_place_P, cut_placed}
+use Rattle.machine.specs.AmongLaws.{between_among}
+use Rattle.machine.proofs.PlaceLaws.{at_place_P, cut_placed}
 
 -- ---- numbers
 

@@ -25,10 +25,10 @@ use Rattle.machine.specs.Calls.{behind, at_place, delivered, deliver, pick, give
 use Rattle.machine.specs.Calls.{deliver_on, run_from, ran_made}
 use Rattle.machine.specs.Lists.{Call, Reads, in_turn, passed_by, SomeWaits, Taken, Waiting}
 use Rattle.machine.specs.Made.{Finds, Chooses, RunMade, PassMade}
-use Rattle.machine.specs.MadeLaws.{made_waits, made_start, made_count, made_keeps, deliver_cut, run_from_made, passed_made}
+use Rattle.machine.proofs.MadeLaws.{made_waits, made_start, made_count, made_keeps, deliver_cut, run_from_made, passed_made}
 use Rattle.machine.specs.FormedLaws.{well_formed_P}
 use Rattle.machine.specs.Among.{Among, oldest, Here}
-use Rattle.machine.specs.AmongLaws.{at_place_here}
+use Rattle.machine.proofs.PlaceLaws.{at_place_here}
 use Rattle.machine.specs.RunningLaws.{go_on_by, from_over, from_spent, from_more}
 use Rattle.machine.specs.Diffusing.{Quota}
 use Rattle.machine.specs.RestLaws.{rest_empty, something_waits, link_neighbours}
