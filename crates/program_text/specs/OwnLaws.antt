@@ -16,7 +16,7 @@ use Rattle.machine.specs.RunningLaws.{from_over, from_spent, from_more, go_on_by
 use Rattle.steps.specs.declared.Message.{Message}
 use Rattle.steps.specs.declared.Process.{Process}
 use Rattle.checks.specs.Run.{Run, knot, over}
-use Rattle.checks.specs.Calls.{delivery_of, deliver_on}
+use Rattle.checks.specs.Calls.{delivery_of}
 use Rattle.choosing.specs.declared.ChosenDelivery.{ChosenDelivery}
 use Rattle.choosing.specs.Answers.{chosen_answer, next_of}
 use Rattle.lines.specs.Text.{delivery_line}
