@@ -1,33 +1,14 @@
 -- `areas::words::take_off` meets its contract. The loop's invariant: the words from i up to k are those that stood one further on, the others
 -- are as they were; where one of them is 0, so are those behind it. The measure is what is left up to the last.
--- Assumes nothing.
-use Prim.Native.Nat.{ℕ, ◌+◌, ◌-◌, ◌≤◌, ◌<◌}
-use mathlib.Core.List.{List}
-use mathlib.Core.Path.{◌≡◌, refl, sym, ◌∙◌}
-use mathlib.Core.Logic.{◌⊎◌, inl, inr}
-use native.Mathlib.Omega.{arith}
-use lib.IntN.{ℤ, pos}
-use lib.ListN.{length, get_or, set, length-set}
-use lib.Seq.{ext_get_or, get_or-set_same, get_or-set_other}
+use Rattle.std.proofs.Common.{ℕ, ◌+◌, ◌-◌, ◌≤◌, ◌<◌, List, ◌≡◌, sym, ◌∙◌, ◌⊎◌, inl, inr, arith, ℤ, pos, length, get_or, set, length-set, ext_get_or, get_or-set_same, get_or-set_other, w32, to_z, of_z}
 use Rattle.base.specs.ChoiceLaws.{same?, below?}
 use Rattle.base.specs.Checks.{Same, same, apart, Below, below, beyond}
-use mir.Syntax.{w32}
-use mir.Val.{to_z, of_z}
 use Rattle.steps.proofs.Counts.{signed_back}
 use Rattle.areas.proofs.Signs.{word_is}
 use Rattle.areas.specs.Writes.{moved_word, moved_down, Packed}
 use Rattle.areas.specs.WriteLaws.{moved_word_next, moved_word_last, moved_word_below, moved_word_past, moved_down_length, moved_down_at}
-use Rattle.areas.proofs.words.take_off.Statement.{statement}
-use Rattle.areas.proofs.words.take_off.Tie as tie
-
--- v is w with the words from i up to k moved down by one
-record Moved (w v : List ℤ) (i k : ℕ) : Type 0 where
-  long : length v ≡ length w
-  moved : (j : ℕ) → i ≤ j → j < k → get_or v j (pos 0) ≡ get_or w (j + 1) (pos 0)
-  kept : (j : ℕ) → (j < i) ⊎ (k ≤ j) → get_or v j (pos 0) ≡ get_or w j (pos 0)
-
-moved_none : (w : List ℤ) (i : ℕ) → Moved w w i i
-moved_none w i = record { long = refl; moved = λ j l u. absurd (omega arith); kept = λ j o. refl }
+use Rattle.areas.proofs.words.take_off.Invariants.{Moved}
+use Rattle.areas.proofs.words.take_off.Goals as goal
 
 -- one word more
 moved_more : (w v : List ℤ) (i k : ℕ) → i ≤ k → k < length w → Moved w v i k → Moved w (set v k (get_or v (k + 1) (pos 0))) i (k + 1)
@@ -77,77 +58,22 @@ moved_short w v i k e l u f p m z =
     at j (beyond q _) (beyond r _) (below s _) (beyond n _) =
         m.kept j (inr r) ∙ p k j l r s z ∙ sym (moved_word_last w i e j q s n)
 
-abbrev invariant-loop : tie.invariant-loop
-invariant-loop area₀ i end last k₀ area k = (i ≤ k) × (k ≤ last) × Moved area₀ area i k
+pub returns-then-next-eq0 : goal.returns-then-next-eq0
+returns-then-next-eq0 c =
+    let step : let l = c.loop-k in Moved c.args.area.now (set l.area l.k (to_z w32 (of_z w32 (get_or l.area (l.k + 1) (pos 0))))) c.args.i (l.k + 1) = let l = c.loop-k in
+    let a = c.args in
+    rw (signed_back (get_or l.area (l.k + 1) (pos 0)) (omega arith))
+    (moved_more a.area.now l.area a.i l.k l.invariant.0 (omega arith) l.invariant.2) in
+    let next_is : let l = c.loop-k in get_or l.area (l.k + 1) (pos 0) ≡ get_or c.args.area.now (l.k + 1) (pos 0) = let l = c.loop-k in l.invariant.2.kept (l.k + 1) (inr (omega arith)) in
+    let l = c.loop-k in
+    let z : get_or l.area (l.k + 1) (pos 0) ≡ pos 0 = word_is (get_or l.area (l.k + 1) (pos 0)) 0 (omega arith) (omega arith) c.if-next-eq0.true in
+    moved_short c.args.area.now _ c.args.i (l.k + 1) c.args.end (omega arith) (omega arith) c.requires.end_in_bounds c.requires.packed step
+    (sym next_is ∙ z)
 
-abbrev decreases-loop : tie.decreases-loop
-decreases-loop area₀ i end last k₀ area k = last - k
-
-loop-holds : tie.Need-loop-init invariant-loop decreases-loop
-loop-holds c = (omega arith, omega arith, moved_none c.args.area.now c.args.i)
-
-slice-copy-out-next : tie.Need-slice-copy-out-next invariant-loop decreases-loop
-slice-copy-out-next c = omega (arith, c.before.loop.invariant.2.long)
-
-slice-set-from-next : tie.Need-slice-set-from-next invariant-loop decreases-loop
-slice-set-from-next c = omega (arith, c.before.before.loop.invariant.2.long)
-
--- one word more, as it was read back and stored
-step : (c : tie.After-next invariant-loop decreases-loop) → let l = c.before.before.loop in let s = c.before.before.before in
-    Moved s.args.area.now (set l.area l.k (to_z w32 (of_z w32 (get_or l.area (l.k + 1) (pos 0))))) s.args.i (l.k + 1)
-step c =
-    let l = c.before.before.loop in
-    let a = c.before.before.before.args in
-    rw (signed_back (get_or l.area (l.k + 1) (pos 0)) c.next.given)
-    (moved_more a.area.now l.area a.i l.k l.invariant.0 (omega arith) l.invariant.2)
-
--- the word that was read, in the area as it was
-next_is : (c : tie.After-next invariant-loop decreases-loop) → let l = c.before.before.loop in
-    get_or l.area (l.k + 1) (pos 0) ≡ get_or c.before.before.before.args.area.now (l.k + 1) (pos 0)
-next_is c = let l = c.before.before.loop in l.invariant.2.kept (l.k + 1) (inr (omega arith))
-
-returns : tie.Need-returns invariant-loop decreases-loop
+pub returns : goal.returns
 returns c =
-    let n = c.before in
-    let l = n.before.before.loop in
-    let s = n.before.before.before in
-    let z : get_or l.area (l.k + 1) (pos 0) ≡ pos 0 = word_is (get_or l.area (l.k + 1) (pos 0)) 0 n.next.given (omega arith) c.if1.true in
-    moved_short s.args.area.now _ s.args.i (l.k + 1) s.args.end (omega arith) (omega arith) s.requires.1.0 s.requires.1.1 (step n)
-    (sym (next_is n) ∙ z)
-
-loop-again : tie.Need-loop-preserved invariant-loop decreases-loop
-loop-again c = (omega arith, omega arith, step c.before)
-
-slice-set-of-area : tie.Need-slice-set-of-area invariant-loop decreases-loop
-slice-set-of-area c = omega (arith, c.before.loop.invariant.2.long)
-
-returns-2 : tie.Need-returns-2 invariant-loop decreases-loop
-returns-2 c =
-    let a = c.before.before.args in
-    let loop = c.before.loop in
+    let a = c.args in
+    let loop = c.loop-k in
     let e : loop.k ≡ a.end - 1 = omega arith in
     let m : Moved a.area.now loop.area a.i (a.end - 1) = rw e at loop.invariant.2 in
-    moved_all a.area.now loop.area a.i a.end c.before.before.requires.0 c.before.before.requires.1.0 m
-
-pub take-off-spec : {M : Type 1} → statement M
-take-off-spec =
-    tie.close
-    (tie.spec
-    invariant-loop
-    decreases-loop
-    (λ c. omega arith)
-    loop-holds
-    (λ c. omega arith)
-    (λ c. omega arith)
-    slice-copy-out-next
-    (λ c. omega arith)
-    slice-set-from-next
-    (λ c. (step c.before).long)
-    returns
-    (λ c. omega arith)
-    (λ c. omega arith)
-    loop-again
-    (λ c. omega arith)
-    slice-set-of-area
-    (λ c. length-set c.before.loop.area (c.before.before.args.end - 1) (pos 0) ∙ c.before.loop.invariant.2.long)
-    returns-2)
+    moved_all a.area.now loop.area a.i a.end c.requires.i_lt_end c.requires.end_in_bounds m
