@@ -2,6 +2,8 @@
 // example.
 #![tactic(auto)]
 
-fn main() {
-    printing::check_standard_input();
+use std::io;
+
+fn main(rt: HostRuntime) -> io::Result<()> {
+    printing::check_standard_input(&rt)
 }

@@ -2,6 +2,8 @@
 // makes the files stdin and stdout.
 #![tactic(auto)]
 
-fn main() {
-    printing::check_standard_input();
+use std::io;
+
+fn main(rt: HostRuntime) -> io::Result<()> {
+    printing::check_standard_input(&rt)
 }

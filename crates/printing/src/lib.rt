@@ -3,8 +3,7 @@
 // promise is an equation of these bytes with one function of the input's bytes (program_text, `Program`). Each part of `form` says which run the
 // area holds after it, and that just its own lines were put, behind those before.
 //
-// `check_standard_input` reads, calls `form` and writes. It stands on `inputs`, `delivery_lines`, `end_lines`, `reading` and below, and the kit's
-// `io` and `libc`.
+// `check_standard_input` reads, calls `form` and writes. It stands on `inputs`, `delivery_lines`, `end_lines`, `reading` and below, and `streams`.
 #![tactic(auto)]
 
 ghost use Rattle.std.specs.Prelude.{◌+◌, ◌≤◌, ◌≡◌, true, length};
@@ -20,6 +19,8 @@ use inputs::Begun;
 use lenses::heading;
 use marks::parts;
 use reading::Taken;
+use std::io;
+use std::io::Write;
 
 // As many picks as the longest input has behind the largest table, 3,966.
 const MOST_PICKS: usize = (inputs::LONGEST - 4 - places::MOST_BYTES) / 4;
@@ -91,30 +92,24 @@ pub fn form(input: &[u8], out: &mut [u8]) -> Text
 }
 
 // Prints the answer to an input; gives whether all of it came out.
-pub fn print_check(input: &[u8]) -> bool {
+pub fn print_check<W: Write>(to: &mut W, input: &[u8]) -> bool {
     let mut output = [0u8; LONGEST_OUTPUT];
     match form(input, &mut output) {
-        Text::Formed(length) => io::write_all(libc::STDOUT_FILENO, &output[0..length]),
+        Text::Formed(length) => streams::print(to, &output[0..length]).is_ok(),
         Text::Refused(_) => false,
     }
 }
 
 // Prints the answer to the input that standard input holds. If a read fails nothing is printed, and if a write fails nothing after it; both
 // are said on standard error. One byte more than the longest input is read, so that a longer one is seen.
-pub fn check_standard_input() {
+pub fn check_standard_input(rt: &(impl Input + Print + Eprint)) -> io::Result<()> {
     let mut input = [0u8; inputs::LONGEST + 1];
-    let Taken { failed, length } = reading::read_input(&mut input);
+    let Taken { failed, length } = reading::read_input(&mut rt.reader(), &mut input);
     if failed {
-        io::write_all(
-            libc::STDERR_FILENO,
-            b"knot_check: reading standard input failed\n",
-        );
-        return;
+        return rt.eprintln("knot_check: reading standard input failed");
     }
-    if !print_check(&input[0..length]) {
-        io::write_all(
-            libc::STDERR_FILENO,
-            b"knot_check: writing standard output failed\n",
-        );
+    if !print_check(&mut io::writer(rt), &input[0..length]) {
+        return rt.eprintln("knot_check: writing standard output failed");
     }
+    Ok(())
 }
