@@ -14,7 +14,7 @@ use Rattle.std.proofs.Common.{sym, ap, ◌∙◌}
 use lib.{Dec.eqb, IntN.ℤ}
 use Rattle.machine.specs.Calls as MachineCalls
 use Rattle.machine.specs.Calls.{RanOn, fixed_order, shuffled_order, run_from}
-use Rattle.machine.specs.ChooserLaws.{shuffled_zero}
+use Rattle.machine.proofs.ChooserLaws.{shuffled_zero}
 use Rattle.machine.specs.Lists.{Call, picking, running_on, running_shuffled, reporting, reading, in_turn}
 use Rattle.tables.specs.Table.{is_process}
 use Rattle.tables.specs.Waits.{neighbours}

@@ -22,10 +22,10 @@ use Rattle.machine.specs.declared.Ran.{Ran}
 use Rattle.machine.specs.Calls.{cut, at_place, fixed_order}
 use Rattle.machine.specs.Calls as MachineCalls
 use Rattle.machine.specs.Lists.{Call, picking, running_on, running_shuffled, reporting, reading, Passed, Taken}
-use Rattle.machine.specs.AmongLaws.{cut_placed}
+use Rattle.machine.proofs.PlaceLaws.{cut_placed}
 use Rattle.machine.specs.Made.{Made, none}
-use Rattle.machine.specs.MadeLaws.{pick_made, run_on_made, run_shuffled_made}
-use Rattle.machine.specs.ChooserLaws.{fixed_order_finds}
+use Rattle.machine.proofs.MadeLaws.{pick_made, run_on_made, run_shuffled_made}
+use Rattle.machine.proofs.ChooserLaws.{fixed_order_finds}
 use Rattle.steps.specs.declared.Message.{Message}
 use Rattle.checks.specs.declared.Delivery.{Delivery}
 use Rattle.checks.specs.declared.Delivery.TheVariants.{Delivered}

@@ -31,7 +31,8 @@ use Rattle.checks.specs.Run.{Run, one, turn_at, reply_receiver, probes_to, sent_
 use Rattle.machine.specs.Machine.{taken}
 use Rattle.machine.specs.Calls.{cut, at_place}
 use Rattle.machine.specs.Among.{Among, Here}
-use Rattle.machine.specs.AmongLaws.{among_length, at_place_here}
+use Rattle.machine.specs.AmongLaws.{among_length}
+use Rattle.machine.proofs.PlaceLaws.{at_place_here}
 use Rattle.areas.specs.Replaced.{with_links, put_process, put_link, put_count}
 use Rattle.link_lenses.specs.Changes.{probe_of, spread_to, answered, spread, off}
 use Rattle.lenses.specs.ChangeLaws.{joins_high}

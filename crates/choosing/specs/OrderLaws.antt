@@ -17,7 +17,7 @@ use Rattle.base.specs.Sums.{count_to}
 use Rattle.base.specs.SumLaws.{sum_to_cong, sum_to_zero, sum_to_short}
 use Rattle.tables.specs.Table.{most_processes, IsProcess}
 use Rattle.machine.specs.Calls.{Selection, nobody, pair, waiting, in_row, link_at, link_if, links_to, links_of, lowest, drawn}
-use Rattle.machine.specs.ChooserLaws.{link_if_length, link_if_first, links_of_all}
+use Rattle.machine.proofs.ChooserLaws.{link_if_length, link_if_first, links_of_all}
 use Rattle.machine.specs.LinkListLaws.{link_at_end, in_row_length, in_row_at}
 use Rattle.checks.specs.Run.{Run}
 use Rattle.sets.specs.Sets.{Nth}

@@ -28,7 +28,7 @@ use Rattle.steps.specs.declared.Stepped.TheVariants.{Taken}
 use Rattle.steps.specs.Step.{count_small}
 use Rattle.base.specs.ChoiceLaws.{value_not, value_yes}
 use Rattle.machine.specs.Among.{Among}
-use Rattle.machine.specs.AmongLaws.{cut_placed}
+use Rattle.machine.proofs.PlaceLaws.{cut_placed}
 use Rattle.checks.specs.declared.Delivery.{Delivery}
 use Rattle.checks.specs.declared.Delivery.TheVariants.{Delivered}
 use Rattle.checks.specs.Run.{most_deliveries, accepts}

@@ -36,8 +36,8 @@ use Rattle.steps.specs.StepLaws.{stepped_inside}
 use Rattle.checks.specs.declared.Delivery.TheVariants.{Delivered}
 use Rattle.machine.specs.Calls.{cut, at_place}
 use Rattle.machine.specs.Among.{Among}
-use Rattle.machine.specs.AmongLaws.{cut_placed}
-use Rattle.machine.specs.MadeLaws.{deliver_cut}
+use Rattle.machine.proofs.PlaceLaws.{cut_placed}
+use Rattle.machine.proofs.MadeLaws.{deliver_cut}
 use Rattle.machine.specs.FormedLaws.{well_formed_P}
 use Rattle.checks.specs.RunLaws.{new_father, replied, new_range, new_reply}
 use Rattle.checks.specs.Run.{Run, most_deliveries, knot, turn_of, well_formed, turn_at, after, accepts}

@@ -13,7 +13,7 @@ use native.Mathlib.Omega.{arith}
 use Rattle.machine.specs.Calls as MachineCalls
 use Rattle.machine.specs.Calls.{Cut, nowhere, cut, at_place}
 use Rattle.machine.specs.Among.{Among}
-use Rattle.machine.specs.AmongLaws.{cut_placed}
+use Rattle.machine.proofs.PlaceLaws.{cut_placed}
 use Rattle.base.specs.ChoiceLaws.{tested}
 use Rattle.base.specs.Checks.{Tested, passed, failed}
 use Rattle.tables.specs.Sound.{Sound}

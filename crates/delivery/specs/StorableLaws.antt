@@ -13,12 +13,12 @@ use Rattle.tables.specs.Table.{Fields, IsProcess}
 use Rattle.tables.specs.Waits.{neighbours}
 use Rattle.machine.specs.Machine as Machines
 use Rattle.machine.specs.Calls.{Selection, pair, waiting}
-use Rattle.machine.specs.ChooserLaws.{fixed_order_finds}
+use Rattle.machine.proofs.ChooserLaws.{fixed_order_finds}
 use Rattle.machine.specs.Among.{Among}
 use Rattle.machine.specs.AmongLaws.{among_waiting}
 use Rattle.machine.specs.FormedLaws.{well_formed_P}
 use Rattle.machine.specs.Made.{Made}
-use Rattle.machine.specs.MadeLaws.{made_keeps, deliver_on_made, pick_made, run_on_made, run_shuffled_made}
+use Rattle.machine.proofs.MadeLaws.{made_keeps, deliver_on_made, pick_made, run_on_made, run_shuffled_made}
 use Rattle.steps.specs.declared.Message.{Message}
 use Rattle.checks.specs.Run.{Run, knot, after, accepts}
 use Rattle.checks.specs.Calls.{pick, deliver_on, run_on, run_shuffled}

@@ -17,11 +17,11 @@ use Rattle.tables.specs.Table.{IsProcess}
 use Rattle.machine.specs.Machine as Machines
 use Rattle.machine.specs.Calls.{fixed_order}
 use Rattle.machine.specs.Lists.{Call, Passed}
-use Rattle.machine.specs.ChooserLaws.{fixed_order_finds}
+use Rattle.machine.proofs.ChooserLaws.{fixed_order_finds}
 use Rattle.machine.specs.Made.{PassMade}
-use Rattle.machine.specs.MadeLaws.{made_waits, made_start, made_edition, made_count, answered_listed}
+use Rattle.machine.proofs.MadeLaws.{made_waits, made_start, made_edition, made_count, answered_listed}
 use Rattle.machine.specs.RestLaws.{work_rest, work_busy}
-use Rattle.machine.specs.UpheldLaws.{upheld_busy, upheld_rest, upheld_empty, upheld_goes_on, upheld_list}
+use Rattle.machine.proofs.UpheldLaws.{upheld_busy, upheld_rest, upheld_empty, upheld_goes_on, upheld_list}
 use Rattle.checks.specs.declared.Verdict.TheVariants.{Knot, Free}
 use Rattle.checks.specs.declared.Mark.TheVariants.{Returned, Held}
 use Rattle.checks.specs.declared.Report.{Report}

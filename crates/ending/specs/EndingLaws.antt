@@ -20,11 +20,11 @@ use Rattle.machine.specs.Machine as Machines
 use Rattle.machine.specs.Calls.{Chooser, fixed_order, ran_made, run_from}
 use Rattle.machine.specs.Calls as MachineCalls
 use Rattle.machine.specs.Lists.{Call, Passed}
-use Rattle.machine.specs.ChooserLaws.{fixed_order_finds, fixed_order_chooses}
+use Rattle.machine.proofs.ChooserLaws.{fixed_order_finds, fixed_order_chooses}
 use Rattle.machine.specs.Made.{Chooses, RunMade}
-use Rattle.machine.specs.MadeLaws.{made_waits, made_start, made_count, run_from_made}
+use Rattle.machine.proofs.MadeLaws.{made_waits, made_start, made_count, run_from_made}
 use Rattle.machine.specs.Upheld.{RanOut, RanShort}
-use Rattle.machine.specs.UpheldLaws.{upheld_list, upheld_runs_out, upheld_spent}
+use Rattle.machine.proofs.UpheldLaws.{upheld_list, upheld_runs_out, upheld_spent}
 use Rattle.steps.specs.declared.Message.{Message}
 use Rattle.steps.specs.declared.Process.{Process}
 use Rattle.checks.specs.Run.{Run, IsEdition, knot, over, start_run}

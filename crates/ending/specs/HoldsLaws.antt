@@ -28,7 +28,7 @@ use Rattle.machine.specs.Among.{Among}
 use Rattle.machine.specs.Formed.{Formed}
 use Rattle.machine.specs.FormedLaws.{well_formed_P, accepts_P, all_right_tail}
 use Rattle.machine.specs.Made.{Made, Answered, none_refused, no_link, not_over}
-use Rattle.machine.specs.MadeLaws.{made_keeps}
+use Rattle.machine.proofs.MadeLaws.{made_keeps}
 use Rattle.machine.specs.DiffusingLaws.{diffusing_start, diffusing_kept}
 use Rattle.machine.specs.RestLaws.{ack_awaited, link_neighbours, work_busy}
 use Rattle.machine.specs.TreeLaws.{treed_start, treed_kept}

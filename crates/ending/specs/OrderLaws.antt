@@ -26,10 +26,10 @@ use Rattle.machine.specs.Calls.{in_row, link_if, fixed_order, shuffled_order, re
 use Rattle.machine.specs.Calls as MachineCalls
 use Rattle.machine.specs.Lists.{Call, picking, running_on, running_shuffled, reporting, reading, in_turn, passed_by}
 use Rattle.machine.specs.Made.{Made, Chooses, PassMade}
-use Rattle.machine.specs.MadeLaws.{made_waits, made_start, made_edition, made_count, pick_made, run_on_made, run_shuffled_made}
-use Rattle.machine.specs.ChooserLaws.{by_senders, all_links_choose, fixed_order_chooses}
+use Rattle.machine.proofs.MadeLaws.{made_waits, made_start, made_edition, made_count, pick_made, run_on_made, run_shuffled_made}
+use Rattle.machine.proofs.ChooserLaws.{by_senders, all_links_choose, fixed_order_chooses}
 use Rattle.machine.specs.RunningLaws.{from_over, from_spent}
-use Rattle.machine.specs.UpheldLaws.{upheld_list}
+use Rattle.machine.proofs.UpheldLaws.{upheld_list}
 use Rattle.steps.specs.declared.Process.{Process}
 use Rattle.checks.specs.declared.Delivery.{Delivery}
 use Rattle.checks.specs.declared.Reading.{Reading}

@@ -15,10 +15,10 @@ use Rattle.machine.specs.declared.Ran.{Ran}
 use Rattle.machine.specs.Calls.{RanOn, fixed_order, shuffled_order}
 use Rattle.machine.specs.Calls as MachineCalls
 use Rattle.machine.specs.Lists.{Call}
-use Rattle.machine.specs.ChooserLaws.{fixed_order_finds, fixed_order_chooses, shuffled_order_chooses}
-use Rattle.machine.specs.MadeLaws.{made_waits, made_start, made_edition, run_shuffled_made}
+use Rattle.machine.proofs.ChooserLaws.{fixed_order_finds, fixed_order_chooses, shuffled_order_chooses}
+use Rattle.machine.proofs.MadeLaws.{made_waits, made_start, made_edition, run_shuffled_made}
 use Rattle.machine.specs.Upheld.{RanShort}
-use Rattle.machine.specs.UpheldLaws.{upheld_list}
+use Rattle.machine.proofs.UpheldLaws.{upheld_list}
 use Rattle.steps.specs.declared.Message.{Message}
 use Rattle.steps.specs.declared.Process.{Process}
 use Rattle.checks.specs.Run.{Run, IsEdition, knot, over, start_run}

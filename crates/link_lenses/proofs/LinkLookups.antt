@@ -18,7 +18,7 @@ use Rattle.steps.specs.declared.Message.{Message}
 use Rattle.steps.specs.declared.Message.TheVariants.{Suc, Pre, Ack}
 use Rattle.steps.specs.Step.{count_small}
 use Rattle.machine.specs.Among.{Here}
-use Rattle.machine.specs.AmongLaws.{at_place_here}
+use Rattle.machine.proofs.PlaceLaws.{at_place_here}
 use Rattle.areas.specs.Used.{link_slots, Counts}
 use Rattle.areas.specs.Area.{code_of, fields_in, message_of, run_in}
 use Rattle.areas.specs.CodeLaws.{message_of_code_of}

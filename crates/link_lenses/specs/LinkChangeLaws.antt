@@ -34,7 +34,8 @@ use Rattle.steps.specs.Step.{both_small, count_small, reply_fits}
 use Rattle.machine.specs.Calls.{Cut, behind, at_place}
 use Rattle.machine.specs.FormedLaws.{well_formed_P, all_right_append}
 use Rattle.machine.specs.Among.{Placed, there, not_there, Here}
-use Rattle.machine.specs.AmongLaws.{among_length, among_right, between_among, at_place_P, at_place_here}
+use Rattle.machine.specs.AmongLaws.{among_length, among_right, between_among}
+use Rattle.machine.proofs.PlaceLaws.{at_place_P, at_place_here}
 use Rattle.checks.specs.Run.{Run, knot, counts_small, one}
 use Rattle.areas.specs.Used.{link_slots}
 use Rattle.areas.specs.Replaced.{with_links, put_link}

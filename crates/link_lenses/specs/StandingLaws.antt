@@ -7,7 +7,8 @@ use Rattle.std.specs.Prelude.{ℕ, zero, suc, ◌-◌, ◌≤◌, ◌<◌, List,
 use Rattle.std.proofs.Common.{sym, subst, ⊎_elim, arith}
 use Rattle.machine.specs.Calls.{Cut, nowhere, cut, past, behind, at_place}
 use Rattle.machine.specs.Among.{Placed, there, not_there}
-use Rattle.machine.specs.AmongLaws.{between_place, at_place_P, cut_placed}
+use Rattle.machine.specs.AmongLaws.{between_place}
+use Rattle.machine.proofs.PlaceLaws.{at_place_P, cut_placed}
 use Rattle.steps.specs.declared.Message.{Message}
 use Rattle.areas.specs.Area.{code_of, slot_word}
 use Rattle.link_lenses.specs.declared.links.AtPlace.{AtPlace}

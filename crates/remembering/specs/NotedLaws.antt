@@ -19,9 +19,9 @@ use Rattle.steps.specs.declared.Probes.TheVariants.{Sucs, Pres}
 use Rattle.steps.specs.declared.Reply.{Reply}
 use Rattle.steps.specs.declared.Reply.TheVariants.{To}
 use Rattle.machine.specs.Calls.{waiting}
-use Rattle.machine.specs.ChooserLaws.{waiting_some}
+use Rattle.machine.proofs.ChooserLaws.{waiting_some}
 use Rattle.machine.specs.Among.{Here}
-use Rattle.machine.specs.AmongLaws.{at_place_here}
+use Rattle.machine.proofs.PlaceLaws.{at_place_here}
 use Rattle.checks.specs.Run.{Run, one, reply_receiver, probes_to}
 use Rattle.areas.specs.Replaced.{put_process, put_link, put_count}
 use Rattle.link_lenses.specs.Changes.{answered}
