@@ -1,7 +1,7 @@
 -- What a reader must believe of a knot check: Run (its rules), Calls (what each call does and answers), Reach (who reaches whom, and the
 -- number D), Lists (what is said of any list of calls), InWords (the end of a check in the words of the relation). Laws stand apart: SentLaws
--- (what a step puts on links), RunLaws (the receiver's step and a well-formed run), AnswerLaws (answers, and that 21 comes first), ReachLaws
--- (the tests of who reaches whom).
+-- (what a step puts on links), RunLaws (the receiver's step and a well-formed run), AnswerLaws (answers, and that 21 comes first), and in proofs
+-- ReachLaws (the tests of who reaches whom).
 pub mod Run
 pub mod Calls
 pub mod Reach
@@ -9,5 +9,4 @@ pub mod Lists
 pub mod InWords
 pub mod SentLaws
 pub mod RunLaws
-pub mod ReachLaws
 pub mod AnswerLaws

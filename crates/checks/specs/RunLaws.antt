@@ -34,7 +34,7 @@ use Rattle.steps.specs.declared.Reply.{Reply}
 use Rattle.steps.specs.declared.Reply.TheVariants.{To}
 use Rattle.steps.specs.Step.{in_range, both_small, num_suffices, reply_fits, fitting}
 use Rattle.steps.specs.Effect.{Known, Effect, Named}
-use Rattle.steps.specs.StepLaws.{turn_effect, start_turn_effect, turn_named, start_turn_named}
+use Rattle.steps.proofs.EffectLaws.{turn_effect, start_turn_effect, turn_named, start_turn_named}
 use Rattle.checks.specs.Run.{Run, IsEdition, is_edition, knot, father_right, one, turn_of, turn_at, reply_receiver, probes_to, sent_to, after, accepts}
 use Rattle.checks.specs.SentLaws.{sent_right}
 

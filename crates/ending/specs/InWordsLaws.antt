@@ -19,7 +19,7 @@ use Rattle.checks.specs.declared.Verdict.TheVariants.{Knot, Free}
 use Rattle.checks.specs.declared.Mark.TheVariants.{Returned, Held}
 use Rattle.checks.specs.Run.{Run, IsEdition, over, start_run}
 use Rattle.checks.specs.Reach.{Reaches, reaches, in_knot, outsider, outsiders, lowest_outsider, all_wait, sinks, d_of}
-use Rattle.checks.specs.ReachLaws.{reaches_P, in_knot_P, outsider_P, outsiders_P, lowest_outsider_P, all_wait_P, sinks_P}
+use Rattle.checks.proofs.ReachLaws.{reaches_P, in_knot_P, outsider_P, outsiders_P, lowest_outsider_P, all_wait_P, sinks_P}
 use Rattle.checks.specs.Lists.{at_start, Ended, Promise, passed}
 use Rattle.checks.specs.InWords.{EndedInWords}
 use Rattle.ending.specs.Demand.{demand_3}

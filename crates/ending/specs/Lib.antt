@@ -5,7 +5,7 @@
 -- Laws stand apart: CountingLaws gives the machine what it asks; TidyLaws, SpreadingLaws and SummedLaws prove each invariant kept,
 -- SpreadEndLaws and SumBoundLaws what follows from it; HoldsLaws puts them together. Ending is the theorem over waits, EndingLaws says that
 -- running on comes to the end, ShuffledLaws that it does so with a seed too, DemandLaws says D by arcs, InWordsLaws the whole end in the
--- words of the relation, RowLaws proves the rows, OrderLaws what another order changes.
+-- words of the relation; in proofs, RowLaws proves the rows, OrderLaws what another order changes.
 pub mod Weights
 pub mod Spreading
 pub mod Invariants
@@ -22,8 +22,6 @@ pub mod SumBoundLaws
 pub mod HoldsLaws
 pub mod Ending
 pub mod DemandLaws
-pub mod RowLaws
 pub mod InWordsLaws
 pub mod EndingLaws
 pub mod ShuffledLaws
-pub mod OrderLaws

@@ -29,7 +29,7 @@ use Rattle.steps.specs.declared.Process.{Process}
 use Rattle.steps.specs.Step.{own_count, new_subordinate}
 use Rattle.checks.specs.Run.{Run, most_deliveries}
 use Rattle.checks.specs.Reach.{reaches, all_reach_back, outsider, outsiders, waits_for_some, all_wait, sink, sinks, d_of}
-use Rattle.checks.specs.ReachLaws.{from_in, to_in, reaches_forward, reaches_backward, reaches_P, waits_for_some_own}
+use Rattle.checks.proofs.ReachLaws.{from_in, to_in, reaches_forward, reaches_backward, reaches_P, waits_for_some_own}
 use Rattle.ending.specs.Weights.{sends, subordinates, waitless, worth_of}
 use Rattle.ending.specs.Spreading.{Side, NoneWaits}
 use Rattle.ending.specs.Invariants.{Tidy, Spread}

@@ -24,7 +24,7 @@ use Rattle.steps.specs.Step.{Turn, idle}
 use Rattle.steps.specs.Effect.{is_suc, is_pre, sucs_of, pres_of, Effect}
 use Rattle.checks.specs.Run.{Run, one, started, start_run, sent_to, leaving}
 use Rattle.checks.specs.Reach.{here, along}
-use Rattle.checks.specs.ReachLaws.{reaches_trans}
+use Rattle.checks.proofs.ReachLaws.{reaches_trans}
 use Rattle.checks.specs.SentLaws.{first_weight, sent_suc, sent_pre}
 use Rattle.ending.specs.Weights.{edge}
 use Rattle.ending.specs.Spreading.{Side, Grows}

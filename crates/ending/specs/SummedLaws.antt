@@ -21,7 +21,6 @@ use Rattle.machine.specs.Moved.{Moved}
 use Rattle.machine.specs.MovedLaws.{sum_of_moved, sum_moved, total_moved, start_at}
 use Rattle.steps.specs.declared.Message.{Message}
 use Rattle.steps.specs.declared.Message.TheVariants.{Suc, Pre}
-use Rattle.steps.specs.declared.Process.{Process}
 use Rattle.steps.specs.Step.{Turn, idle, no_counts}
 use Rattle.steps.specs.Effect.{both, counts_replied, Effect}
 use Rattle.checks.specs.Run.{Run, knot, one, started, start_run, leaving}

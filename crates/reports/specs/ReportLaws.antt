@@ -14,7 +14,7 @@ use Rattle.steps.specs.declared.Process.{Process}
 use Rattle.checks.specs.Run.{Run, over}
 use Rattle.checks.specs.Calls.{is_subordinate, escape_of, verdict_of, reported}
 use Rattle.checks.specs.Reach.{some_by_arcs, edition_allows}
-use Rattle.checks.specs.ReachLaws.{some_by_arcs_waits}
+use Rattle.checks.proofs.ReachLaws.{some_by_arcs_waits}
 use Rattle.areas.specs.Area.{run_in, area_right}
 use Rattle.area_calls.specs.AreaCalls.{report_answer}
 use Rattle.area_calls.specs.CallLaws.{report_over}

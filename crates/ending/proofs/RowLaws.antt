@@ -4,7 +4,7 @@
 -- Assumes nothing.
 use Rattle.std.specs.Prelude.{ℕ, Bool, true, false, not, ◌&&◌, ◌≡◌, refl, eqb, ℤ, pos, negsuc, length, replicate}
 use Rattle.std.proofs.lemmas.Bool.{false≢true}
-use mathlib.Core.List.{List, ◌∷◌, Memᴰ}
+use mathlib.Core.List.{List, [], ◌∷◌, Memᴰ}
 use Rattle.std.proofs.Common.{sym, ap, ◌∙◌, ⊎_elim, eqb-true}
 use Rattle.std.proofs.lemmas.List.{length-replicate}
 use Rattle.base.specs.Choice.{choose}
@@ -58,6 +58,7 @@ mark x = choose x.returned Returned Held
 
 all_at : (p : PRow → Bool) (xs : List PRow) → all p xs ≡ true → (x : PRow) → Memᴰ x xs → p x ≡ true
 unfolding all
+all_at p [] h x m = elim m [ ]
 all_at p (y ∷ ys) h x (Memᴰ.head e) = ap p e ∙ and_left (p y) (all p ys) h
 all_at p (y ∷ ys) h x (Memᴰ.tail m) = all_at p ys (and_right (p y) (all p ys) h) x m
 

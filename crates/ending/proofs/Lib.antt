@@ -1,0 +1,3 @@
+-- Laws of what a reader believes: RowLaws proves the rows, OrderLaws what another order changes.
+pub mod RowLaws
+pub mod OrderLaws

@@ -1,0 +1,114 @@
+-- `one_step::take_turn` meets its contract: each rule gets what the one before it left, and what is lent in range keeps every sum within 32 bits.
+use Rattle.std.proofs.Common.{arith, ap, ◌∙◌}
+use Rattle.steps.specs.Step.{rule1, set_succeeding, set_preceding, rule3, rule4, turn}
+use Rattle.steps.specs.StepLaws.{in_range_P}
+use Rattle.one_step.proofs.Turning.{lent, rule1_num, rule1_second, rule1_ready, set_succeeding_ready, set_preceding_ready, acknowledgeable}
+use Rattle.one_step.proofs.take_turn.Goals as goal
+
+pub set_succeeding-requires-clause-out_degree_le_most_processes : goal.set_succeeding-requires-clause-out_degree_le_most_processes
+set_succeeding-requires-clause-out_degree_le_most_processes c =
+    let x = c.args.process in
+    let h = lent c.args.message c.args.out_degree c.args.in_degree x c.requires.process_value in omega arith
+
+pub set_succeeding-requires-clause-num_le_most_num : goal.set_succeeding-requires-clause-num_le_most_num
+set_succeeding-requires-clause-num_le_most_num c =
+    let x = c.args.process in
+    let h = lent c.args.message c.args.out_degree c.args.in_degree x c.requires.process_value in rw (c.rule1.ensures, rule1_num c.args.sender x) (in_range_P x h.process).num
+
+pub set_succeeding-requires-clause-second_value : goal.set_succeeding-requires-clause-second_value
+set_succeeding-requires-clause-second_value c =
+    let x = c.args.process in
+    let h = lent c.args.message c.args.out_degree c.args.in_degree x c.requires.process_value in rw c.rule1.ensures (rule1_second c.args.sender x h.process)
+
+pub rule3-requires-clause-addable : goal.rule3-requires-clause-addable
+rule3-requires-clause-addable c =
+    let x = c.args.process in
+    let h = lent c.args.message c.args.out_degree c.args.in_degree x c.requires.process_value in
+    rw (c.set_succeeding.ensures, c.rule1.ensures)
+    (set_succeeding_ready _ (rule1 c.args.sender x) (rule1_ready c.args.sender x h.process)).0
+
+pub rule3-requires-clause-succeeding_bound : goal.rule3-requires-clause-succeeding_bound
+rule3-requires-clause-succeeding_bound c =
+    let x = c.args.process in
+    let h = lent c.args.message c.args.out_degree c.args.in_degree x c.requires.process_value in
+    rw (c.set_succeeding.ensures, c.rule1.ensures)
+    (set_succeeding_ready _ (rule1 c.args.sender x) (rule1_ready c.args.sender x h.process)).1.0
+
+pub rule3-requires-clause-preceding_bound : goal.rule3-requires-clause-preceding_bound
+rule3-requires-clause-preceding_bound c =
+    let x = c.args.process in
+    let h = lent c.args.message c.args.out_degree c.args.in_degree x c.requires.process_value in
+    rw (c.set_succeeding.ensures, c.rule1.ensures)
+    (set_succeeding_ready _ (rule1 c.args.sender x) (rule1_ready c.args.sender x h.process)).1.1
+
+pub set_preceding-requires-clause-in_degree_le_most_processes : goal.set_preceding-requires-clause-in_degree_le_most_processes
+set_preceding-requires-clause-in_degree_le_most_processes c =
+    let x = c.args.process in
+    let h = lent c.args.message c.args.out_degree c.args.in_degree x c.requires.process_value in
+    omega arith
+
+pub set_preceding-requires-clause-num_le_most_num : goal.set_preceding-requires-clause-num_le_most_num
+set_preceding-requires-clause-num_le_most_num c =
+    let x = c.args.process in
+    let h = lent c.args.message c.args.out_degree c.args.in_degree x c.requires.process_value in
+    rw (c.rule1-in-Pre.ensures, rule1_num c.args.sender x) (in_range_P x h.process).num
+
+pub rule3-requires-in-Pre-clause-addable : goal.rule3-requires-in-Pre-clause-addable
+rule3-requires-in-Pre-clause-addable c =
+    let x = c.args.process in
+    let h = lent c.args.message c.args.out_degree c.args.in_degree x c.requires.process_value in
+    rw (c.set_preceding.ensures, c.rule1-in-Pre.ensures)
+    (set_preceding_ready _ (rule1 c.args.sender x) (rule1_ready c.args.sender x h.process)).0
+
+pub rule3-requires-in-Pre-clause-succeeding_bound : goal.rule3-requires-in-Pre-clause-succeeding_bound
+rule3-requires-in-Pre-clause-succeeding_bound c =
+    let x = c.args.process in
+    let h = lent c.args.message c.args.out_degree c.args.in_degree x c.requires.process_value in
+    rw (c.set_preceding.ensures, c.rule1-in-Pre.ensures)
+    (set_preceding_ready _ (rule1 c.args.sender x) (rule1_ready c.args.sender x h.process)).1.0
+
+pub rule3-requires-in-Pre-clause-preceding_bound : goal.rule3-requires-in-Pre-clause-preceding_bound
+rule3-requires-in-Pre-clause-preceding_bound c =
+    let x = c.args.process in
+    let h = lent c.args.message c.args.out_degree c.args.in_degree x c.requires.process_value in
+    rw (c.set_preceding.ensures, c.rule1-in-Pre.ensures)
+    (set_preceding_ready _ (rule1 c.args.sender x) (rule1_ready c.args.sender x h.process)).1.1
+
+pub acknowledged-requires-clause-counts_value : goal.acknowledged-requires-clause-counts_value
+acknowledged-requires-clause-counts_value c =
+    let x = c.args.process in
+    let m = c.args.message in
+    let h = lent m c.args.out_degree c.args.in_degree x c.requires.process_value in
+    (acknowledgeable m c.in-Ack.counts x c.in-Ack.is h.process h.count c.requires.process_value_2).0
+
+pub acknowledged-requires-clause-process_value : goal.acknowledged-requires-clause-process_value
+acknowledged-requires-clause-process_value c =
+    let x = c.args.process in
+    let m = c.args.message in
+    let h = lent m c.args.out_degree c.args.in_degree x c.requires.process_value in
+    (acknowledgeable m c.in-Ack.counts x c.in-Ack.is h.process h.count c.requires.process_value_2).1.0
+
+pub acknowledged-requires-clause-le_num : goal.acknowledged-requires-clause-le_num
+acknowledged-requires-clause-le_num c =
+    let x = c.args.process in
+    let m = c.args.message in
+    let h = lent m c.args.out_degree c.args.in_degree x c.requires.process_value in
+    (acknowledgeable m c.in-Ack.counts x c.in-Ack.is h.process h.count c.requires.process_value_2).1.1
+
+pub returns-in-Suc : goal.returns-in-Suc
+unfolding turn
+returns-in-Suc c =
+    rw c.in-Suc.is
+    (c.rule4.ensures ∙ ap rule4 (c.rule3.ensures
+    ∙ ap rule3 (c.set_succeeding.ensures ∙ ap (set_succeeding _) c.rule1.ensures)))
+
+pub returns-in-Pre : goal.returns-in-Pre
+unfolding turn
+returns-in-Pre c =
+    rw c.in-Pre.is
+    (c.rule4-in-Pre.ensures ∙ ap rule4
+    (c.rule3-in-Pre.ensures ∙ ap rule3 (c.set_preceding.ensures ∙ ap (set_preceding _) c.rule1-in-Pre.ensures)))
+
+pub returns-in-Ack : goal.returns-in-Ack
+unfolding turn
+returns-in-Ack c = rw c.in-Ack.is (c.rule4-in-Ack.ensures ∙ ap rule4 c.acknowledged.ensures)
