@@ -55,8 +55,8 @@ pub tells_last : {b r : Bool} {P : Type 0} → Tells b P → (r ≡ true → P) 
 tells_last {b} {r} h f g = tells_same r b (f, g) h
 
 -- a call gave false, and its test passes: both cannot be
-pub failing : {b t : Bool} → b ≡ t → not b ≡ true → t ≡ true → ⊥
-failing {b} {t} e h p = false≢true (sym (ap not (e ∙ p)) ∙ h)
+pub failing : {b t : Bool} → b ≡ t → b ≡ false → t ≡ true → ⊥
+failing {b} {t} e h p = false≢true (sym h ∙ (e ∙ p))
 
 -- ---- the head
 

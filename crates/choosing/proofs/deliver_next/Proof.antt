@@ -2,7 +2,7 @@
 -- Assumes nothing.
 use mathlib.Core.Path.{sym}
 use borrow.Author.Rules.{rules}
-use Rattle.machine.specs.ChooserLaws.{drawn_zero}
+use Rattle.machine.proofs.ChooserLaws.{drawn_zero}
 use Rattle.areas.specs.Area.{run_in}
 use Rattle.choosing.proofs.deliver_next.Statement.{statement}
 use Rattle.choosing.proofs.deliver_next.Tie as tie
