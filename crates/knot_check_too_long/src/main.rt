@@ -2,8 +2,6 @@
 // stdin and stdout.
 #![tactic(auto)]
 
-use std::io;
-
-fn main(rt: HostRuntime) -> io::Result<()> {
-    printing::check_standard_input(&rt)
+fn main(rt: HostRuntime) {
+    printing::check_standard_input(&rt);
 }
