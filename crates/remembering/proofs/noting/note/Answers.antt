@@ -1,8 +1,5 @@
 -- `remembering::noting::note` meets its contract: the three parts one after another.
--- Assumes nothing.
-use Prim.Native.Nat.{ℕ}
-use mathlib.Core.List.{List}
-use lib.IntN.{ℤ}
+use Rattle.std.proofs.Common.{ℕ, List, ℤ}
 use Rattle.machine.specs.Calls.{waiting}
 use Rattle.checks.specs.Run.{Run}
 use Rattle.areas.specs.Area.{run_in}
@@ -12,8 +9,7 @@ use Rattle.preparing.specs.Receiving.{probes_go, reply_goes}
 use Rattle.marks.specs.Changes.{Marked, MarkedAt, Turns}
 use Rattle.remembering.specs.Noting.{taken_marks, sent_marks, noted_marks}
 use Rattle.remembering.proofs.Following.{process_most, turns_marked}
-use Rattle.remembering.proofs.noting.note.Statement.{statement}
-use Rattle.remembering.proofs.noting.note.Tie as tie
+use Rattle.remembering.proofs.noting.note.Goals as goal
 
 all_parts : (r : Run) (a b : ℕ) (y : Probes) (z : Reply) {l i j k : List ℕ}
     → Turns l (taken_marks (waiting (r.link a b)) a b) i
@@ -30,32 +26,18 @@ module _ (w : List ℤ) {l : List ℕ} {a b : ℕ} (h : MarkedAt l a b) {i : Lis
   after_reply : (z : Reply) {j : List ℕ} → Turns i (λ held. sent_marks held b (reply_goes z)) j → Marked j
   after_reply z u = turns_marked (λ held. sent_marks held b (reply_goes z)) after_taken u
 
-note-reply-requires : tie.Need-note-reply-requires
-note-reply-requires c κs =
-    let o = c.before in
-    let s = o.before.before in
-    (process_most s.requires.0 s.requires.1.1.0.1, (s.requires.1.1.1.0, after_taken s.args.area.now s.requires.1.1.1.1 o.note-taken.ensures))
+pub note_reply-requires-clause-process : goal.note_reply-requires-clause-process
+note_reply-requires-clause-process c = process_most c.requires.ready c.requires.process.1
 
-note-probes-requires : tie.Need-note-probes-requires
-note-probes-requires c κs =
-    let p = c.before in
-    let o = p.before.before in
-    let s = o.before.before in
-    let marked = after_reply s.args.area.now s.requires.1.1.1.1 o.note-taken.ensures s.args.reply p.note-reply.ensures in
-    (s.requires.0, (s.requires.1.1.0.1, marked))
+pub note_reply-requires-clause-marked : goal.note_reply-requires-clause-marked
+note_reply-requires-clause-marked c = after_taken c.args.area.now c.requires.marked_at c.note_taken.ensures
 
-returns : tie.Need-returns
+pub note_probes-requires-clause-marked : goal.note_probes-requires-clause-marked
+note_probes-requires-clause-marked c =
+    let marked = after_reply c.args.area.now c.requires.marked_at c.note_taken.ensures c.args.reply c.note_reply.ensures in
+    marked
+
+pub returns : goal.returns
 returns c =
-    let p = c.before.before in
-    let o = p.before.before in
-    let a = o.before.before.args in
-    all_parts (run_in a.area.now) a.a a.b a.probes a.reply o.note-taken.ensures p.note-reply.ensures c.note-probes.ensures
-
-pub note-spec : {M : Type 1} → statement M
-note-spec =
-    tie.close
-    (tie.spec
-    (λ c κs. let s = c.before in (s.requires.0, (s.requires.1.0, (s.requires.1.1.0, s.requires.1.1.1.1))))
-    note-reply-requires
-    note-probes-requires
-    returns)
+    let a = c.args in
+    all_parts (run_in a.area.now) a.a a.b a.probes a.reply c.note_taken.ensures c.note_reply.ensures c.note_probes.ensures
