@@ -17,6 +17,7 @@ use steps::{Message, Process};
 pub mod pieces;
 
 // `pick 1 2 suc`, `own 2 1 ack 1 1`
+#[tactic(auto, unfolding(crate::specs::Text::delivery_line))]
 pub fn put_delivery(
     out: &mut [u8],
     at: usize,
@@ -34,6 +35,7 @@ pub fn put_delivery(
 }
 
 // `pick 1 2 refused 24`: a delivery that the program chooses itself is never refused with a link.
+#[tactic(auto, unfolding(crate::specs::Text::refused_pick_line))]
 pub fn put_refused_delivery(out: &mut [u8], at: usize, from: u32, to: u32, number: u32) -> usize
     requires { at + length (refused_pick_line from to number) ≤ length out.old }
     ensures { Put out.old at (refused_pick_line from to number) out.new result }
@@ -45,6 +47,7 @@ pub fn put_refused_delivery(out: &mut [u8], at: usize, from: u32, to: u32, numbe
 }
 
 // `refused 13`
+#[tactic(auto, unfolding(crate::specs::Text::refused_line))]
 pub fn put_refused(out: &mut [u8], at: usize, number: u32) -> usize
     requires { at + length (refused_line number) ≤ length out.old }
     ensures { Put out.old at (refused_line number) out.new result }
@@ -53,6 +56,7 @@ pub fn put_refused(out: &mut [u8], at: usize, number: u32) -> usize
 }
 
 // `process 1 1 1 0 1 0 1`
+#[tactic(auto, unfolding(crate::specs::Text::process_line))]
 pub fn put_process(out: &mut [u8], at: usize, p: u32, x: Process) -> usize
     requires { at + length (process_line p x) ≤ length out.old }
     ensures { Put out.old at (process_line p x) out.new result }
@@ -65,6 +69,7 @@ pub fn put_process(out: &mut [u8], at: usize, p: u32, x: Process) -> usize
 }
 
 // "verdict knot .. else none"
+#[tactic(auto, unfolding(crate::specs::Text::verdict_line))]
 fn put_verdict(out: &mut [u8], at: usize, verdict: Verdict) -> usize
     requires { at + length (verdict_line verdict) ≤ length out.old }
     ensures { Put out.old at (verdict_line verdict) out.new result }
@@ -76,6 +81,7 @@ fn put_verdict(out: &mut [u8], at: usize, verdict: Verdict) -> usize
 }
 
 // `outside 1`
+#[tactic(auto, unfolding(crate::specs::Text::outside_line))]
 fn put_outside(out: &mut [u8], at: usize, outside: i32) -> usize
     requires { at + length (outside_line outside) ≤ length out.old }
     ensures { Put out.old at (outside_line outside) out.new result }
@@ -86,6 +92,7 @@ fn put_outside(out: &mut [u8], at: usize, outside: i32) -> usize
 }
 
 // "mark returned .. else held"
+#[tactic(auto, unfolding(crate::specs::Text::mark_line))]
 fn put_mark(out: &mut [u8], at: usize, mark: Mark) -> usize
     requires { at + length (mark_line mark) ≤ length out.old }
     ensures { Put out.old at (mark_line mark) out.new result }
@@ -97,6 +104,7 @@ fn put_mark(out: &mut [u8], at: usize, mark: Mark) -> usize
 }
 
 // "deliveries; the report": the five lines from `over` to `mark`
+#[tactic(auto, unfolding(crate::specs::Text::report_text, crate::specs::Text::over_line, crate::specs::Text::escape_line))]
 pub fn put_report(
     out: &mut [u8],
     at: usize,

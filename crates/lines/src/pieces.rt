@@ -74,6 +74,7 @@ fn put_signed(out: &mut [u8], at: usize, z: i32) -> usize
 }
 
 // A space, and a number.
+#[tactic(auto, unfolding(crate::specs::Text::field))]
 pub fn put_field(out: &mut [u8], at: usize, n: u32) -> usize
     requires { at + length (field n) ≤ length out.old }
     ensures { Put out.old at (field n) out.new result }
@@ -83,6 +84,7 @@ pub fn put_field(out: &mut [u8], at: usize, n: u32) -> usize
 }
 
 // A space, and a signed number.
+#[tactic(auto, unfolding(crate::specs::Text::count_field))]
 pub fn put_count_field(out: &mut [u8], at: usize, z: i32) -> usize
     requires { at + length (count_field z) ≤ length out.old }
     ensures { Put out.old at (count_field z) out.new result }
@@ -102,6 +104,7 @@ fn put_who(out: &mut [u8], at: usize, own: bool) -> usize
 }
 
 // "pick or own, sender, receiver"
+#[tactic(auto, unfolding(crate::specs::Text::link_text))]
 pub fn put_link(out: &mut [u8], at: usize, own: bool, from: u32, to: u32) -> usize
     requires { at + length (link_text own from to) ≤ length out.old }
     ensures { Put out.old at (link_text own from to) out.new result }
@@ -112,6 +115,7 @@ pub fn put_link(out: &mut [u8], at: usize, own: bool, from: u32, to: u32) -> usi
 }
 
 // "kind, count for ack", and at the end the second count (02, N3)
+#[tactic(auto, unfolding(crate::specs::Text::message_text))]
 pub fn put_message(out: &mut [u8], at: usize, message: Message) -> usize
     requires { at + length (message_text message) ≤ length out.old }
     ensures { Put out.old at (message_text message) out.new result }
@@ -128,6 +132,7 @@ pub fn put_message(out: &mut [u8], at: usize, message: Message) -> usize
 }
 
 // "succeeding, preceding, subordinate"
+#[tactic(auto, unfolding(crate::specs::Text::flags_text))]
 pub fn put_flags(out: &mut [u8], at: usize, x: Process) -> usize
     requires { at + length (flags_text x) ≤ length out.old }
     ensures { Put out.old at (flags_text x) out.new result }
@@ -138,6 +143,7 @@ pub fn put_flags(out: &mut [u8], at: usize, x: Process) -> usize
 }
 
 // "cs, num", and at the end the second sum (02, N3)
+#[tactic(auto, unfolding(crate::specs::Text::sums_text))]
 pub fn put_sums(out: &mut [u8], at: usize, x: Process) -> usize
     requires { at + length (sums_text x) ≤ length out.old }
     ensures { Put out.old at (sums_text x) out.new result }
@@ -148,6 +154,7 @@ pub fn put_sums(out: &mut [u8], at: usize, x: Process) -> usize
 }
 
 // A whole line of a word and a number.
+#[tactic(auto, unfolding(crate::specs::Text::number_line))]
 pub fn put_number_line(out: &mut [u8], at: usize, word: &[u8], n: u32) -> usize
     requires { at + length (number_line word.now n) ≤ length out.old }
     ensures { Put out.old at (number_line word.now n) out.new result }
