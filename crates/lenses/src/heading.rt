@@ -25,6 +25,7 @@ pub fn m_of(area: &[i32]) -> usize
 }
 
 // The start process.
+#[tactic(auto, using(crate::proofs::Stores::long))]
 pub fn start_of(area: &[i32], n: usize, m: usize) -> usize
     requires { Ready area.now n m }
     ensures { result ≡ (run_in area.now).start }

@@ -45,11 +45,11 @@ with_arc-requires-clause-cell_lt_cell_room c =
     let far_at : c.far_of-q.result ≡ far c.args.c (arc_at (fields_in c.args.area.now) c.loop-k.k) = far_is c.args.c (fields_in c.args.area.now) c.loop-k.k c.arc_in-arc.ensures c.far_of-q.ensures in
     let far-low : c.far_of-q.result ≤ most_processes = omega (arith, far_at, ahead_far c.requires.ready here, ready_sizes c.requires.ready) in
     let a = ahead_arc c.requires.ready here in omega (
-        arith,
-        c.cell_of-cell.ensures.is,
-        far_old (ready_right c.requires.ready) c.loop-k.invariant c.loop-k-test.true far_at,
-        c.requires.room c.far_of-q.result far-low,
-      )
+      arith,
+      c.cell_of-cell.ensures.is,
+      far_old (ready_right c.requires.ready) c.loop-k.invariant c.loop-k-test.true far_at,
+      c.requires.room c.far_of-q.result far-low,
+    )
 
 pub offset_bounds-row-q : goal.offset_bounds-row-q
 offset_bounds-row-q c =

@@ -40,7 +40,6 @@ pub unsigned-requires : goal.unsigned-requires
 unsigned-requires c =
     let place : c.record_start-k.result ≡ record_start c.args.n c.args.m (run_in c.args.area.now).start = let a = c.args in
     c.record_start-k.ensures ∙ ap (λ (s : ℕ). record_start a.n a.m s) c.start_of-s.ensures in
-    
     let y = c.requires in
     counts_read _ (omega arith) (record_counts y (start_right y) place).num
 

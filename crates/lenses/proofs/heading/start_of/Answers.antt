@@ -3,11 +3,8 @@ use Rattle.std.proofs.Common.{arith, pos, nat_abs, get_or}
 use Rattle.areas.specs.Places.{start_place}
 use Rattle.areas.specs.Area.{run_in}
 use Rattle.areas.proofs.Signs.{word_read, counts_read}
-use Rattle.lenses.proofs.Stores.{long, start_counts}
+use Rattle.lenses.proofs.Stores.{start_counts}
 use Rattle.lenses.proofs.heading.start_of.Goals as goal
-
-pub bounds-area-1 : goal.bounds-area-1
-bounds-area-1 c = omega (arith, long c.requires)
 
 pub unsigned-requires : goal.unsigned-requires
 unsigned-requires c = counts_read _ (omega arith) (start_counts c.requires)

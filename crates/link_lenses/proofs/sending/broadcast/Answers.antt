@@ -37,7 +37,7 @@ push-requires-clause-linked c =
     let to_is : c.far_of-q.result ≡ far c.args.c (arc_at (fields_in c.args.area.now) c.loop-k.k) = far_is c.args.c (fields_in c.args.area.now) c.loop-k.k arc_is c.far_of-q.ensures in
     let l = c.loop-k in
     let room = sending_room c.requires.ready c.args.c c.args.b c.requires.le_b c.requires.spreadable l.invariant c.loop-k-test.true c.probe.ensures to_is in sending_link c.requires.ready c.args.c c.args.b c.requires.le_b c.requires.spreadable l.invariant c.loop-k-test.true c.requires.row to_is
-            c.cell_of.ensures.is c.place-i.ensures
+    c.cell_of.ensures.is c.place-i.ensures
 
 pub push-requires-clause-message_value : goal.push-requires-clause-message_value
 push-requires-clause-message_value c =
