@@ -7,8 +7,11 @@
 // the file stdin.
 #![tactic(auto)]
 
-fn print(text: &[u8]) {
-    io::write_all(libc::STDOUT_FILENO, text);
+use std::io;
+use std::io::{Read, Write};
+
+fn print<W: Write>(to: &mut W, text: &[u8]) -> io::Result<()> {
+    streams::print(to, text)
 }
 
 // 16 bits, unsigned, low byte first.
@@ -24,53 +27,62 @@ enum Heading {
     End,
 }
 
-fn next_heading() -> Heading {
+fn next_heading<R: Read>(from: &mut R) -> io::Result<Heading> {
     let mut head = [0u8; 2];
-    let got = io::read_full(libc::STDIN_FILENO, &mut head);
+    let got = streams::read_full(from, &mut head)?;
     if got == 0 {
-        return Heading::End;
+        return Ok(Heading::End);
     }
     if got < 2 {
-        return Heading::Short;
+        return Ok(Heading::Short);
     }
-    Heading::Case(word(head[0], head[1]))
+    Ok(Heading::Case(word(head[0], head[1])))
 }
 
 // Fills the bytes of case k from the input and runs it; gives whether the case was whole and its answer came out.
-fn fill_case(k: u64, bytes: &mut [u8]) -> bool {
-    let got = io::read_full(libc::STDIN_FILENO, bytes);
+fn fill_case<R: Read, W: Write>(
+    from: &mut R,
+    to: &mut W,
+    k: u64,
+    bytes: &mut [u8],
+) -> io::Result<bool> {
+    let got = streams::read_full(from, bytes)?;
     if got < bytes.len() {
-        print(b"input ends early\n");
-        return false;
+        print(to, b"input ends early\n")?;
+        return Ok(false);
     }
-    print(b"case ");
-    io::print_decimal(libc::STDOUT_FILENO, k);
-    print(b"\n");
-    printing::print_check(bytes)
+    print(to, b"case ")?;
+    streams::print_number(to, k)?;
+    print(to, b"\n")?;
+    Ok(printing::print_check(to, bytes))
 }
 
-fn read_case(k: u64, length: u16) -> bool {
+fn read_case<R: Read, W: Write>(from: &mut R, to: &mut W, k: u64, length: u16) -> io::Result<bool> {
     let mut bytes = [0u8; 65536];
     let end = length as usize;
-    fill_case(k, &mut bytes[0..end])
+    fill_case(from, to, k, &mut bytes[0..end])
 }
 
 // Case k; gives whether to go on.
-fn next_case(k: u64) -> bool {
-    match next_heading() {
-        Heading::Case(length) => read_case(k, length),
+fn next_case<R: Read, W: Write>(from: &mut R, to: &mut W, k: u64) -> io::Result<bool> {
+    match next_heading(from)? {
+        Heading::Case(length) => read_case(from, to, k, length),
         Heading::Short => {
-            print(b"input ends early\n");
-            false
+            print(to, b"input ends early\n")?;
+            Ok(false)
         }
-        Heading::End => false,
+        Heading::End => Ok(false),
     }
 }
 
 // Runs all cases. Nothing says that the input ends, so the loop has an end of its own, which no run reaches.
-fn main() {
-    let mut k: u64 = 1;
-    while k < 1000000000 && next_case(k) {
-        k += 1;
+fn main(rt: HostRuntime) -> io::Result<()> {
+    let mut from = rt.reader();
+    let mut to = io::writer(&rt);
+    for k in 1..1000000000 {
+        if !next_case(&mut from, &mut to, k)? {
+            break;
+        }
     }
+    Ok(())
 }

@@ -12,12 +12,14 @@
 // `input ends early` is the last line.
 //
 // The program promises only that it is safe and ends: what it prints is held to the file stdout, which tools/export_cases.py makes with the file
-// stdin. It stands on `pickledune`, a function of `areas`, and on the kit's `io` and `libc`.
+// stdin. It stands on `pickledune`, a function of `areas`, and on `streams`.
 #![tactic(auto)]
 
 ghost use Rattle.std.specs.Prelude.{◌≤◌};
 
 use areas::words;
+use std::io;
+use std::io::{Read, Write};
 
 // What every reference holds before a call that only stores through it, and what no call ever gives.
 const BEFORE: u32 = 4000000001;
@@ -26,41 +28,41 @@ const SIZE_BEFORE: usize = 4000000001;
 
 const SIGNED_BEFORE: i32 = 1000000001;
 
-fn print(text: &[u8]) {
-    io::write_all(libc::STDOUT_FILENO, text);
+fn print<W: Write>(to: &mut W, text: &[u8]) -> io::Result<()> {
+    streams::print(to, text)
 }
 
-fn print_number(n: u64) {
-    io::print_decimal(libc::STDOUT_FILENO, n);
+fn print_number<W: Write>(to: &mut W, n: u64) -> io::Result<()> {
+    streams::print_number(to, n)
 }
 
-fn print_size(n: usize) {
-    print(b" ");
-    print_number(n as u64);
+fn print_size<W: Write>(to: &mut W, n: usize) -> io::Result<()> {
+    print(to, b" ")?;
+    print_number(to, n as u64)
 }
 
-fn print_field(n: u32) {
-    print(b" ");
-    print_number(n as u64);
+fn print_field<W: Write>(to: &mut W, n: u32) -> io::Result<()> {
+    print(to, b" ")?;
+    print_number(to, n as u64)
 }
 
 // A negative number has a hyphen before it.
-fn print_digits(z: i32) {
+fn print_digits<W: Write>(to: &mut W, z: i32) -> io::Result<()> {
     if z < 0 {
-        print(b"-");
+        print(to, b"-")?;
     }
-    print_number(words::number(z) as u64);
+    print_number(to, words::number(z) as u64)
 }
 
-fn print_signed(z: i32) {
-    print(b" ");
-    print_digits(z);
+fn print_signed<W: Write>(to: &mut W, z: i32) -> io::Result<()> {
+    print(to, b" ")?;
+    print_digits(to, z)
 }
 
 // The beginning of a line: the name of the call and what it returned.
-fn print_answer(name: &[u8], number: u32) {
-    print(name);
-    print_field(number);
+fn print_answer<W: Write>(to: &mut W, name: &[u8], number: u32) -> io::Result<()> {
+    print(to, name)?;
+    print_field(to, number)
 }
 
 // 32 bits, low byte first.
@@ -109,54 +111,57 @@ fn fill(s: &[u8], list: &mut [u16]) {
     }
 }
 
-fn call_version() {
-    print_answer(b"version", pickledune::pickledune_version());
+fn call_version<W: Write>(to: &mut W) -> io::Result<()> {
+    print_answer(to, b"version", pickledune::pickledune_version())
 }
 
-fn call_layout() {
-    print_answer(b"layout", pickledune::pickledune_layout());
+fn call_layout<W: Write>(to: &mut W) -> io::Result<()> {
+    print_answer(to, b"layout", pickledune::pickledune_layout())
 }
 
-fn call_read_table(s: &[u8], table: &[u8]) {
+fn call_read_table<W: Write>(to: &mut W, s: &[u8], table: &[u8]) -> io::Result<()> {
     let end = lent(s, 1, table.len());
     let mut n = SIZE_BEFORE;
     let mut m = SIZE_BEFORE;
     let number = pickledune::pickledune_read_table(&table[0..end], &mut n, &mut m);
-    print_answer(b"read_table", number);
-    print_size(n);
-    print_size(m);
+    print_answer(to, b"read_table", number)?;
+    print_size(to, n)?;
+    print_size(to, m)
 }
 
-fn write_list(s: &[u8], list: &[u16], out: &mut [u8]) {
+fn write_list<W: Write>(to: &mut W, s: &[u8], list: &[u16], out: &mut [u8]) -> io::Result<()> {
     let mut length = SIZE_BEFORE;
     let number = pickledune::pickledune_write_table(size(s, 1), list, out, &mut length);
-    print_answer(b"write_table", number);
-    print_size(length);
+    print_answer(to, b"write_table", number)?;
+    print_size(to, length)
 }
 
-fn call_write_table(s: &[u8], table: &mut [u8]) {
+fn call_write_table<W: Write>(to: &mut W, s: &[u8], table: &mut [u8]) -> io::Result<()> {
     let mut list = [0u16; 14];
     fill(s, &mut list);
     let entries = lent(s, 2, 14);
     let end = lent(s, 3, table.len());
-    write_list(s, &list[0..entries], &mut table[0..end]);
+    write_list(to, s, &list[0..entries], &mut table[0..end])
 }
 
-fn call_open(s: &[u8], table: &[u8]) {
+fn call_open<W: Write>(to: &mut W, s: &[u8], table: &[u8]) -> io::Result<()> {
     let end = lent(s, 1, table.len());
     let mut arc = SIZE_BEFORE;
     let number = pickledune::pickledune_open(&table[0..end], word(s, 2), size(s, 3), &mut arc);
-    print_answer(b"open", number);
-    print_size(arc);
+    print_answer(to, b"open", number)?;
+    print_size(to, arc)
 }
 
-fn call_next(s: &[u8], table: &[u8]) {
+fn call_next<W: Write>(to: &mut W, s: &[u8], table: &[u8]) -> io::Result<()> {
     let end = lent(s, 1, table.len());
-    print(b"next");
-    print_size(pickledune::pickledune_next(&table[0..end], word(s, 2), size(s, 3)));
+    print(to, b"next")?;
+    print_size(
+        to,
+        pickledune::pickledune_next(&table[0..end], word(s, 2), size(s, 3)),
+    )
 }
 
-fn call_start(s: &[u8], table: &[u8], area: &mut [i32]) {
+fn call_start<W: Write>(to: &mut W, s: &[u8], table: &[u8], area: &mut [i32]) -> io::Result<()> {
     let end = lent(s, 1, table.len());
     let words = lent(s, 4, area.len());
     let number = pickledune::pickledune_start(
@@ -165,10 +170,10 @@ fn call_start(s: &[u8], table: &[u8], area: &mut [i32]) {
         size(s, 3),
         &mut area[0..words],
     );
-    print_answer(b"start", number);
+    print_answer(to, b"start", number)
 }
 
-fn call_pick(s: &[u8], area: &mut [i32]) {
+fn call_pick<W: Write>(to: &mut W, s: &[u8], area: &mut [i32]) -> io::Result<()> {
     let words = lent(s, 1, area.len());
     let mut kind = BEFORE;
     let mut count = SIGNED_BEFORE;
@@ -182,13 +187,13 @@ fn call_pick(s: &[u8], area: &mut [i32]) {
         &mut count,
         &mut second,
     );
-    print_answer(b"pick", number);
-    print_field(kind);
-    print_signed(count);
-    print_signed(second);
+    print_answer(to, b"pick", number)?;
+    print_field(to, kind)?;
+    print_signed(to, count)?;
+    print_signed(to, second)
 }
 
-fn call_run_on(s: &[u8], area: &mut [i32]) {
+fn call_run_on<W: Write>(to: &mut W, s: &[u8], area: &mut [i32]) -> io::Result<()> {
     let words = lent(s, 1, area.len());
     let mut over = BEFORE;
     let mut made = BEFORE;
@@ -198,12 +203,12 @@ fn call_run_on(s: &[u8], area: &mut [i32]) {
         &mut over,
         &mut made,
     );
-    print_answer(b"run_on", number);
-    print_field(over);
-    print_field(made);
+    print_answer(to, b"run_on", number)?;
+    print_field(to, over)?;
+    print_field(to, made)
 }
 
-fn call_run_shuffled(s: &[u8], area: &mut [i32]) {
+fn call_run_shuffled<W: Write>(to: &mut W, s: &[u8], area: &mut [i32]) -> io::Result<()> {
     let words = lent(s, 1, area.len());
     let mut over = BEFORE;
     let mut made = BEFORE;
@@ -214,12 +219,12 @@ fn call_run_shuffled(s: &[u8], area: &mut [i32]) {
         &mut over,
         &mut made,
     );
-    print_answer(b"run_shuffled", number);
-    print_field(over);
-    print_field(made);
+    print_answer(to, b"run_shuffled", number)?;
+    print_field(to, over)?;
+    print_field(to, made)
 }
 
-fn call_report(s: &[u8], area: &[i32]) {
+fn call_report<W: Write>(to: &mut W, s: &[u8], area: &[i32]) -> io::Result<()> {
     let words = lent(s, 1, area.len());
     let mut deliveries = BEFORE;
     let mut knot = BEFORE;
@@ -234,16 +239,17 @@ fn call_report(s: &[u8], area: &[i32]) {
         &mut escape,
         &mut returned,
     );
-    print_answer(b"report", number);
-    print_field(deliveries);
-    print_field(knot);
-    print_signed(outside);
-    print_field(escape);
-    print_field(returned);
+    print_answer(to, b"report", number)?;
+    print_field(to, deliveries)?;
+    print_field(to, knot)?;
+    print_signed(to, outside)?;
+    print_field(to, escape)?;
+    print_field(to, returned)
 }
 
 // The seven values of a record.
-fn print_record(
+fn print_record<W: Write>(
+    to: &mut W,
     succeeding: u32,
     preceding: u32,
     subordinate: u32,
@@ -251,17 +257,17 @@ fn print_record(
     num: u32,
     father: u32,
     second: i32,
-) {
-    print_field(succeeding);
-    print_field(preceding);
-    print_field(subordinate);
-    print_signed(cs);
-    print_field(num);
-    print_field(father);
-    print_signed(second);
+) -> io::Result<()> {
+    print_field(to, succeeding)?;
+    print_field(to, preceding)?;
+    print_field(to, subordinate)?;
+    print_signed(to, cs)?;
+    print_field(to, num)?;
+    print_field(to, father)?;
+    print_signed(to, second)
 }
 
-fn call_read_record(s: &[u8], area: &[i32]) {
+fn call_read_record<W: Write>(to: &mut W, s: &[u8], area: &[i32]) -> io::Result<()> {
     let words = lent(s, 1, area.len());
     let mut succeeding = BEFORE;
     let mut preceding = BEFORE;
@@ -281,19 +287,34 @@ fn call_read_record(s: &[u8], area: &[i32]) {
         &mut father,
         &mut second,
     );
-    print_answer(b"read_record", number);
-    print_record(succeeding, preceding, subordinate, cs, num, father, second);
+    print_answer(to, b"read_record", number)?;
+    print_record(
+        to,
+        succeeding,
+        preceding,
+        subordinate,
+        cs,
+        num,
+        father,
+        second,
+    )
 }
 
 // What a step sends.
-fn print_sent(probes: u32, reply_to: u32, reply_count: i32, reply_second: i32) {
-    print_field(probes);
-    print_field(reply_to);
-    print_signed(reply_count);
-    print_signed(reply_second);
+fn print_sent<W: Write>(
+    to: &mut W,
+    probes: u32,
+    reply_to: u32,
+    reply_count: i32,
+    reply_second: i32,
+) -> io::Result<()> {
+    print_field(to, probes)?;
+    print_field(to, reply_to)?;
+    print_signed(to, reply_count)?;
+    print_signed(to, reply_second)
 }
 
-fn call_step(s: &[u8]) {
+fn call_step<W: Write>(to: &mut W, s: &[u8]) -> io::Result<()> {
     let mut succeeding = word(s, 1);
     let mut preceding = word(s, 2);
     let mut subordinate = word(s, 3);
@@ -324,91 +345,108 @@ fn call_step(s: &[u8]) {
         &mut reply_count,
         &mut reply_second,
     );
-    print_answer(b"step", number);
-    print_record(succeeding, preceding, subordinate, cs, num, father, second);
-    print_sent(probes, reply_to, reply_count, reply_second);
+    print_answer(to, b"step", number)?;
+    print_record(
+        to,
+        succeeding,
+        preceding,
+        subordinate,
+        cs,
+        num,
+        father,
+        second,
+    )?;
+    print_sent(to, probes, reply_to, reply_count, reply_second)
 }
 
-fn print_word(place: usize, word: i32) {
+fn print_word<W: Write>(to: &mut W, place: usize, word: i32) -> io::Result<()> {
     if word == 0 {
-        return;
+        return Ok(());
     }
-    print_size(place);
-    print(b":");
-    print_digits(word);
+    print_size(to, place)?;
+    print(to, b":")?;
+    print_digits(to, word)
 }
 
 // The words of the area that are not 0.
-fn print_words(area: &[i32]) {
-    print(b"words");
-    let mut k: usize = 0;
-    while k < area.len() {
-        print_word(k, area[k]);
-        k += 1;
+fn print_words<W: Write>(to: &mut W, area: &[i32]) -> io::Result<()> {
+    print(to, b"words")?;
+    for k in 0..area.len() {
+        print_word(to, k, area[k])?;
     }
+    Ok(())
 }
 
-fn call_words(s: &[u8], area: &[i32]) {
+fn call_words<W: Write>(to: &mut W, s: &[u8], area: &[i32]) -> io::Result<()> {
     let words = lent(s, 1, area.len());
-    print_words(&area[0..words]);
+    print_words(to, &area[0..words])
 }
 
 // The calls on a table.
-fn call_on_table(s: &[u8], table: &mut [u8]) {
+fn call_on_table<W: Write>(to: &mut W, s: &[u8], table: &mut [u8]) -> io::Result<()> {
     match word(s, 0) {
-        1 => call_version(),
-        2 => call_layout(),
-        3 => call_read_table(s, table),
-        4 => call_write_table(s, table),
-        5 => call_open(s, table),
-        _ => call_next(s, table),
+        1 => call_version(to),
+        2 => call_layout(to),
+        3 => call_read_table(to, s, table),
+        4 => call_write_table(to, s, table),
+        5 => call_open(to, s, table),
+        _ => call_next(to, s, table),
     }
 }
 
 // The calls on an area that was started, and those that need none.
-fn call_on_area(s: &[u8], area: &mut [i32]) {
+fn call_on_area<W: Write>(to: &mut W, s: &[u8], area: &mut [i32]) -> io::Result<()> {
     match word(s, 0) {
-        8 => call_pick(s, area),
-        9 => call_run_on(s, area),
-        10 => call_run_shuffled(s, area),
-        11 => call_report(s, area),
-        12 => call_read_record(s, area),
-        13 => call_step(s),
-        14 => call_words(s, area),
-        _ => print(b"no such call"),
+        8 => call_pick(to, s, area),
+        9 => call_run_on(to, s, area),
+        10 => call_run_shuffled(to, s, area),
+        11 => call_report(to, s, area),
+        12 => call_read_record(to, s, area),
+        13 => call_step(to, s),
+        14 => call_words(to, s, area),
+        _ => print(to, b"no such call"),
     }
 }
 
-fn make_call(s: &[u8], table: &mut [u8], area: &mut [i32]) {
+fn make_call<W: Write>(to: &mut W, s: &[u8], table: &mut [u8], area: &mut [i32]) -> io::Result<()> {
     match word(s, 0) {
-        1..=6 => call_on_table(s, table),
-        7 => call_start(s, table, area),
-        _ => call_on_area(s, area),
+        1..=6 => call_on_table(to, s, table),
+        7 => call_start(to, s, table, area),
+        _ => call_on_area(to, s, area),
     }
 }
 
 // One call; gives whether to go on.
-fn next_call(table: &mut [u8], area: &mut [i32]) -> bool {
+fn next_call<R: Read, W: Write>(
+    from: &mut R,
+    to: &mut W,
+    table: &mut [u8],
+    area: &mut [i32],
+) -> io::Result<bool> {
     let mut bytes = [0u8; 72];
-    let got = io::read_full(libc::STDIN_FILENO, &mut bytes);
+    let got = streams::read_full(from, &mut bytes)?;
     if got == 0 {
-        return false;
+        return Ok(false);
     }
     if got < 72 {
-        print(b"input ends early\n");
-        return false;
+        print(to, b"input ends early\n")?;
+        return Ok(false);
     }
-    make_call(&bytes, table, area);
-    print(b"\n");
-    true
+    make_call(to, &bytes, table, area)?;
+    print(to, b"\n")?;
+    Ok(true)
 }
 
-// Makes all calls. Nothing says that the input ends, so the loop counts its turns down, from a number that no run uses up.
-fn main() {
+// Makes all calls. Nothing says that the input ends, so the loop counts its turns, up to a number that no run uses up.
+fn main(rt: HostRuntime) -> io::Result<()> {
+    let mut from = rt.reader();
+    let mut to = io::writer(&rt);
     let mut table = [0u8; 96];
     let mut area = [0i32; 256];
-    let mut turns = u64::MAX;
-    while turns > 0 && next_call(&mut table, &mut area) {
-        turns -= 1;
+    for _ in 0..u64::MAX {
+        if !next_call(&mut from, &mut to, &mut table, &mut area)? {
+            break;
+        }
     }
+    Ok(())
 }

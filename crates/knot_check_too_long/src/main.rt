@@ -2,6 +2,6 @@
 // stdin and stdout.
 #![tactic(auto)]
 
-fn main() {
-    printing::check_standard_input();
+fn main(rt: HostRuntime) {
+    printing::check_standard_input(&rt);
 }

@@ -3,23 +3,26 @@
 // promise is an equation of these bytes with one function of the input's bytes (program_text, `Program`). Each part of `form` says which run the
 // area holds after it, and that just its own lines were put, behind those before.
 //
-// `check_standard_input` reads, calls `form` and writes. It stands on `inputs`, `delivery_lines`, `end_lines`, `reading` and below, and the kit's
-// `io` and `libc`.
+// `check_standard_input` reads, calls `form` and writes. It stands on `inputs`, `delivery_lines`, `end_lines`, `reading` and below, and `streams`.
 #![tactic(auto)]
 
-ghost use Rattle.std.specs.Prelude.{◌+◌, ◌≤◌, ◌≡◌, true, length};
+ghost use Rattle.std.specs.Prelude.{◌+◌, ◌≤◌, ◌≡◌, true, length, take, IfSome};
+ghost use Rattle.std.specs.Io.KnownBytes.{Appends};
 ghost use Rattle.areas.specs.Area.{run_in, area_right};
 ghost use Rattle.lenses.specs.Ready.{Ready};
-ghost use Rattle.inputs.specs.Input.{table_end, picks_in};
+ghost use Rattle.inputs.specs.Input.{table_end, picks_in, longest};
 ghost use Rattle.lines.specs.Adding.{Put};
 ghost use Rattle.program_text.specs.Program.{first_run, rest_text, check_text, program_text};
 ghost use Rattle.printing.specs.Form.{form_of, formed_in};
+ghost use Rattle.printing.specs.declared.Checked.TheVariants.{Printed, NotRead};
 
 use areas::places;
 use inputs::Begun;
 use lenses::heading;
 use marks::parts;
 use reading::Taken;
+use std::io;
+use std::io::{Read, Write};
 
 // As many picks as the longest input has behind the largest table, 3,966.
 const MOST_PICKS: usize = (inputs::LONGEST - 4 - places::MOST_BYTES) / 4;
@@ -91,30 +94,47 @@ pub fn form(input: &[u8], out: &mut [u8]) -> Text
 }
 
 // Prints the answer to an input; gives whether all of it came out.
-pub fn print_check(input: &[u8]) -> bool {
+pub fn print_check<W: Write>(to: &mut W, input: &[u8]) -> bool
+    ensures { result ≡ true → Appends (W.contents to.old) (W.contents to.new) (program_text input.now) }
+{
     let mut output = [0u8; LONGEST_OUTPUT];
     match form(input, &mut output) {
-        Text::Formed(length) => io::write_all(libc::STDOUT_FILENO, &output[0..length]),
+        Text::Formed(length) => streams::print(to, &output[0..length]).is_ok(),
         Text::Refused(_) => false,
     }
 }
 
-// Prints the answer to the input that standard input holds. If a read fails nothing is printed, and if a write fails nothing after it; both
-// are said on standard error. One byte more than the longest input is read, so that a longer one is seen.
-pub fn check_standard_input() {
+// What came of a check: all of the answer came out; a read failed, and nothing was printed; or a write failed.
+#[derive(Clone, Copy)]
+pub enum Checked {
+    Printed,
+    NotRead,
+    NotWritten,
+}
+
+// Reads an input to its end, and prints the answer to it. One byte more than the longest input is read, so that a longer one is seen.
+pub fn check_input<R: Read, W: Write>(from: &mut R, to: &mut W) -> Checked
+    ensures printed { result ≡ Printed → IfSome (R.remaining from.old) (λ bs. Appends (W.contents to.old) (W.contents to.new) (program_text (take (longest + 1) bs))) }
+    ensures not_read { result ≡ NotRead → W.contents to.new ≡ W.contents to.old }
+{
     let mut input = [0u8; inputs::LONGEST + 1];
-    let Taken { failed, length } = reading::read_input(&mut input);
+    let Taken { failed, length } = reading::read_input(from, &mut input);
     if failed {
-        io::write_all(
-            libc::STDERR_FILENO,
-            b"knot_check: reading standard input failed\n",
-        );
-        return;
+        return Checked::NotRead;
     }
-    if !print_check(&input[0..length]) {
-        io::write_all(
-            libc::STDERR_FILENO,
-            b"knot_check: writing standard output failed\n",
-        );
+    if print_check(to, &input[0..length]) {
+        Checked::Printed
+    } else {
+        Checked::NotWritten
     }
+}
+
+// Prints the answer to the input that standard input holds. If a read fails nothing is printed, and if a write fails nothing after it; both
+// are said on standard error.
+pub fn check_standard_input(rt: &(impl Input + Print + Eprint)) {
+    let _ = match check_input(&mut rt.reader(), &mut io::writer(rt)) {
+        Checked::Printed => Ok(()),
+        Checked::NotRead => rt.eprintln("knot_check: reading standard input failed"),
+        Checked::NotWritten => rt.eprintln("knot_check: writing standard output failed"),
+    };
 }

@@ -9,33 +9,35 @@
 // `no such case`. If bytes are left that make no whole case, `input ends early` is the last line.
 //
 // The program promises only that it is safe and ends: what it prints is held to the file stdout, which tools/step_cases.py makes with the
-// file stdin. It stands on `lending`, `steps`, a function of `areas`, and on the kit's `io` and `libc`.
+// file stdin. It stands on `lending`, `steps`, a function of `areas`, and on `streams`.
 #![tactic(auto)]
 
 use areas::words;
 use lending::{Lent, Outcome};
+use std::io;
+use std::io::{Read, Write};
 use steps::{Message, Probes, Process, Reply, TwoCounts};
 
-fn print(text: &[u8]) {
-    io::write_all(libc::STDOUT_FILENO, text);
+fn print<W: Write>(to: &mut W, text: &[u8]) -> io::Result<()> {
+    streams::print(to, text)
 }
 
-fn print_number(n: u32) {
-    io::print_decimal(libc::STDOUT_FILENO, n as u64);
+fn print_number<W: Write>(to: &mut W, n: u32) -> io::Result<()> {
+    streams::print_number(to, n as u64)
 }
 
-fn print_field(n: u32) {
-    print(b" ");
-    print_number(n);
+fn print_field<W: Write>(to: &mut W, n: u32) -> io::Result<()> {
+    print(to, b" ")?;
+    print_number(to, n)
 }
 
 // A negative number has a hyphen before it.
-fn print_signed(z: i32) {
-    print(b" ");
+fn print_signed<W: Write>(to: &mut W, z: i32) -> io::Result<()> {
+    print(to, b" ")?;
     if z < 0 {
-        print(b"-");
+        print(to, b"-")?;
     }
-    print_number(words::number(z));
+    print_number(to, words::number(z))
 }
 
 // 32 bits, low byte first.
@@ -60,54 +62,54 @@ fn signed(w: u32) -> i32 {
     }
 }
 
-fn print_process(process: Process) {
-    print_field(process.succeeding);
-    print_field(process.preceding);
-    print_field(process.subordinate);
-    print_signed(process.cs);
-    print_field(process.num);
-    print_field(process.father);
-    print_signed(process.second);
+fn print_process<W: Write>(to: &mut W, process: Process) -> io::Result<()> {
+    print_field(to, process.succeeding)?;
+    print_field(to, process.preceding)?;
+    print_field(to, process.subordinate)?;
+    print_signed(to, process.cs)?;
+    print_field(to, process.num)?;
+    print_field(to, process.father)?;
+    print_signed(to, process.second)
 }
 
-fn print_probes(probes: Probes) {
+fn print_probes<W: Write>(to: &mut W, probes: Probes) -> io::Result<()> {
     match probes {
-        Probes::Nothing => print(b" none"),
-        Probes::Sucs => print(b" suc"),
-        Probes::Pres => print(b" pre"),
+        Probes::Nothing => print(to, b" none"),
+        Probes::Sucs => print(to, b" suc"),
+        Probes::Pres => print(to, b" pre"),
     }
 }
 
-fn print_reply(reply: Reply) {
+fn print_reply<W: Write>(to: &mut W, reply: Reply) -> io::Result<()> {
     match reply {
-        Reply::Nothing => print(b" none"),
+        Reply::Nothing => print(to, b" none"),
         Reply::To { process, counts } => {
-            print(b" ack");
-            print_field(process);
-            print_signed(counts.count);
-            print_signed(counts.second);
+            print(to, b" ack")?;
+            print_field(to, process)?;
+            print_signed(to, counts.count)?;
+            print_signed(to, counts.second)
         }
     }
 }
 
 // The line of a case.
-fn print_outcome(outcome: Outcome) {
+fn print_outcome<W: Write>(to: &mut W, outcome: Outcome) -> io::Result<()> {
     let process = outcome.process;
     let answer = outcome.answer;
     match answer {
         Lent::Taken { probes, reply } => {
-            print_number(0);
-            print_process(process);
-            print_probes(probes);
-            print_reply(reply);
+            print_number(to, 0)?;
+            print_process(to, process)?;
+            print_probes(to, probes)?;
+            print_reply(to, reply)?;
         }
         Lent::Refused(number) => {
-            print_number(number);
-            print_process(process);
-            print(b" none none");
+            print_number(to, number)?;
+            print_process(to, process)?;
+            print(to, b" none none")?;
         }
     }
-    print(b"\n");
+    print(to, b"\n")
 }
 
 fn record_of(s: &[u8]) -> Process {
@@ -130,39 +132,46 @@ fn counts_of(s: &[u8]) -> TwoCounts {
 }
 
 // Lends the record in the bytes with that message.
-fn step_case(s: &[u8], message: Message) {
+fn step_case<W: Write>(to: &mut W, s: &[u8], message: Message) -> io::Result<()> {
     let record = record_of(s);
-    print_outcome(lending::lend(record, message, word(s, 10), word(s, 11), word(s, 12)));
+    print_outcome(
+        to,
+        lending::lend(record, message, word(s, 10), word(s, 11), word(s, 12)),
+    )
 }
 
-fn run_case(s: &[u8]) {
+fn run_case<W: Write>(to: &mut W, s: &[u8]) -> io::Result<()> {
     match word(s, 7) {
-        1 => step_case(s, Message::Suc),
-        2 => step_case(s, Message::Pre),
-        3 => step_case(s, Message::Ack(counts_of(s))),
-        _ => print(b"no such case\n"),
+        1 => step_case(to, s, Message::Suc),
+        2 => step_case(to, s, Message::Pre),
+        3 => step_case(to, s, Message::Ack(counts_of(s))),
+        _ => print(to, b"no such case\n"),
     }
 }
 
 // One case; gives whether to go on.
-fn next_case() -> bool {
+fn next_case<R: Read, W: Write>(from: &mut R, to: &mut W) -> io::Result<bool> {
     let mut bytes = [0u8; 52];
-    let got = io::read_full(libc::STDIN_FILENO, &mut bytes);
+    let got = streams::read_full(from, &mut bytes)?;
     if got == 0 {
-        return false;
+        return Ok(false);
     }
     if got < 52 {
-        print(b"input ends early\n");
-        return false;
+        print(to, b"input ends early\n")?;
+        return Ok(false);
     }
-    run_case(&bytes);
-    true
+    run_case(to, &bytes)?;
+    Ok(true)
 }
 
-// Runs all cases. Nothing says that the input ends, so the loop counts its turns down, from a number that no run uses up.
-fn main() {
-    let mut turns = u64::MAX;
-    while turns > 0 && next_case() {
-        turns -= 1;
+// Runs all cases. Nothing says that the input ends, so the loop counts its turns, up to a number that no run uses up.
+fn main(rt: HostRuntime) -> io::Result<()> {
+    let mut from = rt.reader();
+    let mut to = io::writer(&rt);
+    for _ in 0..u64::MAX {
+        if !next_case(&mut from, &mut to)? {
+            break;
+        }
     }
+    Ok(())
 }

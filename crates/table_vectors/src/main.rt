@@ -16,12 +16,14 @@
 // no whole case, `input ends early` is the last line. No case is refused for its length: any 16 bits will do.
 //
 // The program promises only that it is safe and ends: what it prints is held to the file stdout, which tools/table_vectors.py makes
-// with the file stdin. It stands on those three, on `walk_output`, which prints the walks, and on the kit's `io` and `libc`. A part of an
+// with the file stdin. It stands on those three, on `walk_output`, which prints the walks, and on `streams`. A part of an
 // array is written from 0, `[0..end]`, which asks only for the bounds.
 #![tactic(auto)]
 
 ghost use Rattle.std.specs.Prelude.{◌≤◌, length};
 
+use std::io;
+use std::io::{Read, Write};
 use table_writer::Writing;
 use tables::Reading;
 use walk_output::output::{print, print_number};
@@ -86,208 +88,219 @@ fn checksum(s: &[u8]) -> u64 {
     65536 * b + a
 }
 
-fn print_kept(is_kept: bool) {
+fn print_kept<W: Write>(to: &mut W, is_kept: bool) -> io::Result<()> {
     if is_kept {
-        print(b" kept\n");
+        print(to, b" kept\n")
     } else {
-        print(b" changed\n");
+        print(to, b" changed\n")
     }
 }
 
-fn print_accepted(n: usize, m: usize) {
-    print(b"read accepted ");
-    print_number(n as u64);
-    print(b" ");
-    print_number(m as u64);
-    print(b"\n");
+fn print_accepted<W: Write>(to: &mut W, n: usize, m: usize) -> io::Result<()> {
+    print(to, b"read accepted ")?;
+    print_number(to, n as u64)?;
+    print(to, b" ")?;
+    print_number(to, m as u64)?;
+    print(to, b"\n")
 }
 
-fn print_refused(number: u32) {
-    print(b"read refused ");
-    print_number(number as u64);
-    print(b"\n");
+fn print_refused<W: Write>(to: &mut W, number: u32) -> io::Result<()> {
+    print(to, b"read refused ")?;
+    print_number(to, number as u64)?;
+    print(to, b"\n")
 }
 
 // Prints the answer of reading the bytes, the walks along their chains and the steps from their arcs.
-fn print_reading(s: &[u8]) {
+fn print_reading<W: Write>(to: &mut W, s: &[u8]) -> io::Result<()> {
     match table_reader::read(s) {
         Reading::Accepted { n, m } => {
-            print_accepted(n, m);
-            print_walks(s, n);
+            print_accepted(to, n, m)?;
+            print_walks(to, s, n)?;
         }
         Reading::Refused(number) => {
-            print_refused(number);
-            print_both(s, 1);
+            print_refused(to, number)?;
+            print_both(to, s, 1)?;
         }
     }
-    print_steps(s);
+    print_steps(to, s)
 }
 
 // Prints the ends of arc k, or nothing if the bytes have no such arc.
-fn print_arc(s: &[u8], k: usize) {
+fn print_arc<W: Write>(to: &mut W, s: &[u8], k: usize) -> io::Result<()> {
     if s.len() < 4 {
-        return;
+        return Ok(());
     }
     if k == 0 {
-        return;
+        return Ok(());
     }
     if 512 < k {
-        return;
+        return Ok(());
     }
     let n = table_reader::field(s, 0);
     if 128 < n {
-        return;
+        return Ok(());
     }
     if s.len() < 4 + 4 * n + 8 * k {
-        return;
+        return Ok(());
     }
     let arc = table_reader::arc_at(s, n, k);
-    print(b"arc ");
-    print_number(k as u64);
-    print(b": ");
-    print_number(arc.from as u64);
-    print(b" ");
-    print_number(arc.to as u64);
-    print(b"\n");
+    print(to, b"arc ")?;
+    print_number(to, k as u64)?;
+    print(to, b": ")?;
+    print_number(to, arc.from as u64)?;
+    print(to, b" ")?;
+    print_number(to, arc.to as u64)?;
+    print(to, b"\n")
 }
 
-fn print_arcs(s: &[u8], m: usize) {
-    let mut k = 0;
-    while k < m {
-        k += 1;
-        print_arc(s, k);
+fn print_arcs<W: Write>(to: &mut W, s: &[u8], m: usize) -> io::Result<()> {
+    for k in 1..=m {
+        print_arc(to, s, k)?;
     }
+    Ok(())
 }
 
 // Prints the table in the bytes as it is read back.
-fn print_table(s: &[u8]) {
+fn print_table<W: Write>(to: &mut W, s: &[u8]) -> io::Result<()> {
     match table_reader::read(s) {
         Reading::Accepted { n, m } => {
-            print_accepted(n, m);
+            print_accepted(to, n, m)?;
             if m <= FEW {
-                print_arcs(s, m);
-                print_walks(s, n);
+                print_arcs(to, s, m)?;
+                print_walks(to, s, n)?;
             }
+            Ok(())
         }
-        Reading::Refused(number) => print_refused(number),
+        Reading::Refused(number) => print_refused(to, number),
     }
 }
 
 // Prints the answer of writing into the output.
-fn print_writing(answer: Writing, out: &[u8]) {
+fn print_writing<W: Write>(to: &mut W, answer: Writing, out: &[u8]) -> io::Result<()> {
     match answer {
         Writing::Refused(number) => {
-            print(b"write refused ");
-            print_number(number as u64);
-            print_kept(is_kept(out, 0));
+            print(to, b"write refused ")?;
+            print_number(to, number as u64)?;
+            print_kept(to, is_kept(out, 0))
         }
         Writing::Written(length) => {
-            print(b"write ");
-            print_number(length as u64);
+            print(to, b"write ")?;
+            print_number(to, length as u64)?;
             if out.len() < length {
-                print(b" past the output\n");
-                return;
+                return print(to, b" past the output\n");
             }
-            print_kept(is_kept(out, length));
-            print_table(&out[0..length]);
-            print(b"sum ");
-            print_number(checksum(out));
-            print(b"\n");
+            print_kept(to, is_kept(out, length))?;
+            print_table(to, &out[0..length])?;
+            print(to, b"sum ")?;
+            print_number(to, checksum(out))?;
+            print(to, b"\n")
         }
     }
 }
 
 // Writes the table of n processes and of the list's pairs into the output.
-fn write_into(n: usize, list: &[u16], out: &mut [u8]) {
+fn write_into<W: Write>(to: &mut W, n: usize, list: &[u16], out: &mut [u8]) -> io::Result<()> {
     let answer = table_writer::write(n, list, out);
-    print_writing(answer, out);
+    print_writing(to, answer, out)
 }
 
 // The same, into an output of that many marks.
-fn write_list(n: usize, list: &[u16], space: u16) {
+fn write_list<W: Write>(to: &mut W, n: usize, list: &[u16], space: u16) -> io::Result<()> {
     let mut room = [MARK; 65536];
     let end = space as usize;
-    write_into(n, list, &mut room[0..end]);
+    write_into(to, n, list, &mut room[0..end])
 }
 
-fn no_such_case() {
-    print(b"no such case\n");
+fn no_such_case<W: Write>(to: &mut W) -> io::Result<()> {
+    print(to, b"no such case\n")
 }
 
-fn ends_early() {
-    print(b"input ends early\n");
+fn ends_early<W: Write>(to: &mut W) -> io::Result<()> {
+    print(to, b"input ends early\n")
 }
 
-fn write_case(s: &[u8]) {
+fn write_case<W: Write>(to: &mut W, s: &[u8]) -> io::Result<()> {
     if s.len() < 4 {
-        no_such_case();
-        return;
+        return no_such_case(to);
     }
     if s.len() % 2 != 0 {
-        no_such_case();
-        return;
+        return no_such_case(to);
     }
     let n = word(s[0], s[1]) as usize;
     let space = word(s[2], s[3]);
     let mut list = [0u16; 32768];
     let count = entries(&s[4..], &mut list);
-    write_list(n, &list[0..count], space);
+    write_list(to, n, &list[0..count], space)
 }
 
-fn run_case(kind: u8, s: &[u8]) {
+fn run_case<W: Write>(to: &mut W, kind: u8, s: &[u8]) -> io::Result<()> {
     match kind {
-        b'R' => print_reading(s),
-        b'W' => write_case(s),
-        _ => no_such_case(),
+        b'R' => print_reading(to, s),
+        b'W' => write_case(to, s),
+        _ => no_such_case(to),
     }
 }
 
-fn next_heading() -> Heading {
+fn next_heading<R: Read>(from: &mut R) -> io::Result<Heading> {
     let mut head = [0u8; 3];
-    let got = io::read_full(libc::STDIN_FILENO, &mut head);
+    let got = streams::read_full(from, &mut head)?;
     if got == 0 {
-        return Heading::End;
+        return Ok(Heading::End);
     }
     if got < 3 {
-        return Heading::Short;
+        return Ok(Heading::Short);
     }
-    Heading::Case(head[0], word(head[1], head[2]))
+    Ok(Heading::Case(head[0], word(head[1], head[2])))
 }
 
 // Fills the bytes of a case from the input and runs it; gives whether the case was whole.
-fn fill_case(kind: u8, s: &mut [u8]) -> bool {
-    let got = io::read_full(libc::STDIN_FILENO, s);
+fn fill_case<R: Read, W: Write>(
+    from: &mut R,
+    to: &mut W,
+    kind: u8,
+    s: &mut [u8],
+) -> io::Result<bool> {
+    let got = streams::read_full(from, s)?;
     if got < s.len() {
-        ends_early();
-        return false;
+        ends_early(to)?;
+        return Ok(false);
     }
-    run_case(kind, s);
-    true
+    run_case(to, kind, s)?;
+    Ok(true)
 }
 
 // The same, for a case of that many bytes.
-fn read_case(kind: u8, length: u16) -> bool {
+fn read_case<R: Read, W: Write>(
+    from: &mut R,
+    to: &mut W,
+    kind: u8,
+    length: u16,
+) -> io::Result<bool> {
     let mut bytes = [0u8; 65536];
     let end = length as usize;
-    fill_case(kind, &mut bytes[0..end])
+    fill_case(from, to, kind, &mut bytes[0..end])
 }
 
 // One case; gives whether to go on.
-fn next_case() -> bool {
-    match next_heading() {
-        Heading::Case(kind, length) => read_case(kind, length),
+fn next_case<R: Read, W: Write>(from: &mut R, to: &mut W) -> io::Result<bool> {
+    match next_heading(from)? {
+        Heading::Case(kind, length) => read_case(from, to, kind, length),
         Heading::Short => {
-            ends_early();
-            false
+            ends_early(to)?;
+            Ok(false)
         }
-        Heading::End => false,
+        Heading::End => Ok(false),
     }
 }
 
-// Runs all cases. Nothing says that the input ends, so the loop counts its turns down, from a number that no run uses up.
-fn main() {
-    let mut turns = u64::MAX;
-    while turns > 0 && next_case() {
-        turns -= 1;
+// Runs all cases. Nothing says that the input ends, so the loop counts its turns, up to a number that no run uses up.
+fn main(rt: HostRuntime) -> io::Result<()> {
+    let mut from = rt.reader();
+    let mut to = io::writer(&rt);
+    for _ in 0..u64::MAX {
+        if !next_case(&mut from, &mut to)? {
+            break;
+        }
     }
+    Ok(())
 }

@@ -27,42 +27,44 @@ mod cases;
 use cases::Tally;
 use drawing::families::Family;
 use drawing::{families, numbers};
+use std::io;
+use std::io::Write;
 
-fn print(text: &[u8]) {
-    io::write_all(libc::STDOUT_FILENO, text);
+fn print<W: Write>(to: &mut W, text: &[u8]) -> io::Result<()> {
+    streams::print(to, text)
 }
 
-fn print_number(text: &[u8], n: u64) {
-    print(text);
-    io::print_decimal(libc::STDOUT_FILENO, n);
+fn print_number<W: Write>(to: &mut W, text: &[u8], n: u64) -> io::Result<()> {
+    print(to, text)?;
+    streams::print_number(to, n)
 }
 
-fn print_tally(f: Family, t: Tally) {
-    print_number(b"up to ", f.n as u64);
-    print_number(b" processes: cases ", t.cases);
-    print_number(b", knots ", t.first);
-    print_number(b", by the second edition ", t.second);
-    print_number(b", returned ", t.returned);
-    print_number(b", runs ", t.runs);
-    print_number(b", deliveries ", t.deliveries);
-    print_number(b", overtaking ", t.overtaking);
-    print_number(b", shuffled ", t.shuffled);
-    print(b"\n");
+fn print_tally<W: Write>(to: &mut W, f: Family, t: Tally) -> io::Result<()> {
+    print_number(to, b"up to ", f.n as u64)?;
+    print_number(to, b" processes: cases ", t.cases)?;
+    print_number(to, b", knots ", t.first)?;
+    print_number(to, b", by the second edition ", t.second)?;
+    print_number(to, b", returned ", t.returned)?;
+    print_number(to, b", runs ", t.runs)?;
+    print_number(to, b", deliveries ", t.deliveries)?;
+    print_number(to, b", overtaking ", t.overtaking)?;
+    print_number(to, b", shuffled ", t.shuffled)?;
+    print(to, b"\n")
 }
 
-fn print_count(text: &[u8], n: u32) {
-    print_number(text, n as u64);
+fn print_count<W: Write>(to: &mut W, text: &[u8], n: u32) -> io::Result<()> {
+    print_number(to, text, n as u64)
 }
 
 // Names the first difference, in the last run of the family whose line stands above.
-fn print_difference(t: Tally) {
-    print_number(b"first difference: start ", t.start as u64);
-    print_number(b", edition ", t.edition as u64);
-    print_number(b", order ", t.order as u64);
-    print_count(b", delivery ", t.made);
-    print_count(b" of ", t.due);
-    print_count(b", number in expecting::faults ", t.fault);
-    print(b"\n");
+fn print_difference<W: Write>(to: &mut W, t: Tally) -> io::Result<()> {
+    print_number(to, b"first difference: start ", t.start as u64)?;
+    print_number(to, b", edition ", t.edition as u64)?;
+    print_number(to, b", order ", t.order as u64)?;
+    print_count(to, b", delivery ", t.made)?;
+    print_count(to, b" of ", t.due)?;
+    print_count(to, b", number in expecting::faults ", t.fault)?;
+    print(to, b"\n")
 }
 
 // Case k + 1 of a family.
@@ -83,15 +85,15 @@ fn run_family(number: usize, f: Family) -> Tally {
     t
 }
 
-fn main() {
+fn main(rt: HostRuntime) -> io::Result<()> {
+    let mut to = io::writer(&rt);
     for number in 0..families::FAMILIES {
         let f = families::family_of(number);
         let t = run_family(number, f);
-        print_tally(f, t);
+        print_tally(&mut to, f, t)?;
         if t.fault != 0 {
-            print_difference(t);
-            return;
+            return print_difference(&mut to, t);
         }
     }
-    print(b"no difference\n");
+    print(&mut to, b"no difference\n")
 }
