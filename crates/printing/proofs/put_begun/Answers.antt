@@ -1,5 +1,5 @@
 -- The area of a begun input is well formed, so that it is ready; the lines of the picks are put, and then the rest.
-use Rattle.std.proofs.Common.{◌+◌, ◌≤◌, ◌≡◌, length, arith}
+use Rattle.std.proofs.Common.{length, arith}
 use Rattle.inputs.specs.Input.{picks_in}
 use Rattle.lines.specs.AddingLaws.{◌put-then◌, room_first, room_then}
 use Rattle.program_text.specs.Program.{first_run, picked_run, picks_text, rest_text, check_text}

@@ -1,5 +1,5 @@
 -- The text of a begun input from the area that its start left, or the line of its refusal.
-use Rattle.std.proofs.Common.{◌+◌, ◌≤◌, ◌≡◌, length, arith}
+use Rattle.std.proofs.Common.{arith}
 use Rattle.inputs.proofs.Told.{begun_ready, begun_refused}
 use Rattle.program_text.specs.Program.{enough}
 use Rattle.program_text.specs.ProgramLaws.{program_refused, program_begun, begun_right, begun_run}

@@ -1,5 +1,5 @@
 -- The lines of the program's own deliveries, and then the end, from the area that they left.
-use Rattle.std.proofs.Common.{◌+◌, ◌≤◌, ◌≡◌, refl, length, ◌++◌}
+use Rattle.std.proofs.Common.{refl}
 use Rattle.tables.specs.Pairs.{square_size}
 use Rattle.checks.specs.Run.{knot}
 use Rattle.areas.specs.Area.{run_in}
