@@ -24,7 +24,7 @@ partly_first = record { done = []; put = put_none; is = refl }
 module _ {whole a b : List ℕ} {m n : ℕ} where
   pub partly_next : {rest p q c : List ℕ} {o : ℕ} → Partly whole rest a m b n → rest ≡ p ++ q → Put b n p c o → Partly whole q a m c o
   partly_next {rest} {p} {q} x e y =
-      record { done = x.done ++ p; put = x.put put_then y; is = x.is ∙ ap (λ (t : List ℕ). x.done ++ t) e ∙ sym (append_assoc x.done p q) }
+      record { done = x.done ++ p; put = x.put put-then y; is = x.is ∙ ap (λ (t : List ℕ). x.done ++ t) e ∙ sym (append_assoc x.done p q) }
 
   pub partly_room : {rest : List ℕ} (p q : List ℕ) → Partly whole rest a m b n → rest ≡ p ++ q → m + length whole ≤ length a → n + length p ≤ length b
   partly_room p q x e h =

@@ -44,7 +44,7 @@ module _ (r : Run) (p : ℕ) (low : 1 ≤ p) where
 
   module _ {before b : List ℕ} {at n : ℕ} (x : Rows r p before at b n) {y : Process} (e : y ≡ r.process p) where
     pub rows_next : {c : List ℕ} {o : ℕ} → Put b n (process_line p y) c o → Rows r (p + 1) before at c o
-    rows_next q = rw (row_more, ← e) (x put_then q)
+    rows_next q = rw (row_more, ← e) (x put-then q)
 
     pub rows_room : p ≤ r.waits.n → at + length (processes_text r) ≤ length before → n + length (process_line p y) ≤ length b
     unfolding processes_text

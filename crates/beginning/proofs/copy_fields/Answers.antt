@@ -1,5 +1,4 @@
--- `beginning::copy_fields` meets its contract. The loop's invariant: the fields before j are copied, and every other word is as before. The
--- measure is what is left.
+-- `beginning::copy_fields` meets its contract. The loop's invariant: the fields before j are copied, and every other word is as before.
 use Rattle.std.proofs.Common.{◌<◌, arith}
 use Rattle.tables.specs.Table.{field_of}
 use Rattle.tables.specs.TableLaws.{field_of_small}

@@ -46,7 +46,7 @@ returns c =
     let p = r.before.before.before.before.before.before in
     let put = p.put-picks.ensures in
     let is = (start p).requires.1.1.1.0 in
-    (rw is at put.0) put_then (rw (put.1.0, is) at r.put_rest.ensures)
+    (rw is at put.0) put-then (rw (put.1.0, is) at r.put_rest.ensures)
 
 pub put-begun-spec : {M : Type 1} → statement M
 put-begun-spec =

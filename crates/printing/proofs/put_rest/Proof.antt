@@ -40,7 +40,7 @@ unfolding rest_text
 returns c =
     let e = c.before.before in
     let own = e.before.before.before.before.before.before.put-owns.ensures in
-    own.0 put_then (rw own.1.0 at e.put-end.ensures)
+    own.0 put-then (rw own.1.0 at e.put-end.ensures)
 
 pub put-rest-spec : {M : Type 1} → statement M
 put-rest-spec =
