@@ -1,7 +1,7 @@
 -- `choosing::choose` meets its contract. The outer loop's invariant: the links to the receivers before b, and those left, are the place; the inner
 -- loop stands at the sender that was found, on whose link a message waits, and is left there. Until the loops are left by label `from` is 0.
 -- The measures are what is left.
-use Rattle.std.proofs.Common.{ℕ, ◌+◌, ◌-◌, ◌≤◌, ◌<◌, true, List, ◌≡◌, sym, ap, ◌∙◌, ⊎_elim, arith, get_or, ℤ}
+use Rattle.std.proofs.Common.{ℕ, ◌+◌, ◌-◌, ◌≤◌, ◌<◌, true, List, ◌≡◌, sym, ap, ◌∙◌, arith, get_or, ℤ}
 use mathlib.Core.Bool.{false≢true}
 use Rattle.base.specs.Sums.{count_to}
 use Rattle.tables.specs.Table.{most_processes, IsProcess}
@@ -104,12 +104,12 @@ loop-a-preserved c =
 pub scan-preserved : goal.scan-preserved
 scan-preserved c =
     elim c.if-left-held.branch [
-      then-left-held+else-loop-a-test w ↦
-        let found : Here (run_in c.args.area.now) c.args.place w.ranked_in-first.result c.scan.b =
-              found_here c.requires.running.ready c.requires.remembers c.args.place c.scan.b c.scan.left c.scan.invariant.0 c.scan.invariant.2
-              c.scan-test.true c.count_at.ensures w.if-left-held.true w.ranked_in-first.ensures in
-        absurd (omega (arith, found.from_in, w.loop-a.invariant.0, w.loop-a-test.false, ready_n c.requires.running.ready))
-    | else-left-held w ↦ (
+      | then-left-held+else-loop-a-test w ↦
+          let found : Here (run_in c.args.area.now) c.args.place w.ranked_in-first.result c.scan.b =
+          found_here c.requires.running.ready c.requires.remembers c.args.place c.scan.b c.scan.left c.scan.invariant.0 c.scan.invariant.2
+          c.scan-test.true c.count_at.ensures w.if-left-held.true w.ranked_in-first.ensures in
+          absurd (omega (arith, found.from_in, w.loop-a.invariant.0, w.loop-a-test.false, ready_n c.requires.running.ready))
+      | else-left-held w ↦ (
         omega arith,
         w.from-is ∙ c.scan.invariant.1,
         passed_over c.requires.running.ready c.requires.remembers c.args.place c.scan.b c.scan.left c.scan.invariant.0 c.scan.invariant.2 c.scan-test.true
@@ -120,25 +120,25 @@ scan-preserved c =
 pub returns-then-from-eq0 : goal.returns-then-from-eq0
 returns-then-from-eq0 c =
     let all_found : Found (run_in c.args.area.now) c.args.place c.scan-test.from c.scan-test.to =
-          elim c.scan-test.branch [
-            else-scan-test w ↦ none (w.from-is ∙ c.scan.invariant.1)
-              (found_none c.requires.running.ready c.requires.remembers c.args.place c.scan.b c.scan.left c.scan.invariant.0 c.scan.invariant.2 w.scan-test.false)
-          | then-scan-test+then-left-held+then-loop-a-test+then-is_waiting_at w ↦
-              let f = found_here c.requires.running.ready c.requires.remembers c.args.place c.scan.b c.scan.left c.scan.invariant.0 c.scan.invariant.2
-                    w.scan-test.true w.count_at.ensures w.if-left-held.true w.ranked_in-first.ensures in
-              some (omega (arith, f.from_in, w.from-is, w.loop-a.invariant.0)) (rw (w.from-is, w.to-is, w.loop-a.invariant.0) f.is)
-          ] in
+    elim c.scan-test.branch [
+      | else-scan-test w ↦ none (w.from-is ∙ c.scan.invariant.1)
+          (found_none c.requires.running.ready c.requires.remembers c.args.place c.scan.b c.scan.left c.scan.invariant.0 c.scan.invariant.2 w.scan-test.false)
+      | then-scan-test+then-left-held+then-loop-a-test+then-is_waiting_at w ↦
+          let f = found_here c.requires.running.ready c.requires.remembers c.args.place c.scan.b c.scan.left c.scan.invariant.0 c.scan.invariant.2
+          w.scan-test.true w.count_at.ensures w.if-left-held.true w.ranked_in-first.ensures in
+          some (omega (arith, f.from_in, w.from-is, w.loop-a.invariant.0)) (rw (w.from-is, w.to-is, w.loop-a.invariant.0) f.is)
+    ] in
     answer_nobody all_found c.if-from-eq0.true
 
 pub returns : goal.returns
 returns c =
     let all_found : Found (run_in c.args.area.now) c.args.place c.scan-test.from c.scan-test.to =
-          elim c.scan-test.branch [
-            else-scan-test w ↦ none (w.from-is ∙ c.scan.invariant.1)
-              (found_none c.requires.running.ready c.requires.remembers c.args.place c.scan.b c.scan.left c.scan.invariant.0 c.scan.invariant.2 w.scan-test.false)
-          | then-scan-test+then-left-held+then-loop-a-test+then-is_waiting_at w ↦
-              let f = found_here c.requires.running.ready c.requires.remembers c.args.place c.scan.b c.scan.left c.scan.invariant.0 c.scan.invariant.2
-                    w.scan-test.true w.count_at.ensures w.if-left-held.true w.ranked_in-first.ensures in
-              some (omega (arith, f.from_in, w.from-is, w.loop-a.invariant.0)) (rw (w.from-is, w.to-is, w.loop-a.invariant.0) f.is)
-          ] in
+    elim c.scan-test.branch [
+      | else-scan-test w ↦ none (w.from-is ∙ c.scan.invariant.1)
+          (found_none c.requires.running.ready c.requires.remembers c.args.place c.scan.b c.scan.left c.scan.invariant.0 c.scan.invariant.2 w.scan-test.false)
+      | then-scan-test+then-left-held+then-loop-a-test+then-is_waiting_at w ↦
+          let f = found_here c.requires.running.ready c.requires.remembers c.args.place c.scan.b c.scan.left c.scan.invariant.0 c.scan.invariant.2
+          w.scan-test.true w.count_at.ensures w.if-left-held.true w.ranked_in-first.ensures in
+          some (omega (arith, f.from_in, w.from-is, w.loop-a.invariant.0)) (rw (w.from-is, w.to-is, w.loop-a.invariant.0) f.is)
+    ] in
     answer_link all_found c.if-from-eq0.false

@@ -1,6 +1,6 @@
 -- `runs::running::drive` meets its contract. The loop's invariant is `Turn`, with what is remembered of the area; the measure is the
 -- deliveries that are left.
-use Rattle.std.proofs.Common.{ℕ, ◌-◌, List, ◌≡◌, sym, ℤ}
+use Rattle.std.proofs.Common.{ℕ, List, ◌≡◌, sym, ℤ}
 use Rattle.lenses.proofs.Holding.{holding_ready}
 use Rattle.machine.specs.Calls.{drawn, shuffled_order}
 use Rattle.shuffling.specs.Shuffle.{moved_on}
