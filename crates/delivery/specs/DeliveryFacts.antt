@@ -13,7 +13,7 @@ use Rattle.checks.specs.declared.Delivery.TheVariants.{Delivered}
 use Rattle.checks.specs.Run.{Run, turn_at}
 use Rattle.carrying.specs.Carrying.{carried_out, Carried}
 use Rattle.delivery.specs.Delivering.{deliver_at}
-use Rattle.steps.specs.Step.{fitting, answer}
+use Rattle.steps.specs.Step.{fitting}
 
 -- x, y and z are what the receiver's turn leaves, and it meets no 22
 pub record Taking (r : Run) (a b : ℕ) (m : Message) (x : Process) (y : Probes) (z : Reply) : Type 0 where

@@ -3,7 +3,7 @@
 --   Filled t r k l                       == the array l holds the marks of the links that stand with an arc before k
 --   filled_first, filled_next, filled_last   == before the first arc, one arc more, and after the last
 -- Assumes nothing.
-use Rattle.std.specs.Prelude.{ℕ, ◌+◌, ◌<◌, Bool, false, ◌&&◌, List, ◌≡◌, refl, ◌⊎◌, eqb}
+use Rattle.std.specs.Prelude.{ℕ, ◌+◌, ◌<◌, Bool, false, ◌&&◌, List, ◌≡◌, refl, eqb}
 use Rattle.std.proofs.Math.Bool.{true}
 use Rattle.std.proofs.lemmas.Bool.{false≢true}
 use Rattle.std.proofs.Common.{sym, ◌∙◌, arith, eq-eqb}

@@ -1,5 +1,5 @@
 -- `picks::picking::pick_in` meets its contract: who is no process has no link, and no more have two whose cell is 0.
-use Rattle.std.proofs.Common.{true, ◌≡◌, refl, sym, ap, ◌∙◌, arith}
+use Rattle.std.proofs.Common.{◌≡◌, refl, sym, ap, ◌∙◌, arith}
 use Rattle.tables.specs.Pairs.{square_side}
 use Rattle.tables.specs.Table.{IsProcess}
 use Rattle.tables.specs.TableLaws.{is_process_P}

@@ -1,6 +1,6 @@
 -- `preparing::rooms::chain_has_room` meets its contract. The loop's invariant: the far ends of the arcs passed have room. The measure is
 -- how many arcs are left.
-use Rattle.std.proofs.Common.{ℕ, ◌≤◌, true, List, ◌≡◌, refl, sym, ap, ◌∙◌, arith, ℤ}
+use Rattle.std.proofs.Common.{ℕ, true, List, ◌≡◌, refl, sym, ap, ◌∙◌, arith, ℤ}
 use Rattle.base.specs.ChoiceLaws.{bit_≤1}
 use Rattle.tables.specs.declared.Chain.{Chain}
 use Rattle.tables.specs.declared.Chain.TheVariants.{Out, In}

@@ -1,5 +1,5 @@
 -- `preparing::rooms::probes_have_room` meets its contract, by the kind of probes.
-use Rattle.std.proofs.Common.{ℕ, Bool, ◌≡◌, sym, ap}
+use Rattle.std.proofs.Common.{ℕ, Bool, ap}
 use Rattle.steps.specs.declared.Probes.{Probes}
 use Rattle.areas.specs.Area.{run_in}
 use Rattle.preparing.specs.Rooms.{room_to}

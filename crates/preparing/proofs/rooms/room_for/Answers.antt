@@ -1,5 +1,5 @@
 -- `preparing::rooms::room_for` meets its contract: what is sent needs so many free slots, one fewer on the link that the message comes off.
-use Rattle.std.proofs.Common.{ℕ, ◌+◌, ◌-◌, true, ◌&&◌, ◌≡◌, sym, ap, ◌∙◌, arith, eq-eqb, le-leb, eqb, leb, length}
+use Rattle.std.proofs.Common.{ℕ, ◌+◌, ◌-◌, ◌&&◌, ◌≡◌, sym, ap, ◌∙◌, arith, eq-eqb, le-leb, eqb, leb, length}
 use Rattle.base.specs.Choice.{bit}
 use Rattle.areas.specs.Used.{link_slots}
 use Rattle.areas.specs.Area.{fields_in, run_in}

@@ -55,7 +55,7 @@ overflow_cast-a-2 c = omega (arith, ready_sizes c.requires.ready, c.requires.le_
 pub other_step-requires-clause-process_value : goal.other_step-requires-clause-process_value
 other_step-requires-clause-process_value c =
     in_range_is c.requires.ready c.args.message c.args.b c.requires.le_b c.process-x.ensures c.out_needed-out_degree.ensures
-          c.in_needed-in_degree.ensures c.requires.message_value
+    c.in_needed-in_degree.ensures c.requires.message_value
 
 pub other_step-requires-clause-process : goal.other_step-requires-clause-process
 other_step-requires-clause-process c = (c.requires.le_a.0, omega (arith, ready_sizes c.requires.ready, c.requires.le_a))

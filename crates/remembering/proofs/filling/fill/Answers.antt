@@ -1,6 +1,6 @@
 -- `remembering::filling::fill` meets its contract. The loop's invariant: the marks of the links that stand with an arc before k (`Filled`). The
 -- measure is what is left.
-use Rattle.std.proofs.Common.{◌-◌, arith}
+use Rattle.std.proofs.Common.{arith}
 use Rattle.areas.specs.Area.{fields_in, run_in}
 use Rattle.areas.specs.RunInLaws.{run_in_contained}
 use Rattle.lenses.specs.ReadyLaws.{ready_sizes}

@@ -1,4 +1,4 @@
-use Rattle.std.proofs.Common.{◌-◌, ◌≤◌}
+use Rattle.std.proofs.Common.{◌≤◌}
 use Rattle.areas.specs.Area.{fields_in, run_in}
 use Rattle.remembering.specs.FillLaws.{Filled}
 use Rattle.remembering.proofs.filling.fill.Given as goal
