@@ -143,8 +143,8 @@ finish() {
 
 # ---- what is built
 
-run "the check program is proved and built" rt check knot_check || finish
-run "the archive is proved and built" rt staticlib pickledune || finish
+run "the check program is proved and built" tools/build.sh knot_check || finish
+run "the archive is proved and built" tools/build.sh archive || finish
 
 # ---- the program
 
@@ -251,7 +251,7 @@ not_installed() {
         echo "install.sh did not refuse"
         return 1
     fi
-    grep 'rt staticlib pickledune' "$work/said" && [ ! -e "$work/nowhere" ]
+    grep 'tools/build.sh archive' "$work/said" && [ ! -e "$work/nowhere" ]
 }
 
 run "installed, and used by pkg-config" installed

@@ -1,10 +1,12 @@
 #!/usr/bin/env python3
 """Compares the declarations of the C interface, call by call: names, order and types of the parameters, and the type that is returned.
 
-  tools/declarations.py             compare those of include/pickledune.h, which hosts in C are compiled with, of crates/pickledune/src/lib.rt, which the
-                                    archive is made from, and of hosts/rust/pickledune/src/declared.rs, which the Rust side calls it by
-  tools/declarations.py --compiled  compare the header with what the compiler makes of the library (standard input: what rt mir pickledune prints):
-                                    the number, the order and the widths of the parameters, what is a pointer, and whether it is written
+  tools/declarations.py             compare those of include/pickledune.h, which hosts in C are compiled with, of crates/pickledune_c/src/lib.rt,
+                                    which the archive is made from, and of hosts/rust/pickledune/src/declared.rs, which the Rust side calls it by
+  tools/declarations.py --compiled  compare the header with what the compiler makes of the library (standard input: what
+                                    head -n 9999 DIR/Rattle-pickledune_c-proofs/*/Code/Mir.antt prints after rt check --generated DIR in
+                                    crates/pickledune_c, DIR being an empty folder, named by its whole path): the number, the order and the widths
+                                    of the parameters, what is a pointer, and whether it is written
   tools/declarations.py --bindgen   compare the header as bindgen reads it (standard input: what bindgen include/pickledune.h prints) with
                                     what the Rust side declares
   tools/declarations.py --planted   compare nothing; exchange each two parameters of a call in each of the three files in turn, and exit 1 if the
@@ -19,7 +21,7 @@ import os, re, sys
 from table_vectors import asked
 
 ROOT = os.path.join(os.path.dirname(os.path.abspath(__file__)), "..")
-HEADER, LIBRARY, WRAPPER = "include/pickledune.h", "crates/pickledune/src/lib.rt", "hosts/rust/pickledune/src/declared.rs"
+HEADER, LIBRARY, WRAPPER = "include/pickledune.h", "crates/pickledune_c/src/lib.rt", "hosts/rust/pickledune/src/declared.rs"
 C_TYPES = {"uint8_t": "u8", "uint16_t": "u16", "uint32_t": "u32", "int32_t": "i32", "size_t": "usize"}
 BITS = {"u8": 8, "u16": 16, "u32": 32, "i32": 32, "usize": 64}
 COUNT = None  # the name, in lib.rt, of the number of a slice's elements
@@ -59,7 +61,7 @@ def rattle_parameter(part):
 
 def in_rattle(text):
     text = re.sub(r"//.*", "", text)
-    found = re.findall(r'#\[no_mangle\]\npub extern "C" fn (\w+)\(([^()]*)\) -> (\w+)', text)
+    found = re.findall(r'#\[unsafe\(no_mangle\)\]\npub extern "C" fn (\w+)\(([^()]*)\) -> (\w+)', text)
     assert len(found) == text.count("no_mangle")
     return {call: ([one for part in split(parts) for one in rattle_parameter(part)], kind) for call, parts, kind in found}
 
@@ -94,22 +96,28 @@ def shapes(declared):
 
 def compiled(text):
     """From the locals of each export: the first is what is returned, then come the parameters. A slice is a struct of a pointer and a number."""
-    local = (r"\(lcons \(local (?:\(tyInt (?P<n>\d+)\)|\(tyRef \(named \d+\) (?P<r>imm|mut) \(tyInt (?P<to>\d+)\)\)"
-             r'|\(tyStruct "&\[\]" \(tcons \(tyRef \(named \d+\) (?P<s>imm|mut) \(tyInt (?P<of>\d+)\)\) \(tcons \(tyInt (?P<c>\d+)\) tnil\)\)\)) valueLocal\) ')
+    width = r"\(Syntax\.ty_int Syntax\.w(?P<%s>\d+)\)"
+    lent = r"\(Syntax\.ty_ref \(Syntax\.named \d+\) Syntax\.(?P<%s>imm|mut) " + width + r"\)"
+    slice_name = r"\(List\.◌∷◌ 38 \(List\.◌∷◌ 91 \(List\.◌∷◌ 93 List\.\[\]\)\)\)"  # &[]
+    kinds = (width % "n", lent % ("r", "to"),
+             r"\(Syntax\.ty_struct %s \(Syntax\.tcons %s \(Syntax\.tcons %s Syntax\.tnil\)\)\)" % (slice_name, lent % ("s", "of"), width % "c"))
+    one = re.compile(r"\(?List\.◌∷◌ \(Syntax\.local (?:%s) Syntax\.value_local\) " % "|".join(kinds))
     pointer = {"imm": "const ", "mut": "mut "}
     found = {}
-    for head in re.finditer(r'\(fn-def "pickledune::(pickledune_\w+)" \(fnItem \d+ lnil (\d+) ', text):
-        made, at = [], head.end()
-        for _ in range(int(head[2]) + 1):
-            one = re.compile(local).match(text, at)
-            at = one.end()
-            if one["n"]:
-                made.append(one["n"])
-            elif one["r"]:
-                made.append(pointer[one["r"]] + one["to"])
+    parts = re.split(r"==> \S*/(pickledune_\w+)/Code/Mir\.antt <==", text)
+    for call, printed in zip(parts[1::2], parts[2::2]):
+        printed = " ".join(printed.split())
+        made, at = [], re.search(r"\blocals = (?=List)", printed).end()
+        for _ in range(int(re.search(r"\bparams = (\d+);", printed)[1]) + 1):
+            local = one.match(printed, at)
+            at = local.end()
+            if local["n"]:
+                made.append(local["n"])
+            elif local["r"]:
+                made.append(pointer[local["r"]] + local["to"])
             else:
-                made += [pointer[one["s"]] + one["of"], one["c"]]
-        found[head[1]] = (made[1:], made[0])
+                made += [pointer[local["s"]] + local["of"], local["c"]]
+        found[call] = (made[1:], made[0])
     return found
 
 
@@ -172,7 +180,7 @@ def main():
     header, library, wrapper = in_c(text_of(HEADER)), in_rattle(text_of(LIBRARY)), in_rust(text_of(WRAPPER))
     if word == "--compiled":
         ours = {call: shapes(one) for call, one in header.items()}
-        told(differences(HEADER, ours, "rt mir", compiled(sys.stdin.read()), same=lambda a, b: a == b), len(ours), "compiled as the header has them")
+        told(differences(HEADER, ours, "compiled", compiled(sys.stdin.read()), same=lambda a, b: a == b), len(ours), "compiled as the header has them")
     elif word == "--bindgen":
         told(differences("bindgen", in_rust(sys.stdin.read()), WRAPPER, wrapper), len(wrapper), "read by bindgen as the Rust side declares them")
     elif word == "--planted":

@@ -9,8 +9,8 @@
 #   lib/pkgconfig/pickledune.pc     what pkg-config tells a host's build: gcc host.c $(pkg-config --cflags --libs pickledune)
 #   bin/knot_check                  the check program
 # Where pkg-config does not look in PREFIX by itself, a host's build sets PKG_CONFIG_PATH=PREFIX/lib/pkgconfig.
-# The archive and the program must be built: rt staticlib pickledune, and rt check knot_check. If DESTDIR is set, all is put below that folder
-# instead, and is written for use in PREFIX. The version is the header's.
+# The archive and the program must be built, by tools/build.sh. If DESTDIR is set, all is put below that folder instead, and is written for use
+# in PREFIX. The version is the header's.
 set -eu
 
 refuse() {
@@ -43,8 +43,8 @@ cd "$(dirname "$0")/.."
 header=include/pickledune.h
 archive=target/staticlib/libpickledune.a
 program=target/bin/knot_check
-[ -f "$archive" ] || refuse "no $archive: build it by 'rt staticlib pickledune'" 1
-[ -f "$program" ] || refuse "no $program: build it by 'rt check knot_check'" 1
+[ -f "$archive" ] || refuse "no $archive: build it by 'tools/build.sh archive'" 1
+[ -f "$program" ] || refuse "no $program: build it by 'tools/build.sh knot_check'" 1
 version=$(sed -n 's/^#define PICKLEDUNE_VERSION_TEXT "\(.*\)"$/\1/p' "$header")
 [ -n "$version" ] || refuse "$header names no PICKLEDUNE_VERSION_TEXT" 1
 

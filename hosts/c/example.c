@@ -2,7 +2,7 @@
  * start 1 (under edition 1) and the pick 1 2, with the second numbers of 02, N3, then a line for each of two shuffled checks (02, N13), and
  * returns 1 with a line on standard error if a call answers anything else than it should, or if header and archive are of two versions.
  *
- * From the root of the repository, after rt staticlib pickledune:
+ * From the root of the repository, after tools/build.sh archive:
  *   gcc -std=c99 -Wall -Wextra -pedantic -Iinclude hosts/c/example.c target/staticlib/libpickledune.a -o target/example && target/example
  * The archive needs nothing but memcpy and memset of the C library, so no further flag is needed.
  */

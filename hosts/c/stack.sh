@@ -9,7 +9,7 @@
 # stack some runs hold and some do not. With no KIB the limits are looked for, in steps of 4 KiB: from one at which few runs hold to the first
 # at which all do.
 #
-# It wants gcc, the archive (rt staticlib pickledune) and the program (rt check knot_check). Its own files stand in target/stack-runs.
+# It wants gcc, the archive and the program (tools/build.sh). Its own files stand in target/stack-runs.
 set -eu
 cd "$(dirname "$0")/../.."
 
@@ -41,8 +41,8 @@ for kib; do
     number "$kib"
 done
 command -v gcc > /dev/null || { echo "stack.sh: gcc is missing (Debian: gcc libc6-dev)" >&2; exit 1; }
-[ -f target/staticlib/libpickledune.a ] || { echo "stack.sh: no target/staticlib/libpickledune.a: rt staticlib pickledune makes it" >&2; exit 1; }
-[ -x target/bin/knot_check ] || { echo "stack.sh: no target/bin/knot_check: rt check knot_check makes it" >&2; exit 1; }
+[ -f target/staticlib/libpickledune.a ] || { echo "stack.sh: no target/staticlib/libpickledune.a: tools/build.sh archive makes it" >&2; exit 1; }
+[ -x target/bin/knot_check ] || { echo "stack.sh: no target/bin/knot_check: tools/build.sh knot_check makes it" >&2; exit 1; }
 
 mkdir -p target/stack-runs
 gcc -std=c99 -O2 -Wall -Wextra -Werror -Iinclude hosts/c/stack.c target/staticlib/libpickledune.a -pthread -o target/stack-runs/stack

@@ -3,7 +3,7 @@
 #
 #   hosts/fuzz/run.sh [SECONDS]
 #
-# It wants clang-14 and libclang-rt-14-dev (`apt-get install clang-14 libclang-rt-14-dev`) and the archive (`rt staticlib pickledune`).
+# It wants clang-14 and libclang-rt-14-dev (`apt-get install clang-14 libclang-rt-14-dev`) and the archive (`tools/build.sh archive`).
 # A crash or a hang leaves the input that made it in target/fuzz and exits with a status that is not 0.
 set -e
 case ${1-} in
@@ -18,7 +18,7 @@ case $#/$seconds in
 */*[!0-9]* | [2-9]*) echo "usage: hosts/fuzz/run.sh [SECONDS]" >&2; exit 2 ;;
 esac
 command -v clang-14 > /dev/null || { echo "run.sh: clang-14 is missing (Debian: clang-14 libclang-rt-14-dev)" >&2; exit 1; }
-[ -f target/staticlib/libpickledune.a ] || { echo "run.sh: no target/staticlib/libpickledune.a: rt staticlib pickledune makes it" >&2; exit 1; }
+[ -f target/staticlib/libpickledune.a ] || { echo "run.sh: no target/staticlib/libpickledune.a: tools/build.sh archive makes it" >&2; exit 1; }
 mkdir -p target/fuzz/corpus
 clang-14 -g -O1 -Wall -Wextra -fsanitize=fuzzer,undefined -Iinclude hosts/fuzz/fuzz.c target/staticlib/libpickledune.a -o target/fuzz/fuzz
 cd target/fuzz

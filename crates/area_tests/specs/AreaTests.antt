@@ -1,4 +1,4 @@
--- The test of an area, region by region, in the order that the code follows. area_tests_P says that it is `areaRight`.
+-- The test of an area, region by region, in the order that the code follows. area_tests_P says that it is `area_right`.
 --   most_bytes         == the bytes of the largest table
 --   field_word z, field_test w j   == a word, and that of field j, is a number of 16 bits
 --   area_tests w       == the sizes, the fields, checks 4 to 7 on the copied table, the heading, the records and the links (region_tests, RegionTests)

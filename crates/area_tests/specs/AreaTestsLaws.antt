@@ -1,6 +1,6 @@
 -- The test of an area region by region is the readable definition of a well-formed area.
 --   field_test_P       == a field is a number of 16 bits
---   area_tests_P       == the tests region by region say what `areaRight` says, so they are the same
+--   area_tests_P       == the tests region by region say what `area_right` says, so they are the same
 -- Assumes nothing.
 use Rattle.std.specs.Prelude.{ℕ, ◌≤◌, ◌<◌, true, List, [], ◌≡◌, refl, get_or, ℤ, pos}
 use Rattle.std.proofs.Common.{sym, ap, ◌∙◌, arith}

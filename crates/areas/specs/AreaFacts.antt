@@ -1,5 +1,5 @@
 -- Well-formed areas, part by part.
---   AreaRight w    == what `areaRight w` says
+--   AreaRight w    == what `area_right w` says
 --   RightTable t   == the fields of a table that meets 01's section "Wait table", and no others
 -- Assumes nothing.
 use Rattle.std.specs.Prelude.{ℕ, ◌≤◌, ◌<◌, true, List, ◌≡◌, length, get_or, ℤ, pos}

@@ -1,5 +1,5 @@
 -- Well-formed areas.
---   area_right_P         == what `areaRight w` says, part by part
+--   area_right_P         == what `area_right w` says, part by part
 --   area_right_table     == the table of a well-formed area
 --   area_right_stored    == an area with a right table and a well-formed run of it is well formed
 --   stored_same         == a well-formed area is the area with its own table and run in it

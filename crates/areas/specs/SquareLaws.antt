@@ -6,11 +6,11 @@
 --   cell_linked, cell_apart  == what a cell says of its link; it is 0 where there is none
 --   row_linked               == where the link of neighbours stands, by the row of the first
 -- Assumes nothing.
-use Rattle.std.specs.Prelude.{ℕ, suc, ◌+◌, ◌-◌, ◌*◌, ◌/◌, ◌%◌, ◌≤◌, ◌<◌, Bool, true, ◌||◌, List, ◌≡◌, length, get_or, take, drop}
+use Rattle.std.specs.Prelude.{ℕ, suc, ◌+◌, ◌*◌, ◌/◌, ◌%◌, ◌≤◌, ◌<◌, true, ◌||◌, List, ◌≡◌, get_or, take, drop}
 use Rattle.std.proofs.Math.Bool.{false, not}
 use Rattle.std.proofs.lemmas.Bool.{false≢true}
 use Rattle.std.proofs.Math.Path.{refl, sym}
-use Rattle.std.proofs.Common.{ap, ◌∙◌, length-take, length-drop, get_or-take, get_or-drop}
+use Rattle.std.proofs.Common.{◌∙◌, length-take, length-drop, get_or-take, get_or-drop}
 use native.Mathlib.Omega.{arith}
 use borrow.Author.Tests.{eq-eqb, ne_eqb}
 use Rattle.std.proofs.Math.Dec.{eqb}
@@ -19,13 +19,13 @@ use Rattle.base.specs.ChoiceLaws.{same?, bit_≤1}
 use Rattle.base.specs.Checks.{Same, same, apart}
 use Rattle.tables.specs.declared.Chain.{Chain}
 use Rattle.tables.specs.declared.Chain.TheVariants.{Out, In}
-use Rattle.tables.specs.Table.{Fields, n_of, m_of, most_processes, most_arcs}
+use Rattle.tables.specs.Table.{Fields, most_processes}
 use Rattle.tables.specs.Pairs.{square_side}
 use Rattle.tables.specs.Waits.{waits_of, neighbours}
 use Rattle.tables.specs.Chains.{joins}
 use Rattle.areas.specs.Places.{link_size}
 use Rattle.areas.specs.Area.{link_place, arc_of, link_of}
-use Rattle.areas.specs.Squares.{cell_by, cell_of, place_in, joins_in, with_forth, with_back, Linked, Row, cell, Square}
+use Rattle.areas.specs.Squares.{cell_by, cell_of, place_in, joins_in, with_forth, with_back, Linked, Row, Square}
 use Rattle.areas.specs.ArcLaws.{arc_of_waits}
 
 module _ (t : Fields) where

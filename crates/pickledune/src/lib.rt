@@ -1,6 +1,6 @@
-// The public calls for C and Rust, on numbers, byte slices and word slices (include/pickledune.h). None asks anything of its caller. A call
-// that may refuse gives 0 or the number of its refusal, whose order its comment has, and stores 01's values through its references, zeros on a
-// refusal.
+// The public calls for hosts, on numbers, byte slices and word slices (include/pickledune.h). None asks anything of its caller. A call that may
+// refuse gives 0 or the number of its refusal, whose order its comment has, and stores 01's values through its references, zeros on a refusal.
+// `pickledune_c` hands them on to C and Rust under the same names.
 #![tactic(auto)]
 
 ghost use Rattle.std.specs.Prelude.{◌≡◌, pos};
@@ -24,24 +24,21 @@ use runs::{running, shuffled};
 use steps::{Process, TwoCounts};
 
 // The version of the library as one number: 1.0.0.
-#[unsafe(no_mangle)]
-pub extern "C" fn pickledune_version() -> u32
+pub fn pickledune_version() -> u32
     ensures { result ≡ library_version }
 {
     host_values::version()
 }
 
 // The version of the layout: what word 0 of every area holds that a start makes and the other calls accept.
-#[unsafe(no_mangle)]
-pub extern "C" fn pickledune_layout() -> u32
+pub fn pickledune_layout() -> u32
     ensures { pos result ≡ knot_check }
 {
     host_values::layout()
 }
 
 // Reads a table: its N and M. 1 to 7.
-#[unsafe(no_mangle)]
-pub extern "C" fn pickledune_read_table(table: &[u8], n: &mut usize, m: &mut usize) -> u32
+pub fn pickledune_read_table(table: &[u8], n: &mut usize, m: &mut usize) -> u32
     ensures number { result ≡ number_of (reading_of table.now) }
     ensures processes { n.new ≡ n_found (reading_of table.now) }
     ensures arcs { m.new ≡ m_found (reading_of table.now) }
@@ -53,13 +50,7 @@ pub extern "C" fn pickledune_read_table(table: &[u8], n: &mut usize, m: &mut usi
 }
 
 // Writes the table of n processes and of the list's pairs at the front of out: its length. 10, 2, 4, 7, 11.
-#[unsafe(no_mangle)]
-pub extern "C" fn pickledune_write_table(
-    n: usize,
-    list: &[u16],
-    out: &mut [u8],
-    length: &mut usize,
-) -> u32
+pub fn pickledune_write_table(n: usize, list: &[u16], out: &mut [u8], length: &mut usize) -> u32
     ensures number { result ≡ writing_number (writing_of n list.now out.old) }
     ensures length { length.new ≡ written_length (writing_of n list.now out.old) }
     ensures out { out.new ≡ written n list.now out.old }
@@ -70,8 +61,7 @@ pub extern "C" fn pickledune_write_table(
 }
 
 // Opens a walk along a chain of a process: the arc that it stands at, 0 if there is none. 1 to 8.
-#[unsafe(no_mangle)]
-pub extern "C" fn pickledune_open(table: &[u8], chain: u32, process: usize, arc: &mut usize) -> u32
+pub fn pickledune_open(table: &[u8], chain: u32, process: usize, arc: &mut usize) -> u32
     ensures number { result ≡ opened_number (opened_of table.now (chain_of chain) process) }
     ensures arc { arc.new ≡ opened_arc (opened_of table.now (chain_of chain) process) }
 {
@@ -85,21 +75,14 @@ pub extern "C" fn pickledune_open(table: &[u8], chain: u32, process: usize, arc:
 }
 
 // A step along a chain: the next arc, or 0 at the end. It refuses nothing.
-#[unsafe(no_mangle)]
-pub extern "C" fn pickledune_next(table: &[u8], chain: u32, arc: usize) -> usize
+pub fn pickledune_next(table: &[u8], chain: u32, arc: usize) -> usize
     ensures { result ≡ next_arc (next_of table.now (chain_of chain) arc) }
 {
     table_values::next_arc(table_reader::next(table, table_values::chain_of(chain), arc))
 }
 
 // Starts a check in the lent words, under edition 1 or 2. 1 to 8, 30, 9.
-#[unsafe(no_mangle)]
-pub extern "C" fn pickledune_start(
-    table: &[u8],
-    start: usize,
-    edition: usize,
-    area: &mut [i32],
-) -> u32
+pub fn pickledune_start(table: &[u8], start: usize, edition: usize, area: &mut [i32]) -> u32
     ensures number { result ≡ started_number (start_answer table.now start edition area.old) }
     ensures area { area.new ≡ start_area table.now start edition area.old }
 {
@@ -107,8 +90,7 @@ pub extern "C" fn pickledune_start(
 }
 
 // Delivers the message at a place of one link, 1 for the oldest: its kind and its two counts. 21, 25, 23, 24, 31, 22.
-#[unsafe(no_mangle)]
-pub extern "C" fn pickledune_pick(
+pub fn pickledune_pick(
     area: &mut [i32],
     from: usize,
     to: usize,
@@ -134,8 +116,7 @@ pub extern "C" fn pickledune_pick(
 }
 
 // Makes up to k deliveries in the fixed order: whether the run is over, and the number made. 21, 24, 22.
-#[unsafe(no_mangle)]
-pub extern "C" fn pickledune_run_on(area: &mut [i32], k: u32, over: &mut u32, made: &mut u32) -> u32
+pub fn pickledune_run_on(area: &mut [i32], k: u32, over: &mut u32, made: &mut u32) -> u32
     ensures number { result ≡ ran_number (run_on_answer k area.old) }
     ensures over { over.new ≡ ran_over (run_on_answer k area.old) }
     ensures made { made.new ≡ ran_made (run_on_answer k area.old) }
@@ -148,8 +129,7 @@ pub extern "C" fn pickledune_run_on(area: &mut [i32], k: u32, over: &mut u32, ma
 }
 
 // The same in the order that a seed gives. 21, 37, 24, 22.
-#[unsafe(no_mangle)]
-pub extern "C" fn pickledune_run_shuffled(
+pub fn pickledune_run_shuffled(
     area: &mut [i32],
     k: u32,
     seed: u32,
@@ -168,8 +148,7 @@ pub extern "C" fn pickledune_run_shuffled(
 }
 
 // The report of a run that is over. 21, 26.
-#[unsafe(no_mangle)]
-pub extern "C" fn pickledune_report(
+pub fn pickledune_report(
     area: &[i32],
     deliveries: &mut u32,
     knot: &mut u32,
@@ -195,8 +174,7 @@ pub extern "C" fn pickledune_report(
 }
 
 // The record of one process. 21, 25.
-#[unsafe(no_mangle)]
-pub extern "C" fn pickledune_read_record(
+pub fn pickledune_read_record(
     area: &[i32],
     process: usize,
     succeeding: &mut u32,
@@ -232,8 +210,7 @@ pub extern "C" fn pickledune_read_record(
 
 // The step of one process other than the start, on the record that the first seven references hold; a refusal leaves them as they were.
 // 21, 25, 22.
-#[unsafe(no_mangle)]
-pub extern "C" fn pickledune_step(
+pub fn pickledune_step(
     succeeding: &mut u32,
     preceding: &mut u32,
     subordinate: &mut u32,

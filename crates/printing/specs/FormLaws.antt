@@ -2,7 +2,7 @@
 --   form_short, form_long   == too few bytes are lent, or enough
 --   form_within             == what is formed is no longer than the longest output
 -- Assumes nothing.
-use Rattle.std.specs.Prelude.{ℕ, ◌+◌, ◌≤◌, ◌<◌, List, ◌++◌, drop, get_or}
+use Rattle.std.specs.Prelude.{ℕ, ◌≤◌, ◌<◌, List, ◌++◌, drop, get_or}
 use Rattle.std.proofs.Math.Path.{◌≡◌}
 use Rattle.std.proofs.Common.{sym, ap, ◌∙◌, arith, take-append-drop}
 use borrow.Author.Tests.{lt-ltb, le-ltb}

@@ -27,7 +27,7 @@ use std::io::{Read, Write};
 // As many picks as the longest input has behind the largest table, 3,966.
 const MOST_PICKS: usize = (inputs::LONGEST - 4 - places::MOST_BYTES) / 4;
 
-// No output is longer, 168,453 bytes: these picks, 2,048 deliveries of its own, 128 processes and the report (`longestOutput` in program_text, `Longest`).
+// No output is longer, 168,453 bytes: these picks, 2,048 deliveries of its own, 128 processes and the report (`longest_output` in program_text, `Longest`).
 pub const LONGEST_OUTPUT: usize = 28 * MOST_PICKS
     + 26 * checks::MOST_DELIVERIES as usize
     + 32 * tables::MOST_PROCESSES

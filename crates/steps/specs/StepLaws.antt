@@ -4,7 +4,7 @@
 --   new_subordinate_both             == of two flags: the new subordinate, and 1 for both, are succeeding
 --   lent_needed, stepped_needed   == a step, and what it may refuse with 21, does not depend on a degree that it does not use
 --   own_count_small    == the 1 or 0 that a process adds to its second sum is a count in range
---   inRange-P         == what `inRange x` says of the values of a record
+--   inRange-P         == what `in_range x` says of the values of a record
 --   stepped_inside    == a step of what is in range, from a process: 22, or the turn
 -- Assumes nothing.
 use Rattle.std.specs.Prelude.{ℕ, zero, suc, ◌+◌, ◌*◌, ◌≤◌, Bool, true, not, ◌&&◌, ◌≡◌, refl, eqb, leb, nat_abs}

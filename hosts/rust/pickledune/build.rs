@@ -1,4 +1,4 @@
-//! Links the archive `libpickledune.a`, which `rt staticlib pickledune` writes, from the directory
+//! Links the archive `libpickledune.a`, which `tools/build.sh archive` writes, from the directory
 //! that `PICKLEDUNE_LIB_DIR` names, or else from `target/staticlib` at the root of the repository.
 use std::env;
 use std::path::PathBuf;
@@ -12,7 +12,7 @@ fn main() {
     let archive = directory.join("libpickledune.a");
     if !archive.exists() {
         let missing = archive.display();
-        println!("cargo:warning={missing} is missing: rt staticlib pickledune writes it");
+        println!("cargo:warning={missing} is missing: tools/build.sh archive writes it");
     }
     println!("cargo:rerun-if-env-changed=PICKLEDUNE_LIB_DIR");
     println!("cargo:rerun-if-changed={}", archive.display());

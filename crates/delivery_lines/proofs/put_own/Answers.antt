@@ -6,7 +6,6 @@ use Rattle.checks.specs.Calls.{delivery_made}
 use Rattle.machine.specs.Calls.{lowest}
 use Rattle.choosing.specs.OrderLaws.{lowest_names}
 use Rattle.choosing.proofs.OnLink.{left_small, left-refusal}
-use Rattle.delivery_lines.proofs.Turning.{own_refused}
 use Rattle.delivery_lines.proofs.put_own.Goals as goal
 
 pub overflow_cast-from : goal.overflow_cast-from

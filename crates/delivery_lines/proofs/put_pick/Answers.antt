@@ -3,7 +3,6 @@ use Rattle.std.proofs.Common.{ℕ, List, ◌≡◌, ℤ}
 use Rattle.lenses.specs.Ready.{Ready}
 use Rattle.area_calls.specs.AreaCalls.{pick_area}
 use Rattle.picks.proofs.Kept.{pick_ready}
-use Rattle.delivery_lines.proofs.Turning.{pick_refused, pick_delivered}
 use Rattle.delivery_lines.proofs.put_pick.Goals as goal
 
 picked_ready : {w : List ℤ} {n m : ℕ} → Ready w n m → (a b k : ℕ) {v : List ℤ} → v ≡ pick_area w a b k → Ready v n m

@@ -1,5 +1,5 @@
 -- `end_lines::put_processes` meets its contract. The loop's invariant: the lines of the processes before p are put. The measure is what is left.
-use Rattle.std.proofs.Common.{◌-◌, arith}
+use Rattle.std.proofs.Common.{arith}
 use Rattle.areas.specs.Area.{run_in}
 use Rattle.lenses.specs.ReadyLaws.{ready_n, ready_sizes}
 use Rattle.end_lines.proofs.Rows.{rows_first, rows_next, rows_room, rows_all}

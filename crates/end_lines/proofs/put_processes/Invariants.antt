@@ -1,4 +1,4 @@
-use Rattle.std.proofs.Common.{◌+◌, ◌-◌, ◌≤◌}
+use Rattle.std.proofs.Common.{◌+◌, ◌≤◌}
 use Rattle.areas.specs.Area.{run_in}
 use Rattle.end_lines.proofs.Rows.{Rows}
 use Rattle.end_lines.proofs.put_processes.Given as goal

@@ -1,6 +1,6 @@
 -- `sets::ranked_in` meets its contract. The loop's invariant: the two words hold a set whose process with the rank that is left is the
 -- one that is looked for.
-use Rattle.std.proofs.Common.{ℕ, ◌+◌, ◌-◌, Bool, ◌≡◌, ⊎_elim, arith, bit_and}
+use Rattle.std.proofs.Common.{ℕ, ◌+◌, ◌-◌, Bool, ◌≡◌, arith, bit_and}
 use Rattle.sets.specs.RankLaws.{struck_low, struck_high, nth_none, nth_first}
 use Rattle.sets.proofs.ranked_in.Invariants.{Left}
 use Rattle.sets.proofs.ranked_in.Goals as goal
@@ -27,9 +27,9 @@ loop-preserved c =
       λ S is.
           let h = c.loop.invariant.1 S is in
           elim c.if-low-ne0.branch [
-            then-low-ne0 w ↦ left_as (left_low h less w.if-low-ne0.true) w.low-is w.high-is
-          | else-low-ne0+then-high-ne0 w ↦ left_as (left_high h less w.if-low-ne0.false w.if-high-ne0.true) w.low-is w.high-is
-          | else-low-ne0+else-high-ne0 w ↦ left_as (left_none h less w.if-low-ne0.false w.if-high-ne0.false) w.low-is w.high-is
+            | then-low-ne0 w ↦ left_as (left_low h less w.if-low-ne0.true) w.low-is w.high-is
+            | else-low-ne0+then-high-ne0 w ↦ left_as (left_high h less w.if-low-ne0.false w.if-high-ne0.true) w.low-is w.high-is
+            | else-low-ne0+else-high-ne0 w ↦ left_as (left_none h less w.if-low-ne0.false w.if-high-ne0.false) w.low-is w.high-is
           ],
     )
 

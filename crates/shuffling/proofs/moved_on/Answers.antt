@@ -1,5 +1,5 @@
 -- `shuffling::moved_on` meets its contract.
-use Rattle.std.proofs.Common.{◌≡◌, ℕ, ◌-◌, ◌*◌, ◌%◌, ◌^◌, bit_and, bit_xor, refl, sym, ap, ◌∙◌}
+use Rattle.std.proofs.Common.{ℕ, ◌-◌, ◌*◌, ◌%◌, ◌^◌, bit_and, bit_xor, refl, sym, ap, ◌∙◌}
 use Rattle.shuffling.specs.Shuffle.{width, xored_left, xored_right, moved_on}
 use Rattle.shuffling.specs.ShuffleLaws.{xored_masked, moved_on_zero}
 use Rattle.shuffling.proofs.moved_on.Goals as goal

@@ -1,6 +1,6 @@
 -- `word_tests::are_messages` meets its contract. The loop's invariant: the words passed are messages with counts in range. The measure is
 -- what is left.
-use Rattle.std.proofs.Common.{ℕ, ◌+◌, ◌-◌, ◌^◌, ◌<◌, Bool, true, List, ◌≡◌, sym, arith, ℤ, pos, get_or, w32, to_z, of_z}
+use Rattle.std.proofs.Common.{ℕ, ◌+◌, ◌-◌, ◌^◌, ◌<◌, Bool, List, ◌≡◌, sym, arith, ℤ, pos, get_or, w32, to_z, of_z}
 use lib.Signed.{mag}
 use Rattle.base.specs.PrefixLaws.{all_to_none, all_to_next, all_to_stop}
 use Rattle.word_tests.specs.WordTests.{message_word}

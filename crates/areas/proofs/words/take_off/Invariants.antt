@@ -1,4 +1,4 @@
-use Rattle.std.proofs.Common.{ℕ, ◌+◌, ◌-◌, ◌≤◌, ◌<◌, List, ◌≡◌, ◌⊎◌, ℤ, pos, length, get_or, arith}
+use Rattle.std.proofs.Common.{ℕ, ◌+◌, ◌-◌, ◌≤◌, ◌<◌, List, ◌≡◌, ◌⊎◌, ℤ, pos, length, get_or}
 use Rattle.areas.proofs.words.take_off.Given as goal
 
 -- v is w with the words from i up to k moved down by one

@@ -1,2 +1,0 @@
--- What the proofs of code use: Stored (the promise of a step from the values of its answer).
-mod Stored
