@@ -5,10 +5,10 @@ use Rattle.printing.specs.FormLaws.{form_short, form_long}
 use Rattle.printing.proofs.form.Goals as goal
 
 pub returns-then-out-lt-LONGEST_OUTPUT-clause-answer : goal.returns-then-out-lt-LONGEST_OUTPUT-clause-answer
-returns-then-out-lt-LONGEST_OUTPUT-clause-answer c = (form_short _ _ c.if-out-lt-LONGEST_OUTPUT.true).0
+returns-then-out-lt-LONGEST_OUTPUT-clause-answer c = (form_short _ _ (omega (arith, c.if-out-lt-LONGEST_OUTPUT.true))).0
 
 pub returns-then-out-lt-LONGEST_OUTPUT-clause-out : goal.returns-then-out-lt-LONGEST_OUTPUT-clause-out
-returns-then-out-lt-LONGEST_OUTPUT-clause-out c = (form_short c.args.input.now _ c.if-out-lt-LONGEST_OUTPUT.true).1
+returns-then-out-lt-LONGEST_OUTPUT-clause-out c = (form_short c.args.input.now _ (omega (arith, c.if-out-lt-LONGEST_OUTPUT.true))).1
 
 pub put_check-requires : goal.put_check-requires
 put_check-requires c = omega (arith, program_short c.args.input.now (λ i. (c.type_inv.input i).fits), c.if-out-lt-LONGEST_OUTPUT.false)
