@@ -1,6 +1,7 @@
 -- The changes of a delivery in code: what each asks, and the area that it leaves.
 --   take_asks, put_asks, reply_asks, send_asks, count_asks   == what the calls ask in their turn
---   taken_off, record_put, reply_sent, probes_sent, all_done   == the area after each
+--   taken_off, record_put, reply_sent, probes_sent, all_done   == the area after each, from the area before it
+--   after_put, after_reply, after_probes   == the same from what the calls so far promise
 -- Assumes nothing.
 use Prim.Native.Nat.{ℕ, ◌+◌, ◌-◌, ◌≤◌}
 use mathlib.Core.Bool.{true}
@@ -87,6 +88,17 @@ module _ {w : List ℤ} {n m : ℕ} (y : Ready w n m) {a b i : ℕ} {x : Process
 
     pub probes_sent : {u : List ℤ} → u ≡ keeping v (spread_by p (run_in v) b) → Holding w u (spread_by p (answered (changed r a b i x) b z) b)
     probes_sent e = holding_next y h (λ q. spread_by p q b) e (storable_sent (fields_in w) r f a b i x p z k)
+
+  module _ {v u : List ℤ} (e : v ≡ keeping w (off r a b i)) (f : u ≡ keeping v (put_process (run_in v) b x)) where
+    pub after_put : Holding w u (changed r a b i x)
+    after_put = record_put (taken_off e) f
+
+    module _ {t : List ℤ} (g : t ≡ keeping u (answered (run_in u) b z)) where
+      pub after_reply : Holding w t (answered (changed r a b i x) b z)
+      after_reply = reply_sent after_put g
+
+      pub after_probes : {q : List ℤ} → q ≡ keeping t (spread_by p (run_in t) b) → Holding w q (spread_by p (answered (changed r a b i x) b z) b)
+      after_probes h = probes_sent after_reply h
 
   module _ {v : List ℤ} (h : Holding w v (spread_by p (answered (changed r a b i x) b z) b)) {c : ℕ} (g : c ≡ (run_in v).count) where
     pub count_asks : Ready v n m × (c + 1 ≤ most_deliveries)
