@@ -23,41 +23,31 @@ loop-turns-init c = (turn_first fixed_order 0 c.requires.running.ready, c.requir
 pub is_over-requires : goal.is_over-requires
 is_over-requires c = holding_ready c.requires.running.ready c.loop-turns.invariant.0.holds
 
-pub returns-then-is_over-clause-put : goal.returns-then-is_over-clause-put
-returns-then-is_over-clause-put c =
+pub returns-then-is_over : goal.returns-then-is_over
+returns-then-is_over c =
     let y = c.requires.running in
-    let t = c.loop-turns.invariant.0 in partly_last c.loop-turns.invariant.3 (own_over _ _ (sym c.is_over.ensures ∙ c.if-is_over.true))
+    let t = c.loop-turns.invariant.0 in
+    record {
+      put = partly_last c.loop-turns.invariant.3 (own_over _ _ (sym c.is_over.ensures ∙ c.if-is_over.true));
+      area_after = ran_out y.ready (turn_over fixed_order 0 y.ready t c.is_over.ensures c.if-is_over.true).1;
+      running_2 = running_holds y t.holds;
+    }
 
-pub returns-then-is_over-clause-area_after : goal.returns-then-is_over-clause-area_after
-returns-then-is_over-clause-area_after c =
-    let y = c.requires.running in
-    let t = c.loop-turns.invariant.0 in ran_out y.ready (turn_over fixed_order 0 y.ready t c.is_over.ensures c.if-is_over.true).1
-
-pub returns-then-is_over-clause-running_2 : goal.returns-then-is_over-clause-running_2
-returns-then-is_over-clause-running_2 c =
-    let y = c.requires.running in
-    let t = c.loop-turns.invariant.0 in running_holds y t.holds
-
-pub put_own-made-requires-clause-running : goal.put_own-made-requires-clause-running
-put_own-made-requires-clause-running c =
+pub put_own-made-requires : goal.put_own-made-requires
+put_own-made-requires c =
     let y = running_holds c.requires.running c.loop-turns.invariant.0.holds in
     let more : c.loop-turns.turns < knot.most = omega (arith, c.loop-turns-test.true) in
     let line = own_next y.ready (sym c.is_over.ensures ∙ c.if-is_over.false) knot.most c.loop-turns.turns more refl in
     let r = run_in c.loop-turns.area in
     let rest = unless_refused (next_chosen r) (own_text (knot.most - (c.loop-turns.turns + 1)) (run_in (keeping c.loop-turns.area (next_of r).run))) in
-    y
+    record {
+      running = y;
+      remembers = c.loop-turns.invariant.1;
+      area_in_bounds = partly_room (own_line (next_chosen r)) rest c.loop-turns.invariant.3 line c.requires.area_in_bounds;
+    }
 
-pub put_own-made-requires-clause-area_in_bounds : goal.put_own-made-requires-clause-area_in_bounds
-put_own-made-requires-clause-area_in_bounds c =
-    let y = running_holds c.requires.running c.loop-turns.invariant.0.holds in
-    let more : c.loop-turns.turns < knot.most = omega (arith, c.loop-turns-test.true) in
-    let line = own_next y.ready (sym c.is_over.ensures ∙ c.if-is_over.false) knot.most c.loop-turns.turns more refl in
-    let r = run_in c.loop-turns.area in
-    let rest = unless_refused (next_chosen r) (own_text (knot.most - (c.loop-turns.turns + 1)) (run_in (keeping c.loop-turns.area (next_of r).run))) in
-    partly_room (own_line (next_chosen r)) rest c.loop-turns.invariant.3 line c.requires.area_in_bounds
-
-pub returns-then-not-made-clause-put : goal.returns-then-not-made-clause-put
-returns-then-not-made-clause-put c =
+pub returns-then-not-made : goal.returns-then-not-made
+returns-then-not-made c =
     let inv = c.loop-turns.invariant in
     let y = c.requires.running in
     let none = sym c.put_own-made.ensures.made_value ∙ ap bit c.if-not-made.true in
@@ -65,18 +55,11 @@ returns-then-not-made-clause-put c =
     let go = sym c.is_over.ensures ∙ c.if-is_over.false in
     let line = own_next (holding_ready y.ready inv.0.holds) go knot.most c.loop-turns.turns more c.put_own-made.ensures.area_after in
     let end = turn_unmade fixed_order 0 y.ready inv.0 c.is_over.ensures c.if-is_over.false lowest_names more c.put_own-made.ensures.area_after none in
-    partly_last (partly_next inv.3 line c.put_own-made.ensures.put) (follows_none _ _ none)
-
-pub returns-then-not-made-clause-area_after : goal.returns-then-not-made-clause-area_after
-returns-then-not-made-clause-area_after c =
-    let inv = c.loop-turns.invariant in
-    let y = c.requires.running in
-    let none = sym c.put_own-made.ensures.made_value ∙ ap bit c.if-not-made.true in
-    let more : c.loop-turns.turns < knot.most = omega (arith, c.loop-turns-test.true) in
-    let go = sym c.is_over.ensures ∙ c.if-is_over.false in
-    let line = own_next (holding_ready y.ready inv.0.holds) go knot.most c.loop-turns.turns more c.put_own-made.ensures.area_after in
-    let end = turn_unmade fixed_order 0 y.ready inv.0 c.is_over.ensures c.if-is_over.false lowest_names more c.put_own-made.ensures.area_after none in
-    ran_out y.ready end
+    record {
+      put = partly_last (partly_next inv.3 line c.put_own-made.ensures.put) (follows_none _ _ none);
+      area_after = ran_out y.ready end;
+      running_2 = c.put_own-made.ensures.running_2;
+    }
 
 pub loop-turns-preserved : goal.loop-turns-preserved
 loop-turns-preserved c =
@@ -89,20 +72,13 @@ loop-turns-preserved c =
     let next = turn_made fixed_order 0 y.ready inv.0 c.is_over.ensures c.if-is_over.false lowest_names more c.put_own-made.ensures.area_after one in
     (next, c.put_own-made.ensures.remembers_2, c.put_own-made.auto.out ∙ inv.2, rw (follows_made _ _ one) at (partly_next inv.3 line c.put_own-made.ensures.put))
 
-pub returns-clause-put : goal.returns-clause-put
-returns-clause-put c =
+pub returns : goal.returns
+returns c =
     let y = c.requires.running in
     let t = c.loop-turns.invariant.0 in
-    let all : knot.most ≤ c.loop-turns.turns = omega (arith, c.loop-turns-test.false) in partly_last c.loop-turns.invariant.3 (own_full _ _ _ all)
-
-pub returns-clause-area_after : goal.returns-clause-area_after
-returns-clause-area_after c =
-    let y = c.requires.running in
-    let t = c.loop-turns.invariant.0 in
-    let all : knot.most ≤ c.loop-turns.turns = omega (arith, c.loop-turns-test.false) in ran_out y.ready (turn_full fixed_order 0 y.ready t all)
-
-pub returns-clause-running_2 : goal.returns-clause-running_2
-returns-clause-running_2 c =
-    let y = c.requires.running in
-    let t = c.loop-turns.invariant.0 in
-    let all : knot.most ≤ c.loop-turns.turns = omega (arith, c.loop-turns-test.false) in running_holds y t.holds
+    let all : knot.most ≤ c.loop-turns.turns = omega (arith, c.loop-turns-test.false) in
+    record {
+      put = partly_last c.loop-turns.invariant.3 (own_full _ _ _ all);
+      area_after = ran_out y.ready (turn_full fixed_order 0 y.ready t all);
+      running_2 = running_holds y t.holds;
+    }

@@ -16,29 +16,16 @@ arc_in-arc-requires-clause-le_k c =
     let sent-now : Sent c.args.c (fields_in c.args.area.now) c.args.b c.loop-k.k c.requires.marked.0 c.loop-k.memory = c.loop-k.invariant c.requires.marked.0 c.requires.marked.1 in
     ahead_arc c.requires.ready (left_on (ready_right c.requires.ready) c.loop-k.k sent-now.walked.here c.loop-k-test.true)
 
-pub mark-requires-clause-marked : goal.mark-requires-clause-marked
-mark-requires-clause-marked c =
+pub mark-requires : goal.mark-requires
+mark-requires c =
     let sent-now : Sent c.args.c (fields_in c.args.area.now) c.args.b c.loop-k.k c.requires.marked.0 c.loop-k.memory = c.loop-k.invariant c.requires.marked.0 c.requires.marked.1 in
     let h = left_on (ready_right c.requires.ready) c.loop-k.k sent-now.walked.here c.loop-k-test.true in
     let e = far_is c.args.c (fields_in c.args.area.now) c.loop-k.k c.arc_in-arc.ensures c.far_of.ensures in
-    let far-in = process_most c.requires.ready (ahead_far c.requires.ready h) in
-    (sent-now.held, sent-now.marks)
-
-pub mark-requires-clause-process : goal.mark-requires-clause-process
-mark-requires-clause-process c =
-    let sent-now : Sent c.args.c (fields_in c.args.area.now) c.args.b c.loop-k.k c.requires.marked.0 c.loop-k.memory = c.loop-k.invariant c.requires.marked.0 c.requires.marked.1 in
-    let h = left_on (ready_right c.requires.ready) c.loop-k.k sent-now.walked.here c.loop-k-test.true in
-    let e = far_is c.args.c (fields_in c.args.area.now) c.loop-k.k c.arc_in-arc.ensures c.far_of.ensures in
-    let far-in = process_most c.requires.ready (ahead_far c.requires.ready h) in
-    process_most c.requires.ready c.requires.process
-
-pub mark-requires-clause-process_2 : goal.mark-requires-clause-process_2
-mark-requires-clause-process_2 c =
-    let sent-now : Sent c.args.c (fields_in c.args.area.now) c.args.b c.loop-k.k c.requires.marked.0 c.loop-k.memory = c.loop-k.invariant c.requires.marked.0 c.requires.marked.1 in
-    let h = left_on (ready_right c.requires.ready) c.loop-k.k sent-now.walked.here c.loop-k-test.true in
-    let e = far_is c.args.c (fields_in c.args.area.now) c.loop-k.k c.arc_in-arc.ensures c.far_of.ensures in
-    let far-in = process_most c.requires.ready (ahead_far c.requires.ready h) in
-    rw e far-in
+    record {
+      marked = (sent-now.held, sent-now.marks);
+      process = process_most c.requires.ready c.requires.process;
+      process_2 = rw e (process_most c.requires.ready (ahead_far c.requires.ready h));
+    }
 
 pub loop-k-smaller : goal.loop-k-smaller
 loop-k-smaller c =

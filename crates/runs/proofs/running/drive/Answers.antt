@@ -22,42 +22,28 @@ loop-n-init c = (turn_first shuffled_order c.args.seed c.requires.running.ready,
 pub is_over-requires : goal.is_over-requires
 is_over-requires c = holding_ready c.requires.running.ready c.loop-n.invariant.0.holds
 
-pub returns-then-is_over-clause-value : goal.returns-then-is_over-clause-value
-returns-then-is_over-clause-value c =
-    (turn_over shuffled_order c.args.seed c.requires.running.ready c.loop-n.invariant.0 c.is_over.ensures c.if-is_over.true).0
+pub returns-then-is_over : goal.returns-then-is_over
+returns-then-is_over c =
+    let h = turn_over shuffled_order c.args.seed c.requires.running.ready c.loop-n.invariant.0 c.is_over.ensures c.if-is_over.true in
+    record { value = h.0; area_after = h.1 }
 
-pub returns-then-is_over-clause-area_after : goal.returns-then-is_over-clause-area_after
-returns-then-is_over-clause-area_after c =
-    (turn_over shuffled_order c.args.seed c.requires.running.ready c.loop-n.invariant.0 c.is_over.ensures c.if-is_over.true).1
-
-pub returns-then-made-k-clause-value : goal.returns-then-made-k-clause-value
-returns-then-made-k-clause-value c =
-    (turn_spent shuffled_order c.args.seed c.requires.running.ready c.loop-n.invariant.0 c.is_over.ensures c.if-is_over.false c.if-made-k.true).0
-
-pub returns-then-made-k-clause-area_after : goal.returns-then-made-k-clause-area_after
-returns-then-made-k-clause-area_after c =
-    (turn_spent shuffled_order c.args.seed c.requires.running.ready c.loop-n.invariant.0 c.is_over.ensures c.if-is_over.false c.if-made-k.true).1
+pub returns-then-made-k : goal.returns-then-made-k
+returns-then-made-k c =
+    let h = turn_spent shuffled_order c.args.seed c.requires.running.ready c.loop-n.invariant.0 c.is_over.ensures c.if-is_over.false c.if-made-k.true in
+    record { value = h.0; area_after = h.1 }
 
 pub deliver_drawn-requires-clause-running : goal.deliver_drawn-requires-clause-running
 deliver_drawn-requires-clause-running c = running_holds c.requires.running c.loop-n.invariant.0.holds
 
-pub returns-in-Refused-clause-value : goal.returns-in-Refused-clause-value
-returns-in-Refused-clause-value c =
+pub returns-in-Refused : goal.returns-in-Refused
+returns-in-Refused c =
     let y = c.requires.running in
     let t = c.loop-n.invariant.0 in
     let s = moved_on c.loop-n.state in
     let h = left c.loop-n.area c.moved_on-moved.ensures (c.deliver_drawn.ensures.value, (c.deliver_drawn.ensures.area_after, (c.deliver_drawn.ensures.remembers_2, c.deliver_drawn.ensures.running_2))) in
-    (turn_refused shuffled_order c.args.seed y.ready t c.is_over.ensures c.if-is_over.false (drawn_names s) c.if-made-k.false h.1.0
-    (left-refusal (drawn s) (drawn_names s) (running_holds y t.holds) h c.in-Refused.is)).0
-
-pub returns-in-Refused-clause-area_after : goal.returns-in-Refused-clause-area_after
-returns-in-Refused-clause-area_after c =
-    let y = c.requires.running in
-    let t = c.loop-n.invariant.0 in
-    let s = moved_on c.loop-n.state in
-    let h = left c.loop-n.area c.moved_on-moved.ensures (c.deliver_drawn.ensures.value, (c.deliver_drawn.ensures.area_after, (c.deliver_drawn.ensures.remembers_2, c.deliver_drawn.ensures.running_2))) in
-    (turn_refused shuffled_order c.args.seed y.ready t c.is_over.ensures c.if-is_over.false (drawn_names s) c.if-made-k.false h.1.0
-    (left-refusal (drawn s) (drawn_names s) (running_holds y t.holds) h c.in-Refused.is)).1
+    let end = turn_refused shuffled_order c.args.seed y.ready t c.is_over.ensures c.if-is_over.false (drawn_names s) c.if-made-k.false h.1.0
+    (left-refusal (drawn s) (drawn_names s) (running_holds y t.holds) h c.in-Refused.is) in
+    record { value = end.0; area_after = end.1 }
 
 pub loop-n-preserved : goal.loop-n-preserved
 loop-n-preserved c =
