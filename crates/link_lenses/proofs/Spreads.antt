@@ -22,7 +22,7 @@ use Rattle.base.specs.Checks.{Same, same, apart, Tested, passed, failed}
 use Rattle.base.specs.Counts.{sum_over}
 use Rattle.tables.specs.declared.Arc.{Arc}
 use Rattle.tables.specs.declared.Chain.{Chain}
-use Rattle.tables.specs.Table.{Fields, most_processes, first, arc_at, next}
+use Rattle.tables.specs.Table.{Fields, first, arc_at, next}
 use Rattle.tables.specs.Waits.{Waits, waits_of, neighbours}
 use Rattle.tables.specs.Sound.{Sound}
 use Rattle.tables.specs.Chains.{far, joins}
@@ -41,7 +41,7 @@ use Rattle.lenses.specs.Storable.{Storable}
 use Rattle.lenses.specs.ReadyLaws.{right_storable, keeping_fields, ready_n, ready_sizes}
 use Rattle.lenses.specs.ChangeLaws.{joins_low, joins_high, joins_neighbours}
 use Rattle.link_lenses.specs.LinkChangeLaws.{probe_small, storable_push}
-use Rattle.lenses.proofs.Holding.{Holding, holding_first, holding_run, holding_ready, holding_next}
+use Rattle.lenses.proofs.Holding.{Holding, holding_first, holding_run, holding_next}
 use Rattle.lenses.proofs.ChainWalks.{ends, to_go, ArcsLeft, Ahead, first_ends, left_first, left_on, left_end, ready_right, ready_process, ahead_arc}
 use Rattle.lenses.proofs.ChainWalks.{ahead_far}
 

@@ -4,7 +4,7 @@
 --   arc_low              == the number of a pair's arc, up to arc m, is at most m
 --   place_is, place_low  == where the links of an arc begin, as code finds it, is a small number
 -- Assumes nothing.
-use Prim.Native.Nat.{ℕ, zero, suc, ◌-◌, ◌≤◌, ◌<◌}
+use Prim.Native.Nat.{ℕ, zero, suc, ◌≤◌, ◌<◌}
 use mathlib.Core.Bool.{Bool, not}
 use mathlib.Core.List.{List}
 use mathlib.Core.Path.{◌≡◌}

@@ -5,95 +5,46 @@ use Rattle.steps.specs.StepLaws.{in_range_P}
 use Rattle.one_step.proofs.Turning.{lent, rule1_num, rule1_second, rule1_ready, set_succeeding_ready, set_preceding_ready, acknowledgeable}
 use Rattle.one_step.proofs.take_turn.Goals as goal
 
-pub set_succeeding-requires-clause-out_degree_le_most_processes : goal.set_succeeding-requires-clause-out_degree_le_most_processes
-set_succeeding-requires-clause-out_degree_le_most_processes c =
-    let x = c.args.process in
-    let h = lent c.args.message c.args.out_degree c.args.in_degree x c.requires.process_value in omega arith
-
-pub set_succeeding-requires-clause-num_le_most_num : goal.set_succeeding-requires-clause-num_le_most_num
-set_succeeding-requires-clause-num_le_most_num c =
-    let x = c.args.process in
-    let h = lent c.args.message c.args.out_degree c.args.in_degree x c.requires.process_value in rw (c.rule1.ensures, rule1_num c.args.sender x) (in_range_P x h.process).num
-
-pub set_succeeding-requires-clause-second_value : goal.set_succeeding-requires-clause-second_value
-set_succeeding-requires-clause-second_value c =
-    let x = c.args.process in
-    let h = lent c.args.message c.args.out_degree c.args.in_degree x c.requires.process_value in rw c.rule1.ensures (rule1_second c.args.sender x h.process)
-
-pub rule3-requires-clause-addable : goal.rule3-requires-clause-addable
-rule3-requires-clause-addable c =
+pub set_succeeding-requires : goal.set_succeeding-requires
+set_succeeding-requires c =
     let x = c.args.process in
     let h = lent c.args.message c.args.out_degree c.args.in_degree x c.requires.process_value in
-    rw (c.set_succeeding.ensures, c.rule1.ensures)
-    (set_succeeding_ready _ (rule1 c.args.sender x) (rule1_ready c.args.sender x h.process)).0
+    record {
+      out_degree_le_most_processes = omega arith;
+      num_le_most_num = rw (c.rule1.ensures, rule1_num c.args.sender x) (in_range_P x h.process).num;
+      second_value = rw c.rule1.ensures (rule1_second c.args.sender x h.process);
+    }
 
-pub rule3-requires-clause-succeeding_bound : goal.rule3-requires-clause-succeeding_bound
-rule3-requires-clause-succeeding_bound c =
+pub rule3-requires : goal.rule3-requires
+rule3-requires c =
     let x = c.args.process in
     let h = lent c.args.message c.args.out_degree c.args.in_degree x c.requires.process_value in
-    rw (c.set_succeeding.ensures, c.rule1.ensures)
-    (set_succeeding_ready _ (rule1 c.args.sender x) (rule1_ready c.args.sender x h.process)).1.0
+    let r = set_succeeding_ready _ (rule1 c.args.sender x) (rule1_ready c.args.sender x h.process) in
+    rw (c.set_succeeding.ensures, c.rule1.ensures) (record { addable = r.0; succeeding_bound = r.1.0; preceding_bound = r.1.1 })
 
-pub rule3-requires-clause-preceding_bound : goal.rule3-requires-clause-preceding_bound
-rule3-requires-clause-preceding_bound c =
+pub set_preceding-requires : goal.set_preceding-requires
+set_preceding-requires c =
     let x = c.args.process in
     let h = lent c.args.message c.args.out_degree c.args.in_degree x c.requires.process_value in
-    rw (c.set_succeeding.ensures, c.rule1.ensures)
-    (set_succeeding_ready _ (rule1 c.args.sender x) (rule1_ready c.args.sender x h.process)).1.1
+    record {
+      in_degree_le_most_processes = omega arith;
+      num_le_most_num = rw (c.rule1-in-Pre.ensures, rule1_num c.args.sender x) (in_range_P x h.process).num;
+    }
 
-pub set_preceding-requires-clause-in_degree_le_most_processes : goal.set_preceding-requires-clause-in_degree_le_most_processes
-set_preceding-requires-clause-in_degree_le_most_processes c =
+pub rule3-requires-in-Pre : goal.rule3-requires-in-Pre
+rule3-requires-in-Pre c =
     let x = c.args.process in
     let h = lent c.args.message c.args.out_degree c.args.in_degree x c.requires.process_value in
-    omega arith
+    let r = set_preceding_ready _ (rule1 c.args.sender x) (rule1_ready c.args.sender x h.process) in
+    rw (c.set_preceding.ensures, c.rule1-in-Pre.ensures) (record { addable = r.0; succeeding_bound = r.1.0; preceding_bound = r.1.1 })
 
-pub set_preceding-requires-clause-num_le_most_num : goal.set_preceding-requires-clause-num_le_most_num
-set_preceding-requires-clause-num_le_most_num c =
-    let x = c.args.process in
-    let h = lent c.args.message c.args.out_degree c.args.in_degree x c.requires.process_value in
-    rw (c.rule1-in-Pre.ensures, rule1_num c.args.sender x) (in_range_P x h.process).num
-
-pub rule3-requires-in-Pre-clause-addable : goal.rule3-requires-in-Pre-clause-addable
-rule3-requires-in-Pre-clause-addable c =
-    let x = c.args.process in
-    let h = lent c.args.message c.args.out_degree c.args.in_degree x c.requires.process_value in
-    rw (c.set_preceding.ensures, c.rule1-in-Pre.ensures)
-    (set_preceding_ready _ (rule1 c.args.sender x) (rule1_ready c.args.sender x h.process)).0
-
-pub rule3-requires-in-Pre-clause-succeeding_bound : goal.rule3-requires-in-Pre-clause-succeeding_bound
-rule3-requires-in-Pre-clause-succeeding_bound c =
-    let x = c.args.process in
-    let h = lent c.args.message c.args.out_degree c.args.in_degree x c.requires.process_value in
-    rw (c.set_preceding.ensures, c.rule1-in-Pre.ensures)
-    (set_preceding_ready _ (rule1 c.args.sender x) (rule1_ready c.args.sender x h.process)).1.0
-
-pub rule3-requires-in-Pre-clause-preceding_bound : goal.rule3-requires-in-Pre-clause-preceding_bound
-rule3-requires-in-Pre-clause-preceding_bound c =
-    let x = c.args.process in
-    let h = lent c.args.message c.args.out_degree c.args.in_degree x c.requires.process_value in
-    rw (c.set_preceding.ensures, c.rule1-in-Pre.ensures)
-    (set_preceding_ready _ (rule1 c.args.sender x) (rule1_ready c.args.sender x h.process)).1.1
-
-pub acknowledged-requires-clause-counts_value : goal.acknowledged-requires-clause-counts_value
-acknowledged-requires-clause-counts_value c =
+pub acknowledged-requires : goal.acknowledged-requires
+acknowledged-requires c =
     let x = c.args.process in
     let m = c.args.message in
     let h = lent m c.args.out_degree c.args.in_degree x c.requires.process_value in
-    (acknowledgeable m c.in-Ack.counts x c.in-Ack.is h.process h.count c.requires.process_value_2).0
-
-pub acknowledged-requires-clause-process_value : goal.acknowledged-requires-clause-process_value
-acknowledged-requires-clause-process_value c =
-    let x = c.args.process in
-    let m = c.args.message in
-    let h = lent m c.args.out_degree c.args.in_degree x c.requires.process_value in
-    (acknowledgeable m c.in-Ack.counts x c.in-Ack.is h.process h.count c.requires.process_value_2).1.0
-
-pub acknowledged-requires-clause-le_num : goal.acknowledged-requires-clause-le_num
-acknowledged-requires-clause-le_num c =
-    let x = c.args.process in
-    let m = c.args.message in
-    let h = lent m c.args.out_degree c.args.in_degree x c.requires.process_value in
-    (acknowledgeable m c.in-Ack.counts x c.in-Ack.is h.process h.count c.requires.process_value_2).1.1
+    let a = acknowledgeable m c.in-Ack.counts x c.in-Ack.is h.process h.count c.requires.process_value_2 in
+    record { counts_value = a.0; process_value = a.1.0; le_num = a.1.1 }
 
 pub returns-in-Suc : goal.returns-in-Suc
 unfolding turn

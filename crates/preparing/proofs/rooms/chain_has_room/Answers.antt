@@ -1,10 +1,9 @@
 -- `preparing::rooms::chain_has_room` meets its contract. The loop's invariant: the far ends of the arcs passed have room. The measure is
 -- how many arcs are left.
-use Rattle.std.proofs.Common.{ℕ, true, List, ◌≡◌, refl, sym, ap, ◌∙◌, arith, ℤ}
-use Rattle.base.specs.ChoiceLaws.{bit_≤1}
+use Rattle.std.proofs.Common.{ℕ, true, List, ◌≡◌, refl, sym, ap, ◌∙◌, arith, rules, ℤ}
 use Rattle.tables.specs.declared.Chain.{Chain}
 use Rattle.tables.specs.declared.Chain.TheVariants.{Out, In}
-use Rattle.tables.specs.Table.{arc_at, next}
+use Rattle.tables.specs.Table.{arc_at}
 use Rattle.tables.specs.Waits.{Waits, waits_of}
 use Rattle.tables.specs.Chains.{far, joins}
 use Rattle.areas.specs.Area.{fields_in, run_in}
@@ -26,63 +25,54 @@ goes_along w In b q = refl
 by_table : (w : List ℤ) (c : Chain) (b q : ℕ) → joins c (run_in w).waits b q ≡ joins c (waits_of (fields_in w)) b q
 by_table w c b q = ap (λ (v : Waits). joins c v b q) (run_in_contained w).waits
 
+-- a probe goes to the far end of the arc ahead
+goes_to : (w : List ℤ) {c : Chain} {b k q : ℕ} → Ahead c (fields_in w) b k → q ≡ far c (arc_at (fields_in w) k) → probes_go (run_in w).waits (probes_of c) b q ≡ true
+goes_to w {c} {b} {k} {q} h e = sym (goes_along (run_in w).waits c b q) ∙ by_table w c b q ∙ rw e h.joined
+
 pub loop-k-init : goal.loop-k-init
 loop-k-init c = walked_first (ready_right c.requires.ready) _ (ready_process c.requires.ready c.requires.le_b) c.first_in-k.ensures
 
-pub room_for-requires-clause-q_le_n : goal.room_for-requires-clause-q_le_n
-room_for-requires-clause-q_le_n c =
-    let ahead : Ahead c.args.c (fields_in c.args.area.now) c.args.b c.loop-k.k = left_on (ready_right c.requires.ready) c.loop-k.k c.loop-k.invariant.here c.loop-k-test.true in
-    let to_is : c.far_of-q.result ≡ far c.args.c (arc_at (fields_in c.args.area.now) c.loop-k.k) = far_is c.args.c (fields_in c.args.area.now) c.loop-k.k c.arc_in-arc.ensures c.far_of-q.ensures in
+pub room_for-requires : goal.room_for-requires
+room_for-requires c =
+    let ahead = left_on (ready_right c.requires.ready) c.loop-k.k c.loop-k.invariant.here c.loop-k-test.true in
+    let to_is = far_is c.args.c (fields_in c.args.area.now) c.loop-k.k c.arc_in-arc.ensures c.far_of-q.ensures in
     let a = c.args in
-    let u = bit_≤1 c.is_for.result in rw to_is (ahead_far c.requires.ready ahead).1
-
-pub room_for-requires-clause-q_value : goal.room_for-requires-clause-q_value
-room_for-requires-clause-q_value c =
-    let ahead : Ahead c.args.c (fields_in c.args.area.now) c.args.b c.loop-k.k = left_on (ready_right c.requires.ready) c.loop-k.k c.loop-k.invariant.here c.loop-k-test.true in
-    let to_is : c.far_of-q.result ≡ far c.args.c (arc_at (fields_in c.args.area.now) c.loop-k.k) = far_is c.args.c (fields_in c.args.area.now) c.loop-k.k c.arc_in-arc.ensures c.far_of-q.ensures in
-    let a = c.args in
-    let u = bit_≤1 c.is_for.result in rw to_is (joins_neighbours a.c (waits_of (fields_in a.area.now)) a.b (far a.c (arc_at (fields_in a.area.now) c.loop-k.k)) ahead.joined)
+    record {
+      ready = c.requires.ready;
+      row = c.requires.row;
+      q_le_n = rw to_is (ahead_far c.requires.ready ahead).1;
+      q_value = rw to_is (joins_neighbours a.c (waits_of (fields_in a.area.now)) a.b (far a.c (arc_at (fields_in a.area.now) c.loop-k.k)) ahead.joined);
+      le_sent = search rules;
+    }
 
 pub returns-then-not-room_for : goal.returns-then-not-room_for
 returns-then-not-room_for c =
-    let ahead : Ahead c.args.c (fields_in c.args.area.now) c.args.b c.loop-k.k = left_on (ready_right c.requires.ready) c.loop-k.k c.loop-k.invariant.here c.loop-k-test.true in
-    let to_is : c.far_of-q.result ≡ far c.args.c (arc_at (fields_in c.args.area.now) c.loop-k.k) = far_is c.args.c (fields_in c.args.area.now) c.loop-k.k c.arc_in-arc.ensures c.far_of-q.ensures in
-    let tested-room : let a = c.args in c.room_for.result ≡ room a.area.now a.c a.a a.b a.reply (far a.c (arc_at (fields_in a.area.now) c.loop-k.k)) = let a = c.args in
-    let w = a.area.now in
-    let q = c.far_of-q.result in
-    let j : probes_go (run_in w).waits (probes_of a.c) a.b q ≡ true =
-    sym (goes_along (run_in w).waits a.c a.b q) ∙ by_table w a.c a.b q ∙ rw to_is ahead.joined in
-    probe_room w a.a a.b (probes_of a.c) a.reply q c.is_for.result c.one_or_two.ensures c.room_for.ensures j c.is_for.ensures
-    ∙ ap (room w a.c a.a a.b a.reply) to_is in
+    let ahead = left_on (ready_right c.requires.ready) c.loop-k.k c.loop-k.invariant.here c.loop-k-test.true in
+    let to_is = far_is c.args.c (fields_in c.args.area.now) c.loop-k.k c.arc_in-arc.ensures c.far_of-q.ensures in
     let a = c.args in
+    let has = probe_room a.area.now a.a a.b (probes_of a.c) a.reply c.far_of-q.result c.is_for.result c.one_or_two.ensures c.room_for.ensures (goes_to _ ahead to_is) c.is_for.ensures in
+    let tested = has ∙ ap (room a.area.now a.c a.a a.b a.reply) to_is in
     walked_fails (ready_right c.requires.ready) (room a.area.now a.c a.a a.b a.reply) a.n c.requires.ready.n_is
     (λ q. joins a.c (run_in a.area.now).waits a.b q) (λ q u. by_table a.area.now a.c a.b q) c.loop-k.invariant c.loop-k-test.true
-    (sym tested-room ∙ c.if-not-room_for.true)
+    (sym tested ∙ c.if-not-room_for.true)
 
 pub loop-k-smaller : goal.loop-k-smaller
 loop-k-smaller c =
-    let ahead : Ahead c.args.c (fields_in c.args.area.now) c.args.b c.loop-k.k = left_on (ready_right c.requires.ready) c.loop-k.k c.loop-k.invariant.here c.loop-k-test.true in
-    let next-arc : let a = c.args in c.next_of-k.result ≡ next a.c (arc_at (fields_in a.area.now) c.loop-k.k) = let a = c.args in
-    next_is a.c (fields_in a.area.now) c.loop-k.k c.arc_in-arc.ensures c.next_of-k.ensures in
-    rw next-arc (omega (arith, ahead.less))
+    let ahead = left_on (ready_right c.requires.ready) c.loop-k.k c.loop-k.invariant.here c.loop-k-test.true in
+    let next_arc = next_is c.args.c (fields_in c.args.area.now) c.loop-k.k c.arc_in-arc.ensures c.next_of-k.ensures in
+    rw next_arc (omega (arith, ahead.less))
 
 pub loop-k-preserved : goal.loop-k-preserved
 loop-k-preserved c =
-    let ahead : Ahead c.args.c (fields_in c.args.area.now) c.args.b c.loop-k.k = left_on (ready_right c.requires.ready) c.loop-k.k c.loop-k.invariant.here c.loop-k-test.true in
-    let to_is : c.far_of-q.result ≡ far c.args.c (arc_at (fields_in c.args.area.now) c.loop-k.k) = far_is c.args.c (fields_in c.args.area.now) c.loop-k.k c.arc_in-arc.ensures c.far_of-q.ensures in
-    let tested-room : let a = c.args in c.room_for.result ≡ room a.area.now a.c a.a a.b a.reply (far a.c (arc_at (fields_in a.area.now) c.loop-k.k)) = let a = c.args in
-    let w = a.area.now in
-    let q = c.far_of-q.result in
-    let j : probes_go (run_in w).waits (probes_of a.c) a.b q ≡ true =
-    sym (goes_along (run_in w).waits a.c a.b q) ∙ by_table w a.c a.b q ∙ rw to_is ahead.joined in
-    probe_room w a.a a.b (probes_of a.c) a.reply q c.is_for.result c.one_or_two.ensures c.room_for.ensures j c.is_for.ensures
-    ∙ ap (room w a.c a.a a.b a.reply) to_is in
-    let next-arc : let a = c.args in c.next_of-k.result ≡ next a.c (arc_at (fields_in a.area.now) c.loop-k.k) = let a = c.args in
-    next_is a.c (fields_in a.area.now) c.loop-k.k c.arc_in-arc.ensures c.next_of-k.ensures in
+    let ahead = left_on (ready_right c.requires.ready) c.loop-k.k c.loop-k.invariant.here c.loop-k-test.true in
+    let to_is = far_is c.args.c (fields_in c.args.area.now) c.loop-k.k c.arc_in-arc.ensures c.far_of-q.ensures in
+    let next_arc = next_is c.args.c (fields_in c.args.area.now) c.loop-k.k c.arc_in-arc.ensures c.next_of-k.ensures in
     let a = c.args in
-    rw next-arc
+    let has = probe_room a.area.now a.a a.b (probes_of a.c) a.reply c.far_of-q.result c.is_for.result c.one_or_two.ensures c.room_for.ensures (goes_to _ ahead to_is) c.is_for.ensures in
+    let tested = has ∙ ap (room a.area.now a.c a.a a.b a.reply) to_is in
+    rw next_arc
     (walked_next (ready_right c.requires.ready) (room a.area.now a.c a.a a.b a.reply) c.loop-k.invariant c.loop-k-test.true
-    (sym tested-room ∙ c.if-not-room_for.false))
+    (sym tested ∙ c.if-not-room_for.false))
 
 pub returns : goal.returns
 returns c =
