@@ -10,41 +10,43 @@
 --   AreaPromise w s ed old n p           == what is said of every list: the area is well formed, its run keeps the promise of crate checks,
 --                                           and the words from n on are those of old
 -- Assumes nothing.
-use Rattle.std.specs.Prelude.{ℕ}
+use Rattle.std.specs.Prelude.{ℕ, Result, Err}
 use mathlib.Core.{List.List, List.[], List.◌∷◌, Path.◌≡◌, Bool.true}
 use lib.{IntN.ℤ, ListN.drop}
 use Rattle.base.specs.Choice.{choose}
 use Rattle.tables.specs.Waits.{Waits}
-use Rattle.machine.specs.{declared.Ran.Ran, Calls.ran_number, Calls.ran_made}
+use Rattle.refusals.specs.{declared.Refusal.Refusal, Numbers.numbered}
+use Rattle.machine.specs.{declared.Ran.Ran, declared.Halted.Halted, Calls.halted, Calls.ran_number, Calls.ran_made}
 use Rattle.machine.specs.Lists.{Call, picking, running_on, running_shuffled, reporting, reading, Passed, in_turn}
-use Rattle.checks.specs.declared.{Delivery.Delivery, Report.Report, Reading.Reading}
+use Rattle.steps.specs.declared.{Message.Message, Process.Process}
+use Rattle.checks.specs.declared.Report.{Report}
 use Rattle.checks.specs.Calls.{pick, run_on, run_shuffled, report, read_record, delivery_number, delivery_made, report_number, reading_number}
 use Rattle.checks.specs.{Run.Run, Lists.Promise}
 use Rattle.areas.specs.Area.{keeping, run_in, area_right}
 
-unfoldable pub pick_answer : List ℤ → ℕ → ℕ → ℕ → Delivery
-pick_answer w a b k = choose (area_right w) (pick (run_in w) a b k).answer (Delivery.Refused 21)
+unfoldable pub pick_answer : List ℤ → ℕ → ℕ → ℕ → Result Message Refusal
+pick_answer w a b k = choose (area_right w) (pick (run_in w) a b k).answer (Err (numbered 21))
 
 unfoldable pub pick_area : List ℤ → ℕ → ℕ → ℕ → List ℤ
 pick_area w a b k = choose (area_right w) (keeping w (pick (run_in w) a b k).run) w
 
-unfoldable pub run_on_answer : ℕ → List ℤ → Ran
-run_on_answer k w = choose (area_right w) (run_on k (run_in w)).answer (Ran.Refused 21 0)
+unfoldable pub run_on_answer : ℕ → List ℤ → Result Ran Halted
+run_on_answer k w = choose (area_right w) (run_on k (run_in w)).answer (halted 21 0)
 
 unfoldable pub run_on_area : ℕ → List ℤ → List ℤ
 run_on_area k w = choose (area_right w) (keeping w (run_on k (run_in w)).run) w
 
-unfoldable pub shuffled_answer : ℕ → ℕ → List ℤ → Ran
-shuffled_answer k seed w = choose (area_right w) (run_shuffled k seed (run_in w)).answer (Ran.Refused 21 0)
+unfoldable pub shuffled_answer : ℕ → ℕ → List ℤ → Result Ran Halted
+shuffled_answer k seed w = choose (area_right w) (run_shuffled k seed (run_in w)).answer (halted 21 0)
 
 unfoldable pub shuffled_area : ℕ → ℕ → List ℤ → List ℤ
 shuffled_area k seed w = choose (area_right w) (keeping w (run_shuffled k seed (run_in w)).run) w
 
-unfoldable pub report_answer : List ℤ → Report
-report_answer w = choose (area_right w) (report (run_in w)) (Report.Refused 21)
+unfoldable pub report_answer : List ℤ → Result Report Refusal
+report_answer w = choose (area_right w) (report (run_in w)) (Err (numbered 21))
 
-unfoldable pub read_answer : List ℤ → ℕ → Reading
-read_answer w p = choose (area_right w) (read_record (run_in w) p) (Reading.Refused 21)
+unfoldable pub read_answer : List ℤ → ℕ → Result Process Refusal
+read_answer w p = choose (area_right w) (read_record (run_in w) p) (Err (numbered 21))
 
 -- ---- lists of calls (01, "The end of a check")
 

@@ -9,21 +9,17 @@
 --   passed_then                               == a list of calls after a list
 --   passed_21                                 == no list changes an area that is not well formed
 -- Assumes nothing.
-use Rattle.std.specs.Prelude.{ℕ, true, false, List, [], ◌∷◌, ◌++◌, ◌≡◌, refl}
+use Rattle.std.specs.Prelude.{ℕ, true, false, List, [], ◌∷◌, ◌++◌, ◌≡◌, refl, Ok, Err}
+use Rattle.refusals.specs.Numbers.{numbered}
 use Rattle.std.proofs.Common.{sym, ap, ◌∙◌}
 use lib.{Dec.eqb, IntN.ℤ}
 use Rattle.machine.specs.Calls as MachineCalls
-use Rattle.machine.specs.Calls.{RanOn, fixed_order, shuffled_order, run_from}
+use Rattle.machine.specs.Calls.{RanOn, halted, fixed_order, shuffled_order, run_from}
 use Rattle.machine.proofs.ChooserLaws.{shuffled_zero}
 use Rattle.machine.specs.Lists.{Call, picking, running_on, running_shuffled, reporting, reading, in_turn}
 use Rattle.tables.specs.Table.{is_process}
 use Rattle.tables.specs.Waits.{neighbours}
 use Rattle.steps.specs.declared.{Message.Message, Process.Process}
-use Rattle.checks.specs.declared.Delivery.{Delivery}
-use Rattle.machine.specs.declared.Ran.{Ran}
-use Rattle.checks.specs.declared.Report.{Report}
-use Rattle.checks.specs.declared.Reading.{Reading}
-use Rattle.checks.specs.declared.Reading.TheVariants.{Found}
 use Rattle.checks.specs.Run.{knot, over, well_formed}
 use Rattle.checks.specs.Calls.{deliver, reported, report, read_record}
 use Rattle.areas.specs.Area.{run_in, area_right, keeping}
@@ -35,23 +31,23 @@ use Rattle.area_calls.specs.AreaCalls.{report_answer, read_answer, area_passed_b
 -- ---- 21
 
 module _ (w : List ℤ) (e : area_right w ≡ false) where
-  pub pick_21 : (a b k : ℕ) → (Delivery.Refused 21 ≡ pick_answer w a b k) × (w ≡ pick_area w a b k)
+  pub pick_21 : (a b k : ℕ) → (Err (numbered 21) ≡ pick_answer w a b k) × (w ≡ pick_area w a b k)
   unfolding pick_answer pick_area
   pick_21 a b k = (rw e, rw e)
 
-  pub run_on_21 : (k : ℕ) → (Ran.Refused 21 0 ≡ run_on_answer k w) × (w ≡ run_on_area k w)
+  pub run_on_21 : (k : ℕ) → (halted 21 0 ≡ run_on_answer k w) × (w ≡ run_on_area k w)
   unfolding run_on_answer run_on_area
   run_on_21 k = (rw e, rw e)
 
-  pub shuffled_21 : (k seed : ℕ) → (Ran.Refused 21 0 ≡ shuffled_answer k seed w) × (w ≡ shuffled_area k seed w)
+  pub shuffled_21 : (k seed : ℕ) → (halted 21 0 ≡ shuffled_answer k seed w) × (w ≡ shuffled_area k seed w)
   unfolding shuffled_answer shuffled_area
   shuffled_21 k seed = (rw e, rw e)
 
-  pub report_21 : Report.Refused 21 ≡ report_answer w
+  pub report_21 : Err (numbered 21) ≡ report_answer w
   unfolding report_answer
   report_21 = rw e
 
-  pub read_21 : (p : ℕ) → Reading.Refused 21 ≡ read_answer w p
+  pub read_21 : (p : ℕ) → Err (numbered 21) ≡ read_answer w p
   unfolding read_answer
   read_21 p = rw e
 
@@ -64,12 +60,12 @@ module _ (w : List ℤ) (e : area_right w ≡ true) where
   pub same : w ≡ keeping w (run_in w)
   same = sym (stored_same w e)
 
-  pub pick_25 : (a b k : ℕ) → neighbours (run_in w).waits a b ≡ false → (Delivery.Refused 25 ≡ pick_answer w a b k) × (w ≡ pick_area w a b k)
+  pub pick_25 : (a b k : ℕ) → neighbours (run_in w).waits a b ≡ false → (Err (numbered 25) ≡ pick_answer w a b k) × (w ≡ pick_area w a b k)
   unfolding pick_answer pick_area MachineCalls.pick
   pick_25 a b k n = (rw (e, formed, n), rw (e, formed, n) same)
 
   pub pick_23 : (a b k : ℕ) → neighbours (run_in w).waits a b ≡ true → over (run_in w) ≡ true →
-      (Delivery.Refused 23 ≡ pick_answer w a b k) × (w ≡ pick_area w a b k)
+      (Err (numbered 23) ≡ pick_answer w a b k) × (w ≡ pick_area w a b k)
   unfolding pick_answer pick_area MachineCalls.pick
   pick_23 a b k n o = (rw (e, formed, n, o), rw (e, formed, n, o) same)
 
@@ -92,7 +88,7 @@ module _ (w : List ℤ) (e : area_right w ≡ true) where
       (rw (e, formed) (ap (λ (o : RanOn Process Message). o.answer) z), rw (e, formed) (ap (λ (o : RanOn Process Message). keeping w o.run) z))
 
   -- "It refuses seed 0 with 37, after 21." (02, N13)
-  pub shuffled_37 : (k seed : ℕ) → eqb seed 0 ≡ true → (Ran.Refused 37 0 ≡ shuffled_answer k seed w) × (w ≡ shuffled_area k seed w)
+  pub shuffled_37 : (k seed : ℕ) → eqb seed 0 ≡ true → (halted 37 0 ≡ shuffled_answer k seed w) × (w ≡ shuffled_area k seed w)
   unfolding shuffled_answer shuffled_area MachineCalls.run_shuffled
   shuffled_37 k seed z = (rw (e, formed, z), rw (e, formed, z) same)
 
@@ -102,7 +98,7 @@ module _ (w : List ℤ) (e : area_right w ≡ true) where
   unfolding shuffled_answer shuffled_area MachineCalls.run_shuffled
   shuffled_on k seed z = (rw (e, formed, z), rw (e, formed, z))
 
-  pub report_26 : over (run_in w) ≡ false → Report.Refused 26 ≡ report_answer w
+  pub report_26 : over (run_in w) ≡ false → Err (numbered 26) ≡ report_answer w
   unfolding report_answer report
   report_26 o = rw (e, formed, o)
 
@@ -110,15 +106,15 @@ module _ (w : List ℤ) (e : area_right w ≡ true) where
   unfolding report_answer
   report_on = rw e
 
-  pub report_over : over (run_in w) ≡ true → reported (run_in w) ≡ report_answer w
+  pub report_over : over (run_in w) ≡ true → Ok (reported (run_in w)) ≡ report_answer w
   unfolding report_answer report
   report_over o = rw (e, formed, o)
 
-  pub read_25 : (p : ℕ) → is_process (run_in w).waits.n p ≡ false → Reading.Refused 25 ≡ read_answer w p
+  pub read_25 : (p : ℕ) → is_process (run_in w).waits.n p ≡ false → Err (numbered 25) ≡ read_answer w p
   unfolding read_answer read_record
   read_25 p o = rw (e, formed, o)
 
-  pub read_found : (p : ℕ) → is_process (run_in w).waits.n p ≡ true → Found ((run_in w).process p) ≡ read_answer w p
+  pub read_found : (p : ℕ) → is_process (run_in w).waits.n p ≡ true → Ok ((run_in w).process p) ≡ read_answer w p
   unfolding read_answer read_record
   read_found p o = rw (e, formed, o)
 

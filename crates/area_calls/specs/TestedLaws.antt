@@ -1,19 +1,20 @@
 -- What the test of an area says to a call.
 --   fresh_long, fresh_empty   == a fresh array has all its numbers, each 0
---   wrong_area                == the test says wrong: the area is not well formed
+--   wrong_area, wrong_named   == the test refuses: the area is not well formed, and that is what the refusal says
 --   right_area, right_ready   == the test gives N and M: the area is well formed, and ready
 --   ready_process             == whether a number is a process of the run
 --   none_from, none_to        == who is no process has no link
 -- Assumes nothing.
-use Rattle.std.specs.Prelude.{ℕ, Bool, true, false, List, ◌≡◌, refl, length, get_or, replicate, ℤ}
+use Rattle.std.specs.Prelude.{ℕ, Bool, true, false, List, ◌≡◌, refl, length, get_or, replicate, ℤ, Result, Ok, Err}
 use Rattle.std.proofs.lemmas.Bool.{false≢true}
 use Rattle.std.proofs.Common.{sym, ap, ◌∙◌, arith}
 use Rattle.std.proofs.lemmas.List.{length-replicate}
 use Rattle.tables.specs.TableLaws.{is_process_P}
 use Rattle.tables.specs.Table.{is_process}
 use Rattle.areas.specs.Places.{field_place}
-use Rattle.area_tests.specs.declared.testing.Sizes.{Sizes}
-use Rattle.area_tests.specs.declared.testing.Sizes.TheVariants.{Right, Wrong}
+use Rattle.refusals.specs.declared.Refusal.{Refusal}
+use Rattle.refusals.specs.declared.Refusal.TheVariants.{NotWellFormed}
+use Rattle.tables.specs.declared.Sizes.{Sizes}
 use Rattle.areas.specs.Area.{number_at, run_in, area_right}
 use Rattle.areas.specs.RunInLaws.{fields_in_n, fields_in_m}
 use Rattle.area_tests.specs.Testing.{sizes_of}
@@ -29,46 +30,44 @@ fresh_long n l e = ap length e ∙ length-replicate n 0
 pub fresh_empty : (n : ℕ) (l : List ℕ) → l ≡ replicate n 0 → (k : ℕ) → get_or l k 0 ≡ 0
 fresh_empty n l e k = rw e (replicate_zero n k)
 
-pub wrong_area : (w : List ℤ) (s : Sizes) → s ≡ sizes_of (area_right w) w → s ≡ Wrong → area_right w ≡ false
-wrong_area w s e f = at (area_right w) refl
-  where
-    at : (b : Bool) → area_right w ≡ b → area_right w ≡ false
-    at false g = g
-    at true g =
-        let h : Wrong ≡ Right (number_at w (field_place 0)) (number_at w (field_place 1)) = sym f ∙ e ∙ ap (λ (b : Bool). sizes_of b w) g in
-        let z : ◌≡◌ {A = ℕ} 0 1 = cc in
-        absurd (omega arith)
+-- an area that is not well formed is refused by the test, and one that is gives its N and M
+module _ (w : List ℤ) (x : Result Sizes Refusal) (e : x ≡ sizes_of (area_right w) w) where
+  module _ {r : Refusal} (f : x ≡ Err r) where
+    wrong : (b : Bool) → Err r ≡ sizes_of b w → (b ≡ false) × (r ≡ NotWellFormed)
+    wrong false h = (refl, cc)
+    wrong true h = let z : ◌≡◌ {A = ℕ} 0 1 = cc in absurd (omega arith)
 
-right_area : (w : List ℤ) (s : Sizes) (n m : ℕ) → s ≡ sizes_of (area_right w) w → s ≡ Right n m → area_right w ≡ true
-right_area w s n m e f = at (area_right w) refl
-  where
-    at : (b : Bool) → area_right w ≡ b → area_right w ≡ true
-    at true g = g
-    at false g =
-        let h : Right n m ≡ Wrong = sym f ∙ e ∙ ap (λ (b : Bool). sizes_of b w) g in
-        let z : ◌≡◌ {A = ℕ} 0 1 = cc in
-        absurd (omega arith)
+    pub wrong_area : area_right w ≡ false
+    wrong_area = (wrong (area_right w) (sym f ∙ e)).0
 
-pub right_ready : (w : List ℤ) (s : Sizes) (n m : ℕ) → s ≡ sizes_of (area_right w) w → s ≡ Right n m → Ready w n m
-right_ready w s n m e f =
-    let g : area_right w ≡ true = right_area w s n m e f in
-    let h : Right n m ≡ Right (number_at w (field_place 0)) (number_at w (field_place 1)) = sym f ∙ e ∙ ap (λ (b : Bool). sizes_of b w) g in
-    let a : n ≡ number_at w (field_place 0) = cc in
-    let b : m ≡ number_at w (field_place 1) = cc in
-    record { right = g; n_is = a ∙ sym (fields_in_n w); m_is = b ∙ sym (fields_in_m w) }
+    pub wrong_named : r ≡ NotWellFormed
+    wrong_named = (wrong (area_right w) (sym f ∙ e)).1
 
-pub ready_process : {w : List ℤ} {n m : ℕ} → Ready w n m → (p : ℕ) {b : Bool} → b ≡ is_process n p → b ≡ is_process (run_in w).waits.n p
+  pub right_ready : (s : Sizes) → x ≡ Ok s → Ready w s
+  right_ready s f = at (area_right w) refl (sym f ∙ e)
+    where
+      at : (b : Bool) → area_right w ≡ b → Ok s ≡ sizes_of b w → Ready w s
+      at false g h = let z : ◌≡◌ {A = ℕ} 0 1 = cc in absurd (omega arith)
+      at true g h =
+          let is : s ≡ record { n = number_at w (field_place 0); m = number_at w (field_place 1) } = cc in
+          record {
+            right = g;
+            n_is = ap (λ (t : Sizes). t.n) is ∙ sym (fields_in_n w);
+            m_is = ap (λ (t : Sizes). t.m) is ∙ sym (fields_in_m w);
+          }
+
+pub ready_process : {w : List ℤ} {s : Sizes} → Ready w s → (p : ℕ) {b : Bool} → b ≡ is_process s.n p → b ≡ is_process (run_in w).waits.n p
 ready_process y p e = rw (ready_n y) e
 
 -- who is no process has no link
-pub none_from : {w : List ℤ} {n m : ℕ} → Ready w n m → (a b : ℕ) → is_process n a ≡ false → neighbours (run_in w).waits a b ≡ false
-none_from {w} {n = n} y a b h = at (neighbours (run_in w).waits a b) refl
+pub none_from : {w : List ℤ} {s : Sizes} → Ready w s → (a b : ℕ) → is_process s.n a ≡ false → neighbours (run_in w).waits a b ≡ false
+none_from {w} {s} y a b h = at (neighbours (run_in w).waits a b) refl
   where
     at : (x : Bool) → neighbours (run_in w).waits a b ≡ x → neighbours (run_in w).waits a b ≡ false
     at false e = e
     at true e =
         let i = neighbours_ends (run_in w).waits (right_storable w y.right).sound a b e in
-        absurd (false≢true (sym h ∙ (is_process_P n a).1 (i.0, omega (arith, i.1, ready_n y))))
+        absurd (false≢true (sym h ∙ (is_process_P s.n a).1 (i.0, omega (arith, i.1, ready_n y))))
 
-pub none_to : {w : List ℤ} {n m : ℕ} → Ready w n m → (a b : ℕ) → is_process n b ≡ false → neighbours (run_in w).waits a b ≡ false
+pub none_to : {w : List ℤ} {s : Sizes} → Ready w s → (a b : ℕ) → is_process s.n b ≡ false → neighbours (run_in w).waits a b ≡ false
 none_to {w} y a b h = neighbours_swap (run_in w).waits a b ∙ none_from y b a h

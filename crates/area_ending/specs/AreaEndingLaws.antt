@@ -8,7 +8,8 @@
 --   area_shuffled     == .. with a seed that is not 0 it answers the same (02, N13)
 --   area_runs_out_most, area_over_most   == .. as 2,048 do from wherever a list has come to
 -- Assumes nothing.
-use Rattle.std.specs.Prelude.{ℕ, ◌+◌, ◌-◌, ◌≤◌, true, false, List, ◌≡◌, refl, ℤ, pos}
+use Rattle.std.specs.Prelude.{ℕ, ◌+◌, ◌-◌, ◌≤◌, true, false, List, ◌≡◌, refl, ℤ, pos, Ok, Err}
+use Rattle.refusals.specs.declared.Refusal.{Refusal}
 use Rattle.std.proofs.Math.Path.{sym, ap}
 use Rattle.std.proofs.Common.{◌∙◌, arith}
 use Rattle.base.specs.Choice.{choose}
@@ -27,11 +28,8 @@ use Rattle.machine.specs.Made.{Made, none}
 use Rattle.machine.proofs.MadeLaws.{pick_made, run_on_made, run_shuffled_made}
 use Rattle.machine.proofs.ChooserLaws.{fixed_order_finds}
 use Rattle.steps.specs.declared.Message.{Message}
-use Rattle.checks.specs.declared.Delivery.{Delivery}
-use Rattle.checks.specs.declared.Delivery.TheVariants.{Delivered}
 use Rattle.checks.specs.declared.Verdict.TheVariants.{Knot, Free}
 use Rattle.checks.specs.declared.Mark.TheVariants.{Returned, Held}
-use Rattle.checks.specs.declared.Report.{Report}
 use Rattle.checks.specs.Run.{Run, IsEdition, knot, over, start_run}
 use Rattle.checks.specs.Calls.{pick, run_on, run_shuffled, delivery_made}
 use Rattle.checks.specs.AnswerLaws.{delivery_of_accepted}
@@ -80,7 +78,7 @@ call_keeps c w = at c (tested (area_right w))
     at reporting _ z = refl
     at (reading p) _ z = refl
 
-pub pick_keeps : (w : List ℤ) (a b k n : ℕ) → pick_answer w a b k ≡ Delivery.Refused n → pick_area w a b k ≡ w
+pub pick_keeps : (w : List ℤ) (a b k : ℕ) (e : Refusal) → pick_answer w a b k ≡ Err e → pick_area w a b k ≡ w
 pick_keeps w a b k n e = call_keeps (picking a b k) w (ap delivery_made e)
 
 -- ---- after every list
@@ -94,15 +92,21 @@ module _ (bs : List ℕ) (s ed : ℕ) (w : List ℤ) (e : start_number bs s ed w
 
   -- the report of the words that the list left, if all D deliveries are made: one and the same for every order
   pub area_reports : list.made ≡ d_of waits s → report_answer list.left
-      ≡ Report.Over (d_of waits s) (choose (in_knot waits s ed) Knot Free) (pos (outsiders waits s)) (lowest_outsider waits s)
-      (choose (all_wait waits s) Returned Held)
+      ≡ Ok
+      (record {
+        deliveries = d_of waits s;
+        verdict = choose (in_knot waits s ed) Knot Free;
+        outside = pos (outsiders waits s);
+        escape = lowest_outsider waits s;
+        mark = choose (all_wait waits s) Returned Held;
+      })
   area_reports z =
       let p = area_ending bs s ed w e cs in
       report_on list.left p.right ∙ (p.promise.ended (p.promise.over_at_d.1 z)).reports
 
   -- the pick of every message that waits, on any link and at any place of it, answers with that message (02, N5)
   pub area_takes : over (run_in list.left) ≡ false → (a b k : ℕ) → IsProcess waits.n a → IsProcess waits.n b → {m : Message} {rest : List Message} →
-      at_place k ((run_in list.left).link a b) ≡ cut m rest → pick_answer list.left a b k ≡ Delivered m
+      at_place k ((run_in list.left).link a b) ≡ cut m rest → pick_answer list.left a b k ≡ Ok m
   unfolding pick_answer
   area_takes o a b k pa pb {m} {rest} c =
       let p = area_ending bs s ed w e cs in
@@ -110,7 +114,7 @@ module _ (bs : List ℕ) (s ed : ℕ) (w : List ℤ) (e : start_number bs s ed w
       let t : Taken knot (run_in list.left) a b k = (p.promise.goes_on o).each a b k pa pb h.1.0 h.1.1 in
       let two : cut m rest ≡ cut t.message t.rest = sym c ∙ t.waits in
       let same : t.message ≡ m = cc in
-      rw (p.right, t.accepted) (ap Delivered same)
+      rw (p.right, t.accepted) (ap Ok same)
 
   sound : Sound waits
   sound = waits_of_sound (field_of bs) (table bs s ed w e).right
@@ -130,12 +134,12 @@ module _ (bs : List ℕ) (s ed : ℕ) (w : List ℤ) (e : start_number bs s ed w
 
   module _ (k : ℕ) (enough : d_of waits s ≤ list.made + k) where
     -- running on, if no more deliveries are left than it may make: it says over, with their number
-    pub area_runs_out : run_on_answer k list.left ≡ Ran.Over (d_of waits s - list.made)
+    pub area_runs_out : run_on_answer k list.left ≡ Ok (Ran.Over (d_of waits s - list.made))
     unfolding run_on_answer
     area_runs_out =
         rw (area_ending bs s ed w e cs).right
         (ap (λ (p : Passed Run). (run_on k p.left).answer) is ∙ ending_runs_out waits sound s process ed named cs k (omega (arith, made)) ∙
-        ap (λ (m : ℕ). Ran.Over (d_of waits s - m)) (sym made))
+        ap (λ (m : ℕ). Ok (Ran.Over (d_of waits s - m))) (sym made))
 
     -- .. and the run that it leaves is over
     pub area_over : over (run_in (run_on_area k list.left)) ≡ true
@@ -162,7 +166,7 @@ module _ (bs : List ℕ) (s ed : ℕ) (w : List ℤ) (e : start_number bs s ed w
   most_enough : d_of waits s ≤ list.made + knot.most
   most_enough = omega (arith, d_of_most waits s sound)
 
-  pub area_runs_out_most : run_on_answer knot.most list.left ≡ Ran.Over (d_of waits s - list.made)
+  pub area_runs_out_most : run_on_answer knot.most list.left ≡ Ok (Ran.Over (d_of waits s - list.made))
   area_runs_out_most = area_runs_out knot.most most_enough
 
   pub area_over_most : over (run_in (run_on_area knot.most list.left)) ≡ true

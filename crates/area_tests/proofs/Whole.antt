@@ -1,21 +1,26 @@
 -- The whole test of an area, by the ways that the code goes.
 --   AreaParts, area_tests_parts   == the parts of the test that the code makes
---   Sized w n m               == the sizes passed, and n and m are N and M of the area
+--   unanswered, answered_zero   == an answer made of a number is a refusal exactly if the number is not 0
+--   Sized w s                 == the sizes passed, and s are N and M of the area
 --   sized_of, sized_not       == what the answer of the sizes says
 --   bounds                    == how large they are, and that there are words enough
 --   counted                   == as many fields as the code counts
 --   wrong                     == a way out that fails a part of the test
 --   accepted                  == the way out that passes all parts
 -- Assumes nothing.
-use Prim.Native.Nat.{ℕ, ◌-◌, ◌≤◌}
-use mathlib.Core.Bool.{Bool, true, false}
+use Prim.Native.Nat.{ℕ, zero, suc, ◌-◌, ◌≤◌}
+use Rattle.std.specs.Prelude.{Result, Ok, Err}
+use mathlib.Core.Bool.{Bool, true, false, false≢true}
 use mathlib.Core.List.{List}
-use mathlib.Core.Path.{◌≡◌, refl, sym, ◌∙◌}
+use mathlib.Core.Path.{◌≡◌, refl, sym, ap, ◌∙◌}
 use native.Mathlib.Omega.{arith}
 use lib.IntN.{ℤ}
 use lib.ListN.{length}
 use Rattle.tables.specs.Table.{n_of, m_of, most_processes, most_arcs, field_total}
-use Rattle.area_tests.specs.declared.testing.Sizes.{Sizes}
+use Rattle.refusals.specs.declared.Refusal.{Refusal}
+use Rattle.refusals.specs.Numbers.{numbered, answered}
+use Rattle.std.specs.Result.{is_err}
+use Rattle.tables.specs.declared.Sizes.{Sizes}
 use Rattle.areas.specs.Places.{field_place, area_length}
 use Rattle.areas.specs.Area.{field_total_of, number_at, fields_in, area_right}
 use Rattle.areas.specs.RunInLaws.{fields_in_n, fields_in_m}
@@ -54,51 +59,65 @@ area_tests_parts w =
     (tells_id (all_to (n_of (fields_in w)) (record_test w))))
     (tells_id (all_to (m_of (fields_in w)) (arc_test w))))
 
+-- ---- the answer of a check
+
+-- an answer made of a number is a refusal exactly if the number is not 0
+pub unanswered : {k : ℕ} {r : Result (Unit {0}) Refusal} → r ≡ answered k tt → is_err r ≡ true → k ≡ 0 → ⊥
+unanswered e h z = false≢true (rw (e, z) at h)
+
+pub answered_zero : {k : ℕ} {r : Result (Unit {0}) Refusal} → r ≡ answered k tt → is_err r ≡ false → k ≡ 0
+answered_zero {k = zero} e h = refl
+answered_zero {k = suc k} e h = absurd (false≢true (sym h ∙ rw e refl))
+
 -- ---- the ways
 
-pub record Sized (w : List ℤ) (n m : ℕ) : Type 0 where
+pub record Sized (w : List ℤ) (s : Sizes) : Type 0 where
   pub test : sizes_test w ≡ true
-  pub processes : n ≡ n_of (fields_in w)
-  pub arcs : m ≡ m_of (fields_in w)
+  pub processes : s.n ≡ n_of (fields_in w)
+  pub arcs : s.m ≡ m_of (fields_in w)
 
-pub sized_of : (w : List ℤ) (n m : ℕ) {r : Sizes} → r ≡ sizes_of (sizes_test w) w → r ≡ Sizes.Right n m → Sized w n m
-sized_of w n m e q = at (sizes_test w) refl (sym e ∙ q)
+pub wrong : (w : List ℤ) → (AreaParts w → ⊥) → Err (numbered 21) ≡ sizes_of (area_right w) w
+wrong w never = rw (sym (area_tests_P w) ∙ tells_no (area_tests_parts w) never)
+
+pub sized_of : (w : List ℤ) (s : Sizes) {r : Result Sizes Refusal} → r ≡ sizes_of (sizes_test w) w → r ≡ Ok s → Sized w s
+sized_of w s e q = at (sizes_test w) refl (sym e ∙ q)
   where
-    at : (b : Bool) → sizes_test w ≡ b → sizes_of b w ≡ Sizes.Right n m → Sized w n m
+    at : (b : Bool) → sizes_test w ≡ b → sizes_of b w ≡ Ok s → Sized w s
     at true t h =
-        let p : number_at w (field_place 0) ≡ n = cc in
-        let a : number_at w (field_place 1) ≡ m = cc in
-        record { test = t; processes = sym p ∙ sym (fields_in_n w); arcs = sym a ∙ sym (fields_in_m w) }
+        let is : record { n = number_at w (field_place 0); m = number_at w (field_place 1) } ≡ s = cc in
+        record {
+          test = t;
+          processes = sym (ap (λ (t : Sizes). t.n) is) ∙ sym (fields_in_n w);
+          arcs = sym (ap (λ (t : Sizes). t.m) is) ∙ sym (fields_in_m w);
+        }
     at false t h = let never : ◌≡◌ {A = ℕ} 0 1 = cc in absurd (omega arith)
 
-pub sized_not : (w : List ℤ) {r : Sizes} → r ≡ sizes_of (sizes_test w) w → r ≡ Sizes.Wrong → sizes_test w ≡ false
-sized_not w e q = at (sizes_test w) refl (sym e ∙ q)
+-- the refusal that the sizes gave is that of the whole test
+pub sized_not : (w : List ℤ) {r : Result Sizes Refusal} {e : Refusal} → r ≡ sizes_of (sizes_test w) w → r ≡ Err e → Err e ≡ sizes_of (area_right w) w
+sized_not w {e = e} f q = at (sizes_test w) refl (sym f ∙ q)
   where
-    at : (b : Bool) → sizes_test w ≡ b → sizes_of b w ≡ Sizes.Wrong → sizes_test w ≡ false
+    at : (b : Bool) → sizes_test w ≡ b → sizes_of b w ≡ Err e → Err e ≡ sizes_of (area_right w) w
     at true t h = let never : ◌≡◌ {A = ℕ} 0 1 = cc in absurd (omega arith)
-    at false t h = t
+    at false t h = sym h ∙ wrong w (λ p. false≢true (sym t ∙ p.sizes))
 
-module _ (w : List ℤ) (n m : ℕ) (s : Sized w n m) where
+module _ (w : List ℤ) (s : Sizes) (sized : Sized w s) where
   -- N and M are in range, and there are words enough
   pub record Bounds : Type 0 where
-    pub processes : n ≤ most_processes
-    pub arcs : m ≤ most_arcs
-    pub words : area_length n m ≤ length w
+    pub processes : s.n ≤ most_processes
+    pub arcs : s.m ≤ most_arcs
+    pub words : area_length s.n s.m ≤ length w
 
   pub bounds : Bounds
   bounds =
-      let f = (sizes_test_P w).0 s.test in
+      let f = (sizes_test_P w).0 sized.test in
       record {
-        processes = omega (arith, f.sizes.1, s.processes);
-        arcs = omega (arith, f.sizes.2, s.arcs);
-        words = omega (arith, f.enough, s.processes, s.arcs);
+        processes = omega (arith, f.sizes.1, sized.processes);
+        arcs = omega (arith, f.sizes.2, sized.arcs);
+        words = omega (arith, f.enough, sized.processes, sized.arcs);
       }
 
-  pub counted : field_total n m ≡ field_total_of (fields_in w)
-  counted = omega (arith, s.processes, s.arcs)
+  pub counted : field_total s.n s.m ≡ field_total_of (fields_in w)
+  counted = omega (arith, sized.processes, sized.arcs)
 
-  pub accepted : AreaParts w → Sizes.Right n m ≡ sizes_of (area_right w) w
-  accepted p = rw (sym (area_tests_P w) ∙ (area_tests_parts w).1 p, s.processes ∙ fields_in_n w, s.arcs ∙ fields_in_m w)
-
-pub wrong : (w : List ℤ) → (AreaParts w → ⊥) → Sizes.Wrong ≡ sizes_of (area_right w) w
-wrong w never = rw (sym (area_tests_P w) ∙ tells_no (area_tests_parts w) never)
+  pub accepted : AreaParts w → Ok s ≡ sizes_of (area_right w) w
+  accepted p = rw (sym (area_tests_P w) ∙ (area_tests_parts w).1 p, sized.processes ∙ fields_in_n w, sized.arcs ∙ fields_in_m w)

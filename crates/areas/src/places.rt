@@ -3,6 +3,8 @@ ghost use Rattle.std.specs.Prelude.{◌≡◌, ◌+◌, ◌*◌, ◌≤◌};
 ghost use Rattle.tables.specs.Table.{most_processes, most_arcs, field_total};
 ghost use Rattle.areas.specs.Places.{field_place, record_start, link_start, area_length};
 
+use tables::Sizes;
+
 // The words before the table that are in use: which check and which layout, the start, the accepted deliveries, the edition.
 pub const CHECK: usize = 0;
 
@@ -59,11 +61,11 @@ pub const MOST_BYTES: usize = 2 * (2 + 2 * tables::MOST_PROCESSES + 4 * tables::
 pub const MOST_WORDS: usize = 16 + 8 * tables::MOST_PROCESSES + 20 * tables::MOST_ARCS;
 
 // How many fields a table has.
-pub fn field_total(n: usize, m: usize) -> usize
-    requires { (n ≤ most_processes) × (m ≤ most_arcs) }
-    ensures { result ≡ field_total n m }
+pub fn field_total(sizes: Sizes) -> usize
+    requires { (sizes.n ≤ most_processes) × (sizes.m ≤ most_arcs) }
+    ensures { result ≡ field_total sizes.n sizes.m }
 {
-    2 + 2 * n + 4 * m
+    2 + 2 * sizes.n + 4 * sizes.m
 }
 
 // The word of field j.
@@ -75,27 +77,27 @@ pub fn field_place(j: usize) -> usize
 }
 
 // The first word of the record of p.
-pub fn record_start(n: usize, m: usize, p: usize) -> usize
-    requires n_le_most_processes { (n ≤ most_processes) × (m ≤ most_arcs) }
-    requires le_p { (1 ≤ p) × (p ≤ most_processes) }
-    ensures { result ≡ record_start n m p }
+pub fn record_start(sizes: Sizes, p: usize) -> usize
+    requires sizes_right { (sizes.n ≤ most_processes) × (sizes.m ≤ most_arcs) }
+    requires process { (1 ≤ p) × (p ≤ most_processes) }
+    ensures { result ≡ record_start sizes.n sizes.m p }
 {
-    HEAD_SIZE + field_total(n, m) + RECORD_SIZE * (p - 1)
+    HEAD_SIZE + field_total(sizes) + RECORD_SIZE * (p - 1)
 }
 
 // The first word of the links of arc k.
-pub fn link_start(n: usize, m: usize, k: usize) -> usize
-    requires n_le_most_processes { (n ≤ most_processes) × (m ≤ most_arcs) }
-    requires le_k { (1 ≤ k) × (k ≤ 65535) }
-    ensures { result ≡ link_start n m k }
+pub fn link_start(sizes: Sizes, k: usize) -> usize
+    requires sizes_right { (sizes.n ≤ most_processes) × (sizes.m ≤ most_arcs) }
+    requires arc { (1 ≤ k) × (k ≤ 65535) }
+    ensures { result ≡ link_start sizes.n sizes.m k }
 {
-    HEAD_SIZE + field_total(n, m) + RECORD_SIZE * n + ARC_SIZE * (k - 1)
+    HEAD_SIZE + field_total(sizes) + RECORD_SIZE * sizes.n + ARC_SIZE * (k - 1)
 }
 
 // "start needs 8N + 20M + 16"
-pub fn area_length(n: usize, m: usize) -> usize
-    requires { (n ≤ most_processes) × (m ≤ most_arcs) }
-    ensures { result ≡ area_length n m }
+pub fn area_length(sizes: Sizes) -> usize
+    requires { (sizes.n ≤ most_processes) × (sizes.m ≤ most_arcs) }
+    ensures { result ≡ area_length sizes.n sizes.m }
 {
-    16 + 8 * n + 20 * m
+    16 + 8 * sizes.n + 20 * sizes.m
 }

@@ -9,21 +9,13 @@ ghost use Rattle.areas.specs.Squares.{place_in, joins_in, with_forth, with_back,
 use crate::places;
 use tables::Chain;
 
-// A number of 16 bits.
-fn wide(number: u16) -> usize
-    ensures is { result ≡ number }
-    ensures small { result ≤ 65535 }
-{
-    number as usize
-}
-
 // The cell of q in a row.
 pub fn cell_of(row: &[u16], q: usize) -> usize
     requires { q < length row.now }
     ensures is { result ≡ get_or row.now q 0 }
     ensures small { result ≤ 65535 }
 {
-    wide(row[q])
+    usize::from(row[q])
 }
 
 // The cell of a and b in a square.
@@ -32,7 +24,7 @@ pub fn cell_at(square: &[u16; tables::SQUARE_SIZE], a: usize, b: usize) -> usize
     ensures is { result ≡ cell square.now a b }
     ensures small { result ≤ 65535 }
 {
-    wide(square[a * tables::SIDE + b])
+    usize::from(square[a * tables::SIDE + b])
 }
 
 // The first word of the link, by a cell of neighbours.

@@ -1,5 +1,7 @@
 // Leaves: what one word, one record and one link of an area hold. Everything above reads and writes words through these.
-ghost use Rattle.std.specs.Prelude.{◌≡◌, true, ◌+◌, ◌-◌, ◌^◌, ◌≤◌, ◌<◌, length, set, nat_abs};
+ghost use Rattle.std.specs.Prelude.{◌≡◌, true, ◌+◌, ◌-◌, ◌^◌, ◌≤◌, ◌<◌, length, set, pos, nat_abs};
+ghost use Rattle.std.specs.List.{position};
+ghost use Rattle.std.specs.Ordering.{int_eq};
 ghost use Rattle.std.proofs.lemmas.List.Edits.{sets};
 ghost use Rattle.tables.specs.Table.{most_processes};
 ghost use Rattle.steps.specs.Step.{small, in_range, count_small};
@@ -15,11 +17,7 @@ use steps::{Message, Process, TwoCounts};
 pub fn number(word: i32) -> u32
     ensures { result ≡ nat_abs word }
 {
-    if word >= 0 {
-        word as u32
-    } else {
-        (-1 - word) as u32 + 1
-    }
+    word.unsigned_abs()
 }
 
 // A word of 0 or more as a number.
@@ -47,20 +45,21 @@ fn lowered(code: u32) -> i32
 }
 
 // The message of a word above 0.
+// Stays: From for a message and TryFrom for a word are no plainer: neither may ask anything of what it is given, and this asks for a word of 0 or
+// more, code_of for counts in range.
 pub fn message_of(word: i32) -> Message
     requires { Counts word }
     ensures { result ≡ message_of word }
 {
     let code = unsigned(word);
-    if code == 1 {
-        return Message::Suc;
+    match code {
+        1 => Message::Suc,
+        2 => Message::Pre,
+        _ => Message::Ack(TwoCounts {
+            count: lowered(code % places::COUNT_SIZE),
+            second: lowered(code / places::COUNT_SIZE),
+        }),
     }
-    if code == 2 {
-        return Message::Pre;
-    }
-    let count = lowered(code % places::COUNT_SIZE);
-    let second = lowered(code / places::COUNT_SIZE);
-    Message::Ack(TwoCounts { count, second })
 }
 
 // The word of a message whose counts are in range.
@@ -77,19 +76,19 @@ pub fn code_of(message: Message) -> i32
     }
 }
 
+// Where the first of these words that is 0 stands.
+fn first_zero(words: &[i32]) -> Option<usize>
+    ensures { result ≡ position (λ word. int_eq word (pos 0)) words.now }
+{
+    words.iter().position(|word| *word == 0)
+}
+
 // How many messages wait on the link at word i, which has words for so many.
 pub fn link_length(area: &[i32], i: usize, slots: usize) -> usize
     requires { i + slots ≤ length area.now }
     ensures { result ≡ length (messages_at area.now i slots) }
 {
-    let mut l = 0;
-    while l < slots {
-        if area[i + l] == 0 {
-            return l;
-        }
-        l += 1;
-    }
-    l
+    first_zero(&area[i..i + slots]).unwrap_or(slots)
 }
 
 // The record at word k, whose flags, num and father are 0 or more.
@@ -121,24 +120,20 @@ fn flags_of(x: Process) -> i32
 // Puts a record at word k.
 pub fn put_record(area: &mut [i32], k: usize, x: Process)
     requires record_used_in_bounds { k + record_used ≤ length area.old }
-    requires x_value { in_range x ≡ true }
+    requires in_range { in_range x ≡ true }
     requires father_le_most_processes { x.father ≤ most_processes }
     ensures { area.new ≡ sets area.old k (record_words x) }
 {
-    let flags = flags_of(x);
-    let cs = x.cs;
-    let num = x.num as i32;
-    let father = x.father as i32;
-    let second = x.second;
-    area[k + places::FLAGS] = flags;
-    area[k + places::CS] = cs;
-    area[k + places::NUM] = num;
-    area[k + places::FATHER] = father;
-    area[k + places::SECOND] = second;
+    area[k + places::FLAGS] = flags_of(x);
+    area[k + places::CS] = x.cs;
+    area[k + places::NUM] = x.num as i32;
+    area[k + places::FATHER] = x.father as i32;
+    area[k + places::SECOND] = x.second;
 }
 
 // Takes out the word at i: the words behind it, up to `end`, move down by one, and the last becomes 0. Behind a 0 there are only zeros, so that it
 // stops at the first.
+// Stays: copy_within, tried, moves all up to `end` and takes a sixth longer, over 200 million calls on links of 4 words.
 pub fn take_off(area: &mut [i32], i: usize, end: usize)
     requires i_lt_end { i < end }
     requires end_in_bounds { end ≤ length area.old }
@@ -146,14 +141,12 @@ pub fn take_off(area: &mut [i32], i: usize, end: usize)
     ensures { area.new ≡ moved_down area.old i end }
 {
     let last = end - 1;
-    let mut k = i;
-    while k < last {
+    for k in i..last {
         let next = area[k + 1];
         area[k] = next;
         if next == 0 {
             return;
         }
-        k += 1;
     }
     area[last] = 0;
 }

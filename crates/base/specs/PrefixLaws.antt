@@ -1,6 +1,7 @@
 -- Laws for loops that test or search the numbers 1 to n in turn, with k the next number: what holds before the first turn, after one more turn, at a
 -- number that fails and after the last.
 --   all_to_none, all_to_more, all_to_stop, all_to_last   == each of 1 to n passes
+--   all_to_end     == the last of 1 to n passed too, where the loop goes by `1..=n`
 --   all_to_next    == one more turn, with k the number of turns so far
 --   all_to_also    == the same for a loop that goes on past a number that fails
 --   all_to_not     == each fails exactly if not some passes
@@ -55,6 +56,9 @@ pub all_to_last : (n k : ℕ) (p : ℕ → Bool) → k ≡ n + 1 → all_to (k -
 all_to_last n k p e all =
     let end : n ≡ k - 1 = omega arith in
     ap (λ (j : ℕ). all_to j p) end ∙ all
+
+pub all_to_end : (n k : ℕ) (p : ℕ → Bool) → 1 ≤ k → k ≡ n → all_to (k - 1) p ≡ true → p k ≡ true → all_to n p ≡ true
+all_to_end n k p l e before here = all_to_last n (k + 1) p (omega arith) (all_to_more k p l before here)
 
 not_and : (a b c : Bool) → a ≡ not b → (a && not c) ≡ not (b || c)
 not_and a true c e = rw e

@@ -1,5 +1,5 @@
 -- Laws on the beginning of a run in its area, one for each step of the code.
---   Stage w n m r new      == the area new holds the run r of w's table, and is ready for the next change
+--   Stage w z r new      == the area new holds the run r of w's table, and is ready for the next change
 --   row_kept               == the rows of its table are those of w's
 --   put_stage, suc_stage   == the area once the start's record is put, and once its suc probes are sent
 --   begin_made     == the area once its pre probes are sent
@@ -32,6 +32,7 @@ use Rattle.areas.specs.RunInLaws.{run_in_contained}
 use Rattle.areas.specs.Squares.{Row}
 use Rattle.link_lenses.specs.Changes.{spread}
 use Rattle.lenses.specs.Storable.{Storable}
+use Rattle.tables.specs.declared.Sizes.{Sizes}
 use Rattle.lenses.specs.Ready.{Ready}
 use Rattle.lenses.specs.ReadyLaws.{right_storable, keeping_fields, keeping_run, keeping_again, ready_kept}
 use Rattle.beginning.specs.Starting.{quiet, begun, suc_sent, Startable, Unbegun}
@@ -39,28 +40,28 @@ use Rattle.beginning.specs.StartingLaws.{quiet_fit, begun_fit, begun_room, suc_s
 use Rattle.beginning.specs.StartingLaws.{started_father, accepted_table}
 
 -- an area with another run of the same table in it
-pub record Stage (w : List ℤ) (n m : ℕ) (r : Run) (new : List ℤ) : Type 0 where
-  pub ready : Ready new n m
+pub record Stage (w : List ℤ) (z : Sizes) (r : Run) (new : List ℤ) : Type 0 where
+  pub ready : Ready new z
   pub fields : fields_in new ≡ fields_in w
   pub run : run_in new ≡ r
   pub next : (q : Run) → keeping new q ≡ keeping w q
 
-stage_of : (w : List ℤ) (n m : ℕ) → Ready w n m → (r : Run) → Storable (fields_in w) r → (new : List ℤ) → new ≡ keeping w r
-    → Stage w n m r new
-stage_of w n m y r f new e =
+stage_of : (w : List ℤ) (z : Sizes) → Ready w z → (r : Run) → Storable (fields_in w) r → (new : List ℤ) → new ≡ keeping w r
+    → Stage w z r new
+stage_of w z y r f new e =
     rw e
     (record {
-      ready = ready_kept w y.right r f n m y;
+      ready = ready_kept w y.right r f y;
       fields = keeping_fields w y.right r f;
       run = keeping_run w y.right r f;
       next = keeping_again w y.right r f;
     })
 
-pub row_kept : {w : List ℤ} {n m : ℕ} {r : Run} {new : List ℤ} → Stage w n m r new → (b : ℕ) (row : List ℕ) → Row (fields_in w) b row
+pub row_kept : {w : List ℤ} {z : Sizes} {r : Run} {new : List ℤ} → Stage w z r new → (b : ℕ) (row : List ℕ) → Row (fields_in w) b row
     → Row (fields_in new) b row
 row_kept a b row h = subst (λ (t : Fields). Row t b row) (sym a.fields) h
 
-module _ {w : List ℤ} {n m s : ℕ} (k : Unbegun w n m s) where
+module _ {w : List ℤ} {z : Sizes} {s : ℕ} (k : Unbegun w z s) where
   table : RightTable (fields_in w)
   table = area_right_table w k.ready.right
 
@@ -88,25 +89,25 @@ module _ {w : List ℤ} {n m s : ℕ} (k : Unbegun w n m s) where
     pub record_father : father_right (run_in w).waits s x ≡ true
     record_father = rw record_is (started_father (waits_of (fields_in w)) (run_in w).waits s)
 
-    pub put_stage : (new : List ℤ) → new ≡ keeping w (put_process (run_in w) s x) → Stage w n m (begun (fields_in w) s edition) new
+    pub put_stage : (new : List ℤ) → new ≡ keeping w (put_process (run_in w) s x) → Stage w z (begun (fields_in w) s edition) new
     unfolding begun
     put_stage new f =
-        stage_of w n m k.ready (begun (fields_in w) s edition) (begun_fit (fields_in w) table.right s process edition named) new
+        stage_of w z k.ready (begun (fields_in w) s edition) (begun_fit (fields_in w) table.right s process edition named) new
         (f
         ∙ ap (λ (r : Run). keeping w (put_process r s x)) k.run
         ∙ ap (λ (z : Process). keeping w (put_process (quiet (fields_in w) s edition) s z)) record_is)
 
-  module _ {one : List ℤ} (a : Stage w n m (begun (fields_in w) s edition) one) where
+  module _ {one : List ℤ} (a : Stage w z (begun (fields_in w) s edition) one) where
     pub put_room : (q : ℕ) → length ((run_in one).link s q) ≤ 3
     put_room q = rw a.run (begun_room (fields_in w) table.right s process edition named q)
 
-    pub suc_stage : (new : List ℤ) → new ≡ keeping one (spread Out (run_in one) s) → Stage w n m (suc_sent (fields_in w) s edition) new
+    pub suc_stage : (new : List ℤ) → new ≡ keeping one (spread Out (run_in one) s) → Stage w z (suc_sent (fields_in w) s edition) new
     unfolding suc_sent
     suc_stage new f =
-        stage_of w n m k.ready (suc_sent (fields_in w) s edition) (suc_sent_fit (fields_in w) table.right s process edition named) new
+        stage_of w z k.ready (suc_sent (fields_in w) s edition) (suc_sent_fit (fields_in w) table.right s process edition named) new
         (f ∙ a.next (spread Out (run_in one) s) ∙ ap (λ (r : Run). keeping w (spread Out r s)) a.run)
 
-  module _ {two : List ℤ} (b : Stage w n m (suc_sent (fields_in w) s edition) two) where
+  module _ {two : List ℤ} (b : Stage w z (suc_sent (fields_in w) s edition) two) where
     pub suc_room : (q : ℕ) → length ((run_in two).link s q) ≤ 3
     suc_room q = rw b.run (suc_sent_room (fields_in w) table.right s process edition named q)
 
@@ -137,7 +138,7 @@ module _ {bs : List ℕ} {n m s ed : ℕ} {w : List ℤ} (k : Startable bs n m s
   unfolding quiet
   edition_is = ap (λ (r : Run). r.edition) run_is
 
-  pub laid_unbegun : Unbegun laid n m s
+  pub laid_unbegun : Unbegun laid (record { n = n; m = m }) s
   laid_unbegun =
       record {
         ready = record {

@@ -4,7 +4,7 @@
 --   suc_sent t s ed     == and with its suc probes sent
 --   start_of t s ed, begun_in w s   == the run that a start leaves, of the table t; the same of an area's own table and edition
 --   Startable bs n m s ed w   == what the checks leave: an accepted table with its N and M, a process of it, an edition, and words enough
---   Unbegun w n m s    == the area w holds the quiet run of its table, ready to begin
+--   Unbegun w z s    == the area w holds the quiet run of its table, ready to begin
 --   Cleared old n new  == the first n words are 0, the others as before
 --   Copied t old n new == the words behind the heading are the first n fields of t, the others as before
 -- Assumes nothing.
@@ -19,6 +19,7 @@ use Rattle.areas.specs.Places.{head_size, field_place, area_length}
 use Rattle.areas.specs.Area.{fields_in, run_in}
 use Rattle.areas.specs.Replaced.{put_process}
 use Rattle.link_lenses.specs.Changes.{spread}
+use Rattle.tables.specs.declared.Sizes.{Sizes}
 use Rattle.lenses.specs.Ready.{Ready}
 
 -- "All values 0"
@@ -48,9 +49,9 @@ pub record Startable (bs : List ℕ) (n m s ed : ℕ) (w : List ℤ) : Type 0 wh
   pub edition : IsEdition ed
   pub long : area_length n m ≤ length w
 
-pub record Unbegun (w : List ℤ) (n m s : ℕ) : Type 0 where
-  pub ready : Ready w n m
-  pub start_is_in : IsProcess n s
+pub record Unbegun (w : List ℤ) (z : Sizes) (s : ℕ) : Type 0 where
+  pub ready : Ready w z
+  pub start_is_in : IsProcess z.n s
   pub run : run_in w ≡ quiet (fields_in w) s (run_in w).edition
 
 pub record Cleared (old : List ℤ) (n : ℕ) (new : List ℤ) : Type 0 where

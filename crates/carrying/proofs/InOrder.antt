@@ -6,6 +6,7 @@
 use Prim.Native.Nat.{ℕ, ◌+◌, ◌-◌, ◌≤◌}
 use mathlib.Core.Bool.{true}
 use mathlib.Core.List.{List}
+use Rattle.std.specs.Prelude.{Option, Some}
 use mathlib.Core.Path.{◌≡◌, sym, ap, ◌∙◌, subst}
 use native.Mathlib.Omega.{arith}
 use lib.IntN.{ℤ}
@@ -16,15 +17,14 @@ use Rattle.tables.specs.Waits.{neighbours}
 use Rattle.tables.specs.Chains.{joins}
 use Rattle.steps.specs.declared.Process.{Process}
 use Rattle.steps.specs.declared.Probes.{Probes}
-use Rattle.steps.specs.declared.TwoCounts.{TwoCounts}
 use Rattle.steps.specs.declared.Reply.{Reply}
-use Rattle.steps.specs.declared.Reply.TheVariants.{To}
 use Rattle.steps.specs.Step.{in_range, reply_fits}
 use Rattle.checks.specs.Run.{Run, most_deliveries, father_right}
 use Rattle.areas.specs.Used.{link_slots}
 use Rattle.areas.specs.Area.{fields_in, run_in, keeping}
 use Rattle.areas.specs.Replaced.{put_process, put_count}
 use Rattle.areas.specs.Squares.{Linked, Row}
+use Rattle.tables.specs.declared.Sizes.{Sizes}
 use Rattle.lenses.specs.Ready.{Ready}
 use Rattle.link_lenses.specs.Changes.{answered, off, Spreadable, Answerable}
 use Rattle.lenses.specs.Storable.{Storable}
@@ -35,28 +35,28 @@ use Rattle.carrying.specs.CarryLaws.{carried_ends, storable_off, off_father, sto
 use Rattle.carrying.specs.CarryLaws.{storable_sent, carried_count, storable_carried}
 use Rattle.lenses.proofs.Holding.{Holding, holding_run, holding_ready, holding_next}
 
-module _ {w : List ℤ} {n m : ℕ} (y : Ready w n m) {a b i : ℕ} {x : Process} {p : Probes} {z : Reply} (k : Carried (run_in w) a b i x p z) where
+module _ {w : List ℤ} {s : Sizes} (y : Ready w s) {a b i : ℕ} {x : Process} {p : Probes} {z : Option Reply} (k : Carried (run_in w) a b i x p z) where
   abbrev r : Run
   r = run_in w
 
   f : Storable (fields_in w) r
   f = right_storable w y.right
 
-  between : (1 ≤ b) × (b ≤ n)
+  between : (1 ≤ b) × (b ≤ s.n)
   between = let e = carried_ends (fields_in w) r f a b i x p z k in (e.2, omega (arith, e.3, ready_n y))
 
   -- the row of b stays what it is
   row_kept : {row : List ℕ} → Row (fields_in w) b row → {v : List ℤ} {q : Run} → Holding w v q → Row (fields_in v) b row
   row_kept {row} g h = subst (λ (t : Fields). Row t b row) (sym (ap fields_in h.is ∙ keeping_fields w y.right _ h.fit)) g
 
-  pub take_asks : {j : ℕ} → Linked (fields_in w) a b j → Ready w n m × (Linked (fields_in w) a b j × ((1 ≤ i) × (i ≤ link_slots)))
+  pub take_asks : {j : ℕ} → Linked (fields_in w) a b j → Ready w s × (Linked (fields_in w) a b j × ((1 ≤ i) × (i ≤ link_slots)))
   take_asks l = (y, (l, (k.placed.0, omega (arith, k.placed.1, run_in_few w a b))))
 
   pub taken_off : {u : List ℤ} → u ≡ keeping w (off r a b i) → Holding w u (off r a b i)
   taken_off e = record { is = e; fit = storable_off (fields_in w) r f a b i x p z k }
 
   module _ {v : List ℤ} (h : Holding w v (off r a b i)) where
-    pub put_asks : Ready v n m × (((1 ≤ b) × (b ≤ n)) × ((in_range x ≡ true) × (father_right (run_in v).waits b x ≡ true)))
+    pub put_asks : Ready v s × (((1 ≤ b) × (b ≤ s.n)) × ((in_range x ≡ true) × (father_right (run_in v).waits b x ≡ true)))
     put_asks =
         (holding_ready y h, (between, (k.range, rw (holding_run y h) (off_father (fields_in w) r f a b i x p z k))))
 
@@ -64,25 +64,25 @@ module _ {w : List ℤ} {n m : ℕ} (y : Ready w n m) {a b i : ℕ} {x : Process
     record_put e = holding_next y h (λ q. put_process q b x) e (storable_changed (fields_in w) r f a b i x p z k)
 
   module _ {v : List ℤ} (h : Holding w v (changed r a b i x)) where
-    pub reply_asks : {row : List ℕ} → Row (fields_in w) b row → Ready v n m
-        × (((1 ≤ b) × (b ≤ n)) × (Row (fields_in v) b row × ((reply_fits z ≡ true) × Answerable (run_in v) n b z)))
+    pub reply_asks : {row : List ℕ} → Row (fields_in w) b row → Ready v s
+        × (((1 ≤ b) × (b ≤ s.n)) × (Row (fields_in v) b row × ((reply_fits z ≡ true) × Answerable (run_in v) s.n b z)))
     reply_asks g =
         (holding_ready y h, (between, (row_kept g h, (k.replies, rw (holding_run y h) room))))
       where
-        room : (q : ℕ) (c : TwoCounts) → z ≡ To q c → (q ≤ n)
-            × (neighbours (changed r a b i x).waits b q ≡ true) × (length ((changed r a b i x).link b q) ≤ link_slots - 1)
-        room q c e = let g = reply_room (fields_in w) r f a b i x p z k q c e in (omega (arith, g.0, ready_n y), g.1, g.2)
+        room : (t : Reply) → z ≡ Some t → (t.to ≤ s.n)
+            × (neighbours (changed r a b i x).waits b t.to ≡ true) × (length ((changed r a b i x).link b t.to) ≤ link_slots - 1)
+        room t e = let g = reply_room (fields_in w) r f a b i x p z k t e in (omega (arith, g.0, ready_n y), g.1, g.2)
 
     pub reply_sent : {u : List ℤ} → u ≡ keeping v (answered (run_in v) b z) → Holding w u (answered (changed r a b i x) b z)
     reply_sent e = holding_next y h (λ q. answered q b z) e (storable_replied (fields_in w) r f a b i x p z k)
 
   module _ {v : List ℤ} (h : Holding w v (answered (changed r a b i x) b z)) where
-    pub send_asks : {row : List ℕ} → Row (fields_in w) b row → Ready v n m
-        × (((1 ≤ b) × (b ≤ n)) × (Row (fields_in v) b row × ((c : Chain) → p ≡ probes_of c → Spreadable c (run_in v) n b)))
+    pub send_asks : {row : List ℕ} → Row (fields_in w) b row → Ready v s
+        × (((1 ≤ b) × (b ≤ s.n)) × (Row (fields_in v) b row × ((c : Chain) → p ≡ probes_of c → Spreadable c (run_in v) s.n b)))
     send_asks g =
         (holding_ready y h, (between, (row_kept g h, rw (holding_run y h) room)))
       where
-        room : (c : Chain) → p ≡ probes_of c → (q : ℕ) → 1 ≤ q → q ≤ n → joins c (answered (changed r a b i x) b z).waits b q ≡ true
+        room : (c : Chain) → p ≡ probes_of c → (q : ℕ) → 1 ≤ q → q ≤ s.n → joins c (answered (changed r a b i x) b z).waits b q ≡ true
             → length ((answered (changed r a b i x) b z).link b q) ≤ link_slots - 1
         room c e q l u j = probes_room (fields_in w) r f a b i x p z k c e q l (omega (arith, ready_n y)) j
 
@@ -101,7 +101,7 @@ module _ {w : List ℤ} {n m : ℕ} (y : Ready w n m) {a b i : ℕ} {x : Process
       after_probes h = probes_sent after_reply h
 
   module _ {v : List ℤ} (h : Holding w v (spread_by p (answered (changed r a b i x) b z) b)) {c : ℕ} (g : c ≡ (run_in v).count) where
-    pub count_asks : Ready v n m × (c + 1 ≤ most_deliveries)
+    pub count_asks : Ready v s × (c + 1 ≤ most_deliveries)
     count_asks =
         (holding_ready y h, rw (g, holding_run y h) (carried_count (fields_in w) r f a b i x p z k))
 

@@ -4,7 +4,7 @@
 --   reply_room, probes_room   == there is room for the acknowledgement, and for the probes after it
 --   carried_count        == the count of deliveries stays in range
 -- Assumes nothing.
-use Rattle.std.specs.Prelude.{ℕ, ◌+◌, ◌-◌, ◌≤◌, true, ◌&&◌, ◌≡◌, eqb, length}
+use Rattle.std.specs.Prelude.{ℕ, ◌+◌, ◌-◌, ◌≤◌, true, ◌&&◌, ◌≡◌, eqb, length, Option, Some}
 use Rattle.std.proofs.Math.Path.{refl}
 use Rattle.std.proofs.Common.{◌∙◌, arith, eq-eqb, length-append}
 use Rattle.base.specs.Choice.{bit}
@@ -17,9 +17,7 @@ use Rattle.tables.specs.Chains.{joins}
 use Rattle.steps.specs.declared.Process.{Process}
 use Rattle.steps.specs.declared.Probes.{Probes}
 use Rattle.steps.specs.declared.Probes.TheVariants.{Sucs, Pres}
-use Rattle.steps.specs.declared.TwoCounts.{TwoCounts}
 use Rattle.steps.specs.declared.Reply.{Reply}
-use Rattle.steps.specs.declared.Reply.TheVariants.{To}
 use Rattle.checks.specs.Run.{Run, most_deliveries, father_right, reply_receiver, probes_to}
 use Rattle.areas.specs.Used.{link_slots}
 use Rattle.areas.specs.Replaced.{put_process, put_link}
@@ -32,16 +30,16 @@ use Rattle.carrying.specs.Carrying.{spread_by, changed, carried_out, Carried}
 use Rattle.carrying.specs.DeliveryLaws.{relinked_waits, relinked_count, answered_relinked, spread_by_relinked, answered_link, off_length}
 
 -- an acknowledgement goes to its process, and a probe along its chain
-reply_one : (p : ℕ) (c : TwoCounts) → length (reply_receiver (To p c) p) ≡ 1
+reply_one : (v : Reply) → length (reply_receiver (Some v) v.to) ≡ 1
 unfolding reply_receiver
-reply_one p c = rw (eq-eqb p p refl)
+reply_one v = rw (eq-eqb v.to v.to refl)
 
 probes_one : (c : Chain) (w : Waits) (b q : ℕ) → joins c w b q ≡ true → length (probes_to w b (probes_of c) q) ≡ 1
 unfolding probes_to
 probes_one Out w b q e = rw e
 probes_one In w b q e = rw e
 
-module _ (t : Fields) (r : Run) (f : Storable t r) (a b i : ℕ) (x : Process) (y : Probes) (z : Reply) (k : Carried r a b i x y z) where
+module _ (t : Fields) (r : Run) (f : Storable t r) (a b i : ℕ) (x : Process) (y : Probes) (z : Option Reply) (k : Carried r a b i x y z) where
   pub carried_ends : (1 ≤ a) × (a ≤ r.waits.n) × (1 ≤ b) × (b ≤ r.waits.n)
   carried_ends = neighbours_ends r.waits f.sound a b k.joined
 
@@ -67,16 +65,16 @@ module _ (t : Fields) (r : Run) (f : Storable t r) (a b i : ℕ) (x : Process) (
   unfolding put_process put_link
   changed_waits = refl
 
-  pub reply_room : (p : ℕ) (c : TwoCounts) → z ≡ To p c → (p ≤ r.waits.n) × (neighbours (changed r a b i x).waits b p ≡ true)
-      × (length ((changed r a b i x).link b p) ≤ link_slots - 1)
-  reply_room p c e =
-      let j = k.replied p c e in
-      let n = neighbours_ends r.waits f.sound b p j in
-      let o : length (reply_receiver z p) ≡ 1 = rw e (reply_one p c) in
-      (n.3, rw changed_waits j, rw (changed_length p) (omega (arith, k.room p n.2 n.3)))
+  pub reply_room : (v : Reply) → z ≡ Some v → (v.to ≤ r.waits.n) × (neighbours (changed r a b i x).waits b v.to ≡ true)
+      × (length ((changed r a b i x).link b v.to) ≤ link_slots - 1)
+  reply_room v e =
+      let j = k.replied v e in
+      let n = neighbours_ends r.waits f.sound b v.to j in
+      let o : length (reply_receiver z v.to) ≡ 1 = rw e (reply_one v) in
+      (n.3, rw changed_waits j, rw (changed_length v.to) (omega (arith, k.room v.to n.2 n.3)))
 
   pub storable_replied : Storable t (answered (changed r a b i x) b z)
-  storable_replied = storable_answered t (changed r a b i x) storable_changed b z k.replies (λ p c e. ((reply_room p c e).1, (reply_room p c e).2))
+  storable_replied = storable_answered t (changed r a b i x) storable_changed b z k.replies (λ v e. ((reply_room v e).1, (reply_room v e).2))
 
   replied_waits : (answered (changed r a b i x) b z).waits ≡ r.waits
   replied_waits = relinked_waits (answered_relinked (changed r a b i x) b z) ∙ changed_waits

@@ -5,15 +5,13 @@
 --   carried_out r a b k x y z   == the delivery as changes one after another; that this is `after` is a law
 --   Carried r a b k x y z == what makes these changes possible
 -- Assumes nothing.
-use Rattle.std.specs.Prelude.{ℕ, ◌+◌, ◌≤◌, true, ◌≡◌, length}
+use Rattle.std.specs.Prelude.{ℕ, ◌+◌, ◌≤◌, true, ◌≡◌, length, Option, Some}
 use Rattle.tables.specs.declared.Chain.TheVariants.{Out, In}
 use Rattle.tables.specs.Waits.{neighbours}
 use Rattle.steps.specs.declared.Process.{Process}
 use Rattle.steps.specs.declared.Probes.{Probes}
 use Rattle.steps.specs.declared.Probes.TheVariants.{Sucs, Pres}
-use Rattle.steps.specs.declared.TwoCounts.{TwoCounts}
 use Rattle.steps.specs.declared.Reply.{Reply}
-use Rattle.steps.specs.declared.Reply.TheVariants.{To}
 use Rattle.steps.specs.Step.{in_range, reply_fits}
 use Rattle.checks.specs.Run.{Run, most_deliveries, father_right}
 use Rattle.areas.specs.Replaced.{with_links, put_process, put_count}
@@ -35,18 +33,18 @@ pub record Relinked (r q : Run) : Type 0 where
   pub is : q ≡ with_links r q.link
 
 -- the changes that make a delivery, one after another
-unfoldable pub carried_out : Run → ℕ → ℕ → ℕ → Process → Probes → Reply → Run
+unfoldable pub carried_out : Run → ℕ → ℕ → ℕ → Process → Probes → Option Reply → Run
 carried_out r a b k x y z =
     let q : Run = spread_by y (answered (changed r a b k x) b z) b in
     put_count q (q.count + 1)
 
 -- what makes each of them possible
-pub record Carried (r : Run) (a b k : ℕ) (x : Process) (y : Probes) (z : Reply) : Type 0 where
+pub record Carried (r : Run) (a b k : ℕ) (x : Process) (y : Probes) (z : Option Reply) : Type 0 where
   pub joined : neighbours r.waits a b ≡ true
   pub placed : (1 ≤ k) × (k ≤ length (r.link a b))
   pub range : in_range x ≡ true
   pub father : father_right r.waits b x ≡ true
   pub replies : reply_fits z ≡ true
-  pub replied : (p : ℕ) (c : TwoCounts) → z ≡ To p c → neighbours r.waits b p ≡ true
+  pub replied : (v : Reply) → z ≡ Some v → neighbours r.waits b v.to ≡ true
   pub count : r.count + 1 ≤ most_deliveries
   pub room : (q : ℕ) → 1 ≤ q → q ≤ r.waits.n → load_after r a b y z q ≤ 4

@@ -6,7 +6,7 @@
 --   load_after_is          == load_after counts the messages on the receiver's links after the delivery
 -- Assumes nothing.
 use Prim.Native.Nat.{ℕ, ◌+◌, ◌-◌, ◌≤◌}
-use Rattle.std.specs.Prelude.{Bool, true, false, ◌&&◌, ◌≡◌, refl, eqb, leb, length}
+use Rattle.std.specs.Prelude.{Bool, true, false, ◌&&◌, ◌≡◌, refl, eqb, leb, length, Option, Some, None}
 use Rattle.std.proofs.lemmas.Bool.{false≢true}
 use mathlib.Core.List.{List, [], ◌∷◌, ◌++◌, append-nil, append_assoc}
 use Rattle.std.proofs.Common.{sym, ap₂, ◌∙◌, arith, eqb-true, eq-eqb, le-leb, length-append}
@@ -26,7 +26,6 @@ use Rattle.steps.specs.declared.Process.{Process}
 use Rattle.steps.specs.declared.Probes.{Probes}
 use Rattle.steps.specs.declared.Probes.TheVariants.{Sucs, Pres}
 use Rattle.steps.specs.declared.Reply.{Reply}
-use Rattle.steps.specs.declared.Reply.TheVariants.{To}
 use Rattle.checks.specs.Run.{Run, one, turn_at, reply_receiver, probes_to, sent_to, after}
 use Rattle.machine.specs.Machine.{taken}
 use Rattle.machine.specs.Calls.{cut, at_place}
@@ -47,10 +46,10 @@ relinked_waits h = ap (λ (p : Run). p.waits) h.is
 pub relinked_count : {r q : Run} → Relinked r q → q.count ≡ r.count
 relinked_count h = ap (λ (p : Run). p.count) h.is
 
-pub answered_relinked : (r : Run) (b : ℕ) (z : Reply) → Relinked r (answered r b z)
+pub answered_relinked : (r : Run) (b : ℕ) (z : Option Reply) → Relinked r (answered r b z)
 unfolding answered put_link
-answered_relinked r b Reply.Nothing = record { is = refl }
-answered_relinked r b (To p c) = record { is = refl }
+answered_relinked r b None = record { is = refl }
+answered_relinked r b (Some v) = record { is = refl }
 
 pub spread_by_relinked : (y : Probes) (r : Run) (b : ℕ) → Relinked r (spread_by y r b)
 unfolding spread spread_to
@@ -62,13 +61,14 @@ none_sent : (t : Bool) (ms : List Message) → ms ≡ choose t (ms ++ []) ms
 none_sent true ms = sym (append-nil ms)
 none_sent false ms = refl
 
-pub answered_link : (r : Run) (b : ℕ) (z : Reply) (x y : ℕ) → (answered r b z).link x y ≡ choose (eqb x b) (r.link x y ++ reply_receiver z y) (r.link x y)
+pub answered_link : (r : Run) (b : ℕ) (z : Option Reply) (x y : ℕ) → (answered r b z).link x y ≡ choose (eqb x b) (r.link x y ++ reply_receiver z y) (r.link x y)
 unfolding answered put_link reply_receiver
-answered_link r b Reply.Nothing x y = none_sent (eqb x b) (r.link x y)
-answered_link r b (To p c) x y = at (same? x b) (same? y p)
+answered_link r b None x y = none_sent (eqb x b) (r.link x y)
+answered_link r b (Some v) x y = at (same? x b) (same? y v.to)
   where
-    at : Same x b → Same y p
-        → choose (eqb x b && eqb y p) (r.link b p ++ (Ack c ∷ [])) (r.link x y) ≡ choose (eqb x b) (r.link x y ++ one (eqb y p) (Ack c)) (r.link x y)
+    at : Same x b → Same y v.to
+        → choose (eqb x b && eqb y v.to) (r.link b v.to ++ (Ack v.counts ∷ [])) (r.link x y)
+        ≡ choose (eqb x b) (r.link x y ++ one (eqb y v.to) (Ack v.counts)) (r.link x y)
     at (same e f) (same g h) = rw (f, h, e, g)
     at (same e f) (apart g h) = rw (f, h) (sym (append-nil (r.link x y)))
     at (apart e f) g = rw f
@@ -141,13 +141,13 @@ module _ (r : Run) (s : Sound r.waits) (a b k : ℕ) (m : Message) (rest : List 
   changed_link x u v = off_link r a b k l u v
 
   -- what a step leaves of the run without the message
-  carried_relinked : (x : Process) (y : Probes) (z : Reply) → Relinked (changed r a b k x) (spread_by y (answered (changed r a b k x) b z) b)
+  carried_relinked : (x : Process) (y : Probes) (z : Option Reply) → Relinked (changed r a b k x) (spread_by y (answered (changed r a b k x) b z) b)
   carried_relinked x y z =
       let q : Run = spread_by y (answered (changed r a b k x) b z) b in
       let sent = spread_by_relinked y (answered (changed r a b k x) b z) b in
       record { is = sent.is ∙ ap (λ (p : Run). with_links p q.link) (answered_relinked (changed r a b k x) b z).is }
 
-  pub carried_link : (x : Process) (y : Probes) (z : Reply) (u v : ℕ)
+  pub carried_link : (x : Process) (y : Probes) (z : Option Reply) (u v : ℕ)
       → (spread_by y (answered (changed r a b k x) b z) b).link u v
       ≡ choose (eqb u b) (taken r a b rest u v ++ (reply_receiver z v ++ probes_to r.waits b y v)) (taken r a b rest u v)
   unfolding put_process put_link
@@ -157,18 +157,18 @@ module _ (r : Run) (s : Sound r.waits) (a b k : ℕ) (m : Message) (rest : List 
       ∙ rw (w, answered_link (changed r a b k x) b z u v, changed_link x u v)
       (twice (eqb u b) (taken r a b rest u v) (reply_receiver z v) (probes_to r.waits b y v))
 
-  pub carried_out_is : carried_out r a b k (turn_at r a b m).process (turn_at r a b m).probes (turn_at r a b m).reply ≡ after r a b m rest
+  pub carried_out_is : carried_out r a b k (turn_at r a b m).process (turn_at r a b m).sent.probes (turn_at r a b m).sent.reply ≡ after r a b m rest
   unfolding Machines.after sent_to carried_out put_count put_process put_link
   carried_out_is =
       let x : Process = (turn_at r a b m).process in
-      let y : Probes = (turn_at r a b m).probes in
-      let z : Reply = (turn_at r a b m).reply in
+      let y : Probes = (turn_at r a b m).sent.probes in
+      let z : Option Reply = (turn_at r a b m).sent.reply in
       ap (λ (q : Run). put_count q (q.count + 1)) (carried_relinked x y z).is
       ∙ ap (λ (l : ℕ → ℕ → List Message). with_links (after r a b m rest) l) (fun_ext (λ u. fun_ext (carried_link x y z u)))
 
 -- what is counted without making the delivery
 pub load_after_is :
     (r : Run) (a b : ℕ) (m : Message) (rest : List Message) → Among m rest (r.link a b) → (q : ℕ) →
-    length ((after r a b m rest).link b q) ≡ load_after r a b (turn_at r a b m).probes (turn_at r a b m).reply q
+    length ((after r a b m rest).link b q) ≡ load_after r a b (turn_at r a b m).sent.probes (turn_at r a b m).sent.reply q
 unfolding Machines.after sent_to
 load_after_is r a b m rest l q = rw (eq-eqb b b refl, length-append, length-append, taken_length r a b l q) (omega arith)

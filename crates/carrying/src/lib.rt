@@ -10,50 +10,47 @@ ghost use Rattle.carrying.specs.Carrying.{spread_by, carried_out, Carried};
 ghost use Rattle.tables.specs.declared.Chain.{Chain};
 ghost use Rattle.link_lenses.specs.Changes.{Spreadable};
 
+use lenses::tested::Tested;
 use lenses::{heading, records};
+use link_lenses::links::LinkAt;
 use link_lenses::{links, sending};
-use steps::{Probes, Process, Reply};
-use tables::Chain;
+use steps::{Probes, Turn};
+use tables::{Chain, Sizes};
 
 // b sends the probes of its step, if there are any.
-fn send(area: &mut [i32], row: &[u16], n: usize, m: usize, b: usize, probes: Probes)
-    requires ready { Ready area.old n m }
-    requires le_b { (1 ≤ b) × (b ≤ n) }
+fn send(area: &mut [i32], row: &[u16], sizes: Sizes, b: usize, probes: Probes)
+    requires ready { Ready area.old sizes }
+    requires is_process { (1 ≤ b) × (b ≤ sizes.n) }
     requires row { Row (fields_in area.old) b row.now }
-    requires spreadable { (c : Chain) → probes ≡ probes_of c → Spreadable c (run_in area.old) n b }
+    requires spreadable { (c : Chain) → probes ≡ probes_of c → Spreadable c (run_in area.old) sizes.n b }
     ensures { area.new ≡ keeping area.old (spread_by probes (run_in area.old) b) }
 {
     match probes {
         Probes::Nothing => {}
-        Probes::Sucs => sending::broadcast(area, row, n, m, Chain::Out, b),
-        Probes::Pres => sending::broadcast(area, row, n, m, Chain::In, b),
+        Probes::Sucs => sending::broadcast(area, row, sizes, Chain::Out, b),
+        Probes::Pres => sending::broadcast(area, row, sizes, Chain::In, b),
     }
 }
 
-// b's step has been taken: the message comes off its link, the record changes, and the step's messages go out.
+// The receiver's step has been taken: the message comes off its link, the record changes, and the step's messages go out.
 pub fn carry_out(
     area: &mut [i32],
     row: &[u16],
-    n: usize,
-    m: usize,
-    a: usize,
-    b: usize,
-    i: usize,
+    sizes: Sizes,
+    link: LinkAt,
     place: usize,
-    process: Process,
-    probes: Probes,
-    reply: Reply,
+    turn: Turn,
 )
-    requires ready { Ready area.old n m }
-    requires row { Row (fields_in area.old) b row.now }
-    requires linked { Linked (fields_in area.old) a b i }
-    requires carried { Carried (run_in area.old) a b place process probes reply }
-    ensures { area.new ≡ keeping area.old (carried_out (run_in area.old) a b place process probes reply) }
+    requires ready { Ready area.old sizes }
+    requires row { Row (fields_in area.old) link.to row.now }
+    requires linked { Linked (fields_in area.old) link.from link.to link.at }
+    requires carried { Carried (run_in area.old) link.from link.to place turn.process turn.sent.probes turn.sent.reply }
+    ensures { area.new ≡ keeping area.old (carried_out (run_in area.old) link.from link.to place turn.process turn.sent.probes turn.sent.reply) }
 {
-    links::take(area, n, m, a, b, i, place);
-    records::put_process(area, n, m, b, process);
-    sending::acknowledge(area, row, n, m, b, reply);
-    send(area, row, n, m, b, probes);
-    let count = heading::count_of(area, n, m);
-    heading::put_count(area, n, m, count + 1);
+    links::take(area, sizes, link, place);
+    records::put_process(area, sizes, link.to, turn.process);
+    sending::acknowledge(area, row, sizes, link.to, turn.sent.reply);
+    send(area, row, sizes, link.to, turn.sent.probes);
+    let count = Tested { words: area, sizes }.count();
+    heading::put_count(area, sizes, count + 1);
 }

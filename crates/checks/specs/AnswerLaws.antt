@@ -1,38 +1,48 @@
 -- Laws of the calls' answers: a delivery's answer as the code gives it and as the machine does, the parts of a report, and what
 -- comes first.
+--   RefusedAs x e      == the machine's answer x is a refusal, and e its name
 --   delivery_of_refused, delivery_of_delivered   == what an answer of the code says of the machine's
+--   refused_by_number   == .. and where the machine's number is that of a refusal, it is e's
 --   delivery_of_number, delivery_of_accepted     == the same number, and the same count of accepted picks
 --   is_zero_yes, is_zero_no                      == the test of a sum
 --   escape_of_P                                 == the lowest process with subordinate 1, or 0 and none has it
 --   pick_21, run_on_21, run_shuffled_21, report_21, read_record_21   == 21 comes first
 -- Assumes nothing.
-use Rattle.std.specs.Prelude.{ℕ, zero, suc, true, false, ◌≡◌, refl, ℤ, pos, negsuc}
-use Rattle.std.proofs.Common.{ap, eqb-true, eq-eqb, arith}
+use Rattle.std.specs.Prelude.{ℕ, zero, suc, true, false, ◌≡◌, refl, ℤ, pos, negsuc, Ok, Err}
+use Rattle.std.proofs.Common.{ap, sym, ◌∙◌, eqb-true, eq-eqb, arith}
 use Rattle.base.specs.Sums.{Lowest}
 use Rattle.base.specs.SumLaws.{lowest_to_P}
-use Rattle.machine.specs.declared.Ran.{Ran}
-use Rattle.machine.specs.Calls.{Answer, given, refusal}
+use Rattle.refusals.specs.declared.Refusal.{Refusal}
+use Rattle.refusals.specs.Numbers.{number, numbered}
+use Rattle.refusals.specs.NumberLaws.{listed_back}
+use Rattle.machine.specs.Calls.{Answer, given, refusal, halted}
 use Rattle.machine.specs.Calls as Machines
 use Rattle.machine.specs.Lists.{accepted_pick, answer_number}
+use Rattle.machine.specs.Made.{AnswerListed}
 use Rattle.steps.specs.declared.Message.{Message}
-use Rattle.checks.specs.declared.Delivery.{Delivery}
-use Rattle.checks.specs.declared.Delivery.TheVariants.{Delivered}
-use Rattle.checks.specs.declared.Report.{Report}
-use Rattle.checks.specs.declared.Reading.{Reading}
 use Rattle.checks.specs.Run.{Run, well_formed}
 use Rattle.checks.specs.Calls.{refused, delivery_of, pick, run_on, run_shuffled, escape_of, is_zero, report, read_record, delivery_number, delivery_made}
 
-pub delivery_of_refused : (x : Answer Message) {n : ℕ} → delivery_of x ≡ Delivery.Refused n → x ≡ refusal n
-delivery_of_refused (refusal k) {n} e = let f : k ≡ n = cc in ap refusal f
-delivery_of_refused (given m) e = let z : ◌≡◌ {A = ℕ} 0 1 = cc in absurd (omega arith)
+pub record RefusedAs (x : Answer Message) (e : Refusal) : Type 0 where
+  pub k : ℕ
+  pub refuses : x ≡ refusal k
+  pub name : numbered k ≡ e
 
-pub delivery_of_delivered : (x : Answer Message) {m : Message} → delivery_of x ≡ Delivered m → x ≡ given m
+pub delivery_of_refused : (x : Answer Message) {e : Refusal} → delivery_of x ≡ Err e → RefusedAs x e
+delivery_of_refused (refusal k) {e} h = record { k = k; refuses = refl; name = cc }
+delivery_of_refused (given m) h = let z : ◌≡◌ {A = ℕ} 0 1 = cc in absurd (omega arith)
+
+pub refused_by_number : (x : Answer Message) {e : Refusal} → AnswerListed x → delivery_of x ≡ Err e → x ≡ refusal (number e)
+refused_by_number (refusal k) {e} l h = let name : numbered k ≡ e = cc in ap refusal (sym (listed_back l) ∙ ap number name)
+refused_by_number (given m) l h = let z : ◌≡◌ {A = ℕ} 0 1 = cc in absurd (omega arith)
+
+pub delivery_of_delivered : (x : Answer Message) {m : Message} → delivery_of x ≡ Ok m → x ≡ given m
 delivery_of_delivered (given k) {m} e = let f : k ≡ m = cc in ap given f
 delivery_of_delivered (refusal n) e = let z : ◌≡◌ {A = ℕ} 0 1 = cc in absurd (omega arith)
 
-pub delivery_of_number : (x : Answer Message) → delivery_number (delivery_of x) ≡ answer_number x
-delivery_of_number (given m) = refl
-delivery_of_number (refusal n) = refl
+pub delivery_of_number : (x : Answer Message) → AnswerListed x → delivery_number (delivery_of x) ≡ answer_number x
+delivery_of_number (given m) l = refl
+delivery_of_number (refusal n) l = listed_back l
 
 pub delivery_of_accepted : (x : Answer Message) → delivery_made (delivery_of x) ≡ accepted_pick x
 delivery_of_accepted (given m) = refl
@@ -61,18 +71,18 @@ module _ (r : Run) (bad : well_formed r ≡ false) where
   unfolding Machines.pick
   pick_21 a b k = rw bad
 
-  pub run_on_21 : (k : ℕ) → run_on k r ≡ record { answer = Ran.Refused 21 0; run = r }
+  pub run_on_21 : (k : ℕ) → run_on k r ≡ record { answer = halted 21 0; run = r }
   unfolding Machines.run_on
   run_on_21 k = rw bad
 
-  pub run_shuffled_21 : (k seed : ℕ) → run_shuffled k seed r ≡ record { answer = Ran.Refused 21 0; run = r }
+  pub run_shuffled_21 : (k seed : ℕ) → run_shuffled k seed r ≡ record { answer = halted 21 0; run = r }
   unfolding Machines.run_shuffled
   run_shuffled_21 k seed = rw bad
 
-  pub report_21 : report r ≡ Report.Refused 21
+  pub report_21 : report r ≡ Err (numbered 21)
   unfolding report
   report_21 = rw bad
 
-  pub read_record_21 : (p : ℕ) → read_record r p ≡ Reading.Refused 21
+  pub read_record_21 : (p : ℕ) → read_record r p ≡ Err (numbered 21)
   unfolding read_record
   read_record_21 p = rw bad

@@ -10,38 +10,36 @@
 --   read_record r p     == "reading one process's record checks 21, 25"
 --   delivery_number, delivery_made, report_number, reading_number   == for each case of an answer 01's number
 -- Assumes nothing.
-use Rattle.std.specs.Prelude.{ℕ, zero, suc, Bool, true, false, not, ◌&&◌, List, eqb, ℤ, pos, negsuc}
+use Rattle.std.specs.Prelude.{ℕ, zero, suc, Bool, true, false, not, ◌&&◌, List, eqb, ℤ, pos, negsuc, Result, Ok, Err}
 use Rattle.tables.specs.Table.{is_process}
 use Rattle.base.specs.{Choice.choose, Sums.lowest_to}
+use Rattle.refusals.specs.declared.Refusal.{Refusal}
+use Rattle.refusals.specs.Numbers.{numbered, number_of}
 use Rattle.machine.specs.Calls.{Answer, given, refusal, Selection, fixed_order, RanOn}
 use Rattle.machine.specs.Calls as Machines
 use Rattle.steps.specs.declared.Message.{Message}
 use Rattle.steps.specs.declared.Process.{Process}
-use Rattle.checks.specs.declared.Delivery.{Delivery}
-use Rattle.checks.specs.declared.Delivery.TheVariants.{Delivered}
 use Rattle.checks.specs.declared.Verdict.{Verdict}
 use Rattle.checks.specs.declared.Verdict.TheVariants.{Knot, Free}
 use Rattle.checks.specs.declared.Mark.{Mark}
 use Rattle.checks.specs.declared.Mark.TheVariants.{Returned, Held}
 use Rattle.checks.specs.declared.Report.{Report}
-use Rattle.checks.specs.declared.Reading.{Reading}
-use Rattle.checks.specs.declared.Reading.TheVariants.{Found}
 use Rattle.checks.specs.{Run.Run, Run.knot, Run.over, Run.well_formed, Reach.edition_allows}
 
 -- ---- a pick
 
 pub record Picked : Type 0 where
-  pub answer : Delivery
+  pub answer : Result Message Refusal
   pub run : Run
 
 -- "A refusal returns its number .. and changes no lent byte or word"
 abbrev pub refused : ℕ → Run → Picked
-refused n r = record { answer = Delivery.Refused n; run = r }
+refused n r = record { answer = Err (numbered n); run = r }
 
 -- the machine's answer as the code gives it
-abbrev pub delivery_of : Answer Message → Delivery
-delivery_of (given m) = Delivered m
-delivery_of (refusal n) = Delivery.Refused n
+abbrev pub delivery_of : Answer Message → Result Message Refusal
+delivery_of (given m) = Ok m
+delivery_of (refusal n) = Err (numbered n)
 
 abbrev pub answering : Machines.Picked Process Message → Picked
 answering p = record { answer = delivery_of p.answer; run = p.run }
@@ -94,39 +92,43 @@ mark_of x = choose (is_zero x.second) Returned Held
 
 -- "over count; verdict ..; outside = cs of s; escape ..; mark .."
 unfoldable pub reported : Run → Report
-reported r = Report.Over r.count (verdict_of r) (r.process r.start).cs (escape_of r) (mark_of (r.process r.start))
+reported r =
+    record {
+      deliveries = r.count;
+      verdict = verdict_of r;
+      outside = (r.process r.start).cs;
+      escape = escape_of r;
+      mark = mark_of (r.process r.start);
+    }
 
 -- "The report checks 21, 26"
-unfoldable pub report : Run → Report
+unfoldable pub report : Run → Result Report Refusal
 report r =
-    choose (not (well_formed r)) (Report.Refused 21)
-    (choose (not (over r)) (Report.Refused 26)
-    (reported r))
+    choose (not (well_formed r)) (Err (numbered 21))
+    (choose (not (over r)) (Err (numbered 26))
+    (Ok (reported r)))
 
 -- ---- reading a record
 
 -- "reading one process's record checks 21, 25"
-unfoldable pub read_record : Run → ℕ → Reading
+unfoldable pub read_record : Run → ℕ → Result Process Refusal
 read_record r p =
-    choose (not (well_formed r)) (Reading.Refused 21)
-    (choose (not (is_process r.waits.n p)) (Reading.Refused 25)
-    (Found (r.process p)))
+    choose (not (well_formed r)) (Err (numbered 21))
+    (choose (not (is_process r.waits.n p)) (Err (numbered 25))
+    (Ok (r.process p)))
 
 -- ---- 01's number for each case of an answer, 0 where nothing is refused
 
-abbrev pub delivery_number : Delivery → ℕ
-delivery_number (Delivered m) = 0
-delivery_number (Delivery.Refused n) = n
+abbrev pub delivery_number : Result Message Refusal → ℕ
+delivery_number x = number_of x
 
 -- a pick is accepted if it delivers
-abbrev pub delivery_made : Delivery → ℕ
-delivery_made (Delivered m) = 1
-delivery_made (Delivery.Refused n) = 0
+abbrev pub delivery_made : Result Message Refusal → ℕ
+delivery_made (Ok m) = 1
+delivery_made (Err e) = 0
 
-abbrev pub report_number : Report → ℕ
-report_number (Report.Over d v o e m) = 0
-report_number (Report.Refused n) = n
+abbrev pub report_number : Result Report Refusal → ℕ
+report_number x = number_of x
 
-abbrev pub reading_number : Reading → ℕ
-reading_number (Found x) = 0
-reading_number (Reading.Refused n) = n
+abbrev pub reading_number : Result Process Refusal → ℕ
+reading_number x = number_of x

@@ -5,7 +5,7 @@
 --   EndedInWords t s ed r   == what is said of a run that is over, of the table with fields t, started at s under the edition ed
 -- HowMany P n k (crate base, Sums) says that k of the numbers 1 to n have P, and Lowest P n e that e is the lowest that has P, 0 if none has.
 -- Assumes nothing.
-use Rattle.std.specs.Prelude.{ℕ, ◌+◌, ◌*◌, ◌≡◌, ◌↔◌, pos}
+use Rattle.std.specs.Prelude.{ℕ, ◌+◌, ◌*◌, ◌≡◌, ◌↔◌, pos, Ok}
 use Rattle.base.specs.Sums.{HowMany, Lowest}
 use Rattle.tables.specs.Table.{Fields, n_of, m_of, IsProcess, arc_at}
 use Rattle.tables.specs.Waits.{Waits, waits_of}
@@ -13,7 +13,6 @@ use Rattle.checks.specs.declared.Verdict.{Verdict}
 use Rattle.checks.specs.declared.Verdict.TheVariants.{Knot}
 use Rattle.checks.specs.declared.Mark.{Mark}
 use Rattle.checks.specs.declared.Mark.TheVariants.{Returned}
-use Rattle.checks.specs.declared.Report.{Report}
 use Rattle.checks.specs.Run.{Run}
 use Rattle.checks.specs.Calls.{report}
 use Rattle.checks.specs.Reach.{Reaches, SomeByArcs, WaitsForSome}
@@ -43,7 +42,7 @@ pub record EndedInWords (t : Fields) (s ed : ℕ) (r : Run) : Type 0 where
   -- "a report gives D, knot exactly if all processes reachable from the start reach it, as outside .."
   pub verdict : Verdict
   pub mark : Mark
-  pub reports : report r ≡ Report.Over (2 * onward + 2 * back) verdict (pos outside) escape mark
+  pub reports : report r ≡ Ok (record { deliveries = 2 * onward + 2 * back; verdict = verdict; outside = pos outside; escape = escape; mark = mark })
   -- 02, N4: under the second edition "in addition, at least one process must be reachable by one arc or more"
   pub knot : (verdict ≡ Knot) ↔ (((p : ℕ) → Reaches (waits_of t) s p → Reaches (waits_of t) p s) × (ed ≡ 2 → SomeByArcs (waits_of t) s))
   -- 02, N3: "returned exactly if every process reachable from the start, itself included, waits for somebody"

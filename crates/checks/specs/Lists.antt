@@ -4,7 +4,7 @@
 --   Ended w s ed r     == what is said of a run that is over, started at s under the edition ed
 --   Promise w s ed p   == what is said of every list, with p what the list left
 -- Assumes nothing.
-use Rattle.std.specs.Prelude.{ℕ, ◌≤◌, true, false, ◌≡◌, ◌↔◌, eqb, length, pos}
+use Rattle.std.specs.Prelude.{ℕ, ◌≤◌, true, false, ◌≡◌, ◌↔◌, eqb, length, pos, Ok}
 use mathlib.Core.List.{List, [], ◌∷◌, Memᴰ}
 use Rattle.base.specs.Choice.{bit, choose}
 use Rattle.tables.specs.Waits.{Waits}
@@ -15,7 +15,6 @@ use Rattle.steps.specs.declared.Message.{Message}
 use Rattle.steps.specs.declared.Process.{Process}
 use Rattle.checks.specs.declared.Verdict.TheVariants.{Knot, Free}
 use Rattle.checks.specs.declared.Mark.TheVariants.{Returned, Held}
-use Rattle.checks.specs.declared.Report.{Report}
 use Rattle.checks.specs.Run.{Run, most_waiting, knot, over}
 use Rattle.checks.specs.Calls.{report, read_record, report_number, reading_number}
 use Rattle.checks.specs.Reach.{reaches, in_knot, outsider, outsiders, lowest_outsider, all_wait, sinks, d_of}
@@ -40,7 +39,14 @@ pub record Ended (w : Waits) (s ed : ℕ) (r : Run) : Type 0 where
   -- "Verdicts are judged by the edition named at start" (02, N4); "returned exactly if every process reachable from the start, itself
   -- included, waits for somebody" (02, N3)
   pub reports : report r
-      ≡ Report.Over (d_of w s) (choose (in_knot w s ed) Knot Free) (pos (outsiders w s)) (lowest_outsider w s) (choose (all_wait w s) Returned Held)
+      ≡ Ok
+      (record {
+        deliveries = d_of w s;
+        verdict = choose (in_knot w s ed) Knot Free;
+        outside = pos (outsiders w s);
+        escape = lowest_outsider w s;
+        mark = choose (all_wait w s) Returned Held;
+      })
   -- "Each process then has .."
   pub succeeding : (p : ℕ) → IsProcess w.n p → (r.process p).succeeding ≡ bit (reaches w s p)
   pub preceding : (p : ℕ) → IsProcess w.n p → (r.process p).preceding ≡ bit (reaches w p s)

@@ -9,13 +9,13 @@
 --   reply_receiver, probes_to, sent_to w b t q, leaving w b t   == what that step puts on the link from b to q, in order; and on every link
 --   counts_small, link_right, over, well_formed, start_run, after, accepts   == the machine's own, by these rules
 -- Assumes nothing.
-use Rattle.std.specs.Prelude.{ℕ, ◌+◌, Bool, true, false, ◌&&◌, ◌||◌, List, [], ◌∷◌, ◌++◌, ◌⊎◌, ◌≡◌, eqb, pos}
+use Rattle.std.specs.Prelude.{ℕ, ◌+◌, Bool, true, false, ◌&&◌, ◌||◌, List, [], ◌∷◌, ◌++◌, ◌⊎◌, ◌≡◌, eqb, pos, Option, Some, None}
 use Rattle.base.specs.Choice.{choose}
 use Rattle.tables.specs.Waits.{Waits, out_degree, in_degree, neighbours}
 use Rattle.machine.specs.Machine.{Machine, Left, Rules}
 use Rattle.machine.specs.Machine as Machines
 use Rattle.steps.specs.declared.{Message.Message, Message.TheVariants.Suc, Message.TheVariants.Pre, Message.TheVariants.Ack, Process.Process}
-use Rattle.steps.specs.declared.{Probes.Probes, Probes.TheVariants.Sucs, Probes.TheVariants.Pres, Reply.Reply, Reply.TheVariants.To}
+use Rattle.steps.specs.declared.{Probes.Probes, Probes.TheVariants.Sucs, Probes.TheVariants.Pres, Reply.Reply}
 use Rattle.steps.specs.Effect.{is_probe}
 use Rattle.steps.specs.Step.{in_range, count_small, idle, own_count, Turn, turn, start_turn, fitting}
 
@@ -52,9 +52,9 @@ unfoldable pub turn_of : Waits → ℕ → ℕ → ℕ → Message → Process �
 turn_of w s a b m x = choose (eqb b s) (start_turn m a x) (turn m (out_degree w b) (in_degree w b) a x)
 
 -- an acknowledgement stands only on the link to the process it is for
-unfoldable pub reply_receiver : Reply → ℕ → List Message
-reply_receiver Reply.Nothing q = []
-reply_receiver (To p c) q = one (eqb q p) (Ack c)
+unfoldable pub reply_receiver : Option Reply → ℕ → List Message
+reply_receiver None q = []
+reply_receiver (Some y) q = one (eqb q y.to) (Ack y.counts)
 
 -- "sends suc to all successors"; "the same with preceding and predecessors"
 unfoldable pub probes_to : Waits → ℕ → Probes → ℕ → List Message
@@ -64,7 +64,7 @@ probes_to w b Pres q = one (w.waits q b) Pre
 
 -- what a step of b puts on the link from b to q: the acknowledgement first
 unfoldable pub sent_to : Waits → ℕ → Turn → ℕ → List Message
-sent_to w b t q = reply_receiver t.reply q ++ probes_to w b t.probes q
+sent_to w b t q = reply_receiver t.sent.reply q ++ probes_to w b t.sent.probes q
 
 -- what a step of b leaves: its record, and what it puts on each link
 abbrev pub leaving : Waits → ℕ → Turn → Left Process Message

@@ -9,7 +9,7 @@
 -- Assumes nothing.
 use Prim.Native.Nat.{ℕ, ◌≤◌}
 use Rattle.std.proofs.Math.Bool.{true}
-use Rattle.std.specs.Prelude.{false, ◌≡◌, ◌↔◌, eqb}
+use Rattle.std.specs.Prelude.{false, ◌≡◌, ◌↔◌, eqb, Option, Some, None}
 use Rattle.std.proofs.lemmas.Bool.{false≢true}
 use mathlib.Core.List.{List, []}
 use Rattle.std.proofs.Math.Path.{refl}
@@ -31,8 +31,7 @@ use Rattle.steps.specs.declared.Message.TheVariants.{Ack}
 use Rattle.steps.specs.declared.Probes.{Probes}
 use Rattle.steps.specs.declared.Probes.TheVariants.{Sucs, Pres}
 use Rattle.steps.specs.declared.Reply.{Reply}
-use Rattle.steps.specs.declared.Reply.TheVariants.{To}
-use Rattle.steps.specs.Step.{in_range, both_small, num_suffices, reply_fits, fitting}
+use Rattle.steps.specs.Step.{acknowledgement, in_range, both_small, num_suffices, reply_fits, fitting}
 use Rattle.steps.specs.Effect.{Known, Effect, Named}
 use Rattle.steps.proofs.EffectLaws.{turn_effect, start_turn_effect, turn_named, start_turn_named}
 use Rattle.checks.specs.Run.{Run, IsEdition, is_edition, knot, father_right, one, turn_of, turn_at, reply_receiver, probes_to, sent_to, after, accepts}
@@ -103,7 +102,7 @@ module _ {r : Run} (f : Formed knot r) (sd : Sound r.waits) (a b : ℕ) (j : nei
 
   -- whom the step acknowledges is a neighbour of the receiver
   pub replied :
-      reply_fits (turn_at r a b m).reply ≡ true → (q : ℕ) (c : TwoCounts) → (turn_at r a b m).reply ≡ To q c → neighbours r.waits b q ≡ true
+      reply_fits (turn_at r a b m).sent.reply ≡ true → (q : ℕ) (c : TwoCounts) → (turn_at r a b m).sent.reply ≡ acknowledgement q c → neighbours r.waits b q ≡ true
   unfolding reply_fits father_right
   replied k q c e =
       ⊎_elim
@@ -126,27 +125,27 @@ module _ {r : Run} (f : Formed knot r) (sd : Sound r.waits) (a b : ℕ) (j : nei
 
 module _ (r : Run) (a b : ℕ) (m : Message) (rest : List Message) (ok : accepts r a b m rest ≡ true) where
   fits :
-      (num_suffices m (r.process b) ≡ true) × (in_range (turn_at r a b m).process ≡ true) × (reply_fits (turn_at r a b m).reply ≡ true)
+      (num_suffices m (r.process b) ≡ true) × (in_range (turn_at r a b m).process ≡ true) × (reply_fits (turn_at r a b m).sent.reply ≡ true)
   unfolding fitting
   fits =
-      and_three (num_suffices m (r.process b)) (in_range (turn_at r a b m).process) (reply_fits (turn_at r a b m).reply)
+      and_three (num_suffices m (r.process b)) (in_range (turn_at r a b m).process) (reply_fits (turn_at r a b m).sent.reply)
       ((accepts_P knot r a b m rest).0 ok).fits
 
   pub new_range : in_range (turn_at r a b m).process ≡ true
   new_range = fits.1
 
-  pub new_reply : reply_fits (turn_at r a b m).reply ≡ true
+  pub new_reply : reply_fits (turn_at r a b m).sent.reply ≡ true
   new_reply = fits.2
 
   -- the step sends to neighbours alone
   module _ (f : Formed knot r) (sd : Sound r.waits) (j : neighbours r.waits a b ≡ true) (y : ℕ) (n : neighbours r.waits b y ≡ false) where
-    no_replies : (z : Reply) → (turn_at r a b m).reply ≡ z → reply_receiver z y ≡ []
+    no_replies : (z : Option Reply) → (turn_at r a b m).sent.reply ≡ z → reply_receiver z y ≡ []
     unfolding reply_receiver
-    no_replies Reply.Nothing e = refl
-    no_replies (To q c) e = at (same? y q)
+    no_replies None e = refl
+    no_replies (Some z) e = at (same? y z.to)
       where
-        at : Same y q → one (eqb y q) (Ack c) ≡ []
-        at (same g h) = absurd (false≢true (sym n ∙ rw g (replied f sd a b j m new_reply q c e)))
+        at : Same y z.to → one (eqb y z.to) (Ack z.counts) ≡ []
+        at (same g h) = absurd (false≢true (sym n ∙ rw g (replied f sd a b j m new_reply z.to z.counts e)))
         at (apart g h) = rw h
 
     no_probes : (z : Probes) → probes_to r.waits b z y ≡ []
@@ -157,7 +156,7 @@ module _ (r : Run) (a b : ℕ) (m : Message) (rest : List Message) (ok : accepts
 
     pub nothing_sent : sent_to r.waits b (turn_at r a b m) y ≡ []
     unfolding sent_to
-    nothing_sent = rw (no_replies (turn_at r a b m).reply refl, no_probes (turn_at r a b m).probes)
+    nothing_sent = rw (no_replies (turn_at r a b m).sent.reply refl, no_probes (turn_at r a b m).sent.probes)
 
   pub knot_after :
       Formed knot r → Sound r.waits → neighbours r.waits a b ≡ true → Among m rest (r.link a b) → Formed knot (after r a b m rest)

@@ -7,87 +7,72 @@
 // `remembering`, `delivery` and below; it refuses what a delivery refuses, 24 and 22.
 #![tactic(auto)]
 
-ghost use Rattle.std.specs.Prelude.{◌≡◌, ◌≤◌, length};
+ghost use Rattle.std.specs.Prelude.{◌≡◌, ◌≤◌};
 ghost use Rattle.areas.specs.Area.{fields_in, run_in, keeping};
-ghost use Rattle.areas.specs.Squares.{Linked};
+ghost use Rattle.areas.specs.Squares.{Linked, Square};
 ghost use Rattle.machine.specs.Calls.{link_at, links_of, lowest, drawn};
 ghost use Rattle.delivery.specs.Delivering.{told_at, deliver_at};
-ghost use Rattle.marks.specs.Marks.{memory_size};
 ghost use Rattle.remembering.specs.Memory.{Remembers};
 ghost use Rattle.remembering.specs.Running.{Running};
 ghost use Rattle.choosing.specs.Answers.{chosen_of, chosen_answer, drawn_of, next_of};
 
 use areas::squares;
 use delivery::delivering;
-use delivery::delivering::Told;
+use delivery::delivering::Delivered;
+use lenses::tested::Tested;
 use link_lenses::links;
-use marks::{Beginning, parts};
+use link_lenses::links::LinkAt;
+use marks::{Beginning, Memory};
+use refusals::Refusal;
 use remembering::{filling, noting};
 use steps::Message;
+use tables::Sizes;
 
-// A link with a message, or none.
-#[derive(Clone, Copy)]
-enum Chosen {
-    Link { from: usize, to: usize },
-    Nobody,
+// A link with a message: who sends, and who receives.
+#[derive(Clone, Copy, PartialEq, Eq)]
+struct Link {
+    from: usize,
+    to: usize,
 }
 
-// The answer of one delivery on a chosen link: the message with its link, or the number of the refusal.
-#[derive(Clone, Copy)]
-pub enum ChosenDelivery {
-    Delivered {
-        from: usize,
-        to: usize,
-        message: Message,
-    },
-    Refused(u32),
+// One delivery on a chosen link: the message with its link.
+#[derive(Clone, Copy, PartialEq, Eq)]
+pub struct ChosenDelivery {
+    pub from: usize,
+    pub to: usize,
+    pub message: Message,
 }
 
-// What the order remembers, from the area alone, in an array of any numbers.
-pub fn remember(
-    area: &[i32],
-    square: &[u16; tables::SQUARE_SIZE],
-    n: usize,
-    m: usize,
-    memory: &mut [usize; parts::MEMORY_SIZE],
-)
-    requires running { Running area.now square.now n m }
-    requires memory_len { length memory.old ≡ memory_size }
-    ensures { Remembers (run_in area.now) memory.new }
+// What the order remembers, from the area alone.
+pub fn remember(area: Tested, square: &[u16; tables::SQUARE_SIZE]) -> Memory
+    requires { Square (fields_in area.words.now) square.now }
+    ensures { Remembers (run_in area.entry.words.now) result }
 {
-    filling::fill(area, square, n, m, memory);
+    filling::fill(area, square)
 }
 
 // The link with a message at a place in the fixed order, counted from 0 (02, N11 and N13): a receiver whose links all stand before the place is
-// passed over by their number, and the loops begin at the receiver and at the sender that the array names.
+// passed over by their number, and the loops begin at the receiver and at the sender that the array names; they are left by label (01).
 fn choose(
-    area: &[i32],
+    area: Tested,
     square: &[u16; tables::SQUARE_SIZE],
-    n: usize,
-    m: usize,
     place: usize,
-    memory: &[usize; parts::MEMORY_SIZE],
-) -> Chosen
-    requires running { Running area.now square.now n m }
-    requires remembers { Remembers (run_in area.now) memory.now }
-    ensures { result ≡ chosen_of (link_at place (links_of (run_in area.now))) }
+    memory: &Memory,
+) -> Option<Link>
+    requires square { Square (fields_in area.words.now) square.now }
+    requires remembers { Remembers (run_in area.words.now) memory.now }
+    ensures { result ≡ chosen_of (link_at place (links_of (run_in area.entry.words.now))) }
 {
-    let end = n + 1;
-    let mut from = 0;
-    let mut to = 0;
-    let Beginning {
-        receiver,
-        left: before,
-    } = marks::begin_at(memory, place);
-    let mut left = before;
-    'scan: for b in receiver..end {
-        let held = memory[parts::count_at(b)];
+    let end = area.sizes.n + 1;
+    let mut found = None;
+    let Beginning { receiver, mut left } = memory.begin_at(place);
+    'scan: for to in receiver..end {
+        let held = memory.count_of(to);
         if left < held {
-            let first = marks::ranked_in(memory, b, left);
-            for a in first..end {
-                if links::is_waiting_at(area, square, n, m, a, b) {
-                    from = a;
-                    to = b;
+            let first = memory.ranked_in(to, left);
+            for from in first..end {
+                if links::is_waiting_at(area, square, from, to) {
+                    found = Some(Link { from, to });
                     break 'scan;
                 }
             }
@@ -95,32 +80,26 @@ fn choose(
             left -= held;
         }
     }
-    if from == 0 {
-        return Chosen::Nobody;
-    }
-    Chosen::Link { from, to }
+    found
 }
 
-// Delivers the oldest message on the link from a to b, which begins at word i, and tells what the step sent: 24 if nothing waits there, then 22.
+// Delivers the oldest message on a link, and tells what the step sent: 24 if nothing waits there, then 22.
 fn deliver_on(
     area: &mut [i32],
     square: &[u16; tables::SQUARE_SIZE],
-    n: usize,
-    m: usize,
-    a: usize,
-    b: usize,
-    i: usize,
-) -> Told
-    requires running { Running area.old square.now n m }
-    requires linked { Linked (fields_in area.old) a b i }
-    requires a_le_n { (a ≤ n) × (b ≤ n) }
-    ensures value { result ≡ told_at (run_in area.old) a b 1 }
-    ensures area_after { area.new ≡ keeping area.old (deliver_at (run_in area.old) a b 1).run }
+    sizes: Sizes,
+    link: LinkAt,
+) -> Result<Delivered, Refusal>
+    requires running { Running area.old square.now sizes }
+    requires linked { Linked (fields_in area.old) link.from link.to link.at }
+    requires numbers { (link.from ≤ sizes.n) × (link.to ≤ sizes.n) }
+    ensures told { result ≡ told_at (run_in area.old) link.from link.to 1 }
+    ensures area_after { area.new ≡ keeping area.old (deliver_at (run_in area.old) link.from link.to 1).run }
 {
-    let first = b * tables::SIDE;
-    let last = first + tables::SIDE;
+    let first = link.to * tables::SIDE;
     let cells = &square[..];
-    delivering::deliver_and_tell(area, &cells[first..last], n, m, a, b, i, links::OLDEST)
+    let row = &cells[first..first + tables::SIDE];
+    delivering::deliver_and_tell(area, row, sizes, link, links::OLDEST)
 }
 
 // Delivers the oldest message on the link that the state points to, among the links with a message (02, N13): 24 if nothing waits on any link,
@@ -128,51 +107,46 @@ fn deliver_on(
 pub fn deliver_drawn(
     area: &mut [i32],
     square: &[u16; tables::SQUARE_SIZE],
-    n: usize,
-    m: usize,
+    sizes: Sizes,
     state: u32,
-    memory: &mut [usize; parts::MEMORY_SIZE],
-) -> ChosenDelivery
-    requires running { Running area.old square.now n m }
+    memory: &mut Memory,
+) -> Result<ChosenDelivery, Refusal>
+    requires running { Running area.old square.now sizes }
     requires remembers { Remembers (run_in area.old) memory.old }
-    ensures value { result ≡ chosen_answer (drawn state (run_in area.old)) (drawn_of state (run_in area.old)).answer }
+    ensures told { result ≡ chosen_answer (drawn state (run_in area.old)) (drawn_of state (run_in area.old)).answer }
     ensures area_after { area.new ≡ keeping area.old (drawn_of state (run_in area.old)).run }
-    ensures remembers_2 { Remembers (run_in area.new) memory.new }
-    ensures running_2 { Running area.new square.now n m }
+    ensures remembers_after { Remembers (run_in area.new) memory.new }
+    ensures running_after { Running area.new square.now sizes }
 {
-    let place = marks::place_of(memory, state);
-    let Chosen::Link { from, to } = choose(area, square, n, m, place, memory) else {
-        return ChosenDelivery::Refused(24);
+    let place = memory.place_of(state);
+    let Some(Link { from, to }) = choose(Tested { words: area, sizes }, square, place, memory)
+    else {
+        return Err(Refusal::NoMessage);
     };
     let cell = squares::cell_at(square, from, to);
-    let i = squares::place(cell);
-    match deliver_on(area, square, n, m, from, to, i) {
-        Told::Refused(number) => ChosenDelivery::Refused(number),
-        Told::Delivered {
-            message,
-            probes,
-            reply,
-        } => {
-            noting::note(area, n, m, from, to, i, probes, reply, memory);
-            ChosenDelivery::Delivered { from, to, message }
-        }
-    }
+    let link = LinkAt {
+        from,
+        to,
+        at: squares::place(cell),
+    };
+    let Delivered { message, sent } = deliver_on(area, square, sizes, link)?;
+    noting::note(Tested { words: area, sizes }, link, sent, memory);
+    Ok(ChosenDelivery { from, to, message })
 }
 
 // The same in the fixed order: on the first link with a message.
 pub fn deliver_next(
     area: &mut [i32],
     square: &[u16; tables::SQUARE_SIZE],
-    n: usize,
-    m: usize,
-    memory: &mut [usize; parts::MEMORY_SIZE],
-) -> ChosenDelivery
-    requires running { Running area.old square.now n m }
+    sizes: Sizes,
+    memory: &mut Memory,
+) -> Result<ChosenDelivery, Refusal>
+    requires running { Running area.old square.now sizes }
     requires remembers { Remembers (run_in area.old) memory.old }
-    ensures value { result ≡ chosen_answer (lowest (run_in area.old)) (next_of (run_in area.old)).answer }
+    ensures told { result ≡ chosen_answer (lowest (run_in area.old)) (next_of (run_in area.old)).answer }
     ensures area_after { area.new ≡ keeping area.old (next_of (run_in area.old)).run }
-    ensures remembers_2 { Remembers (run_in area.new) memory.new }
-    ensures running_2 { Running area.new square.now n m }
+    ensures remembers_after { Remembers (run_in area.new) memory.new }
+    ensures running_after { Running area.new square.now sizes }
 {
-    deliver_drawn(area, square, n, m, 0, memory)
+    deliver_drawn(area, square, sizes, 0, memory)
 }

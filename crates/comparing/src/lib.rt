@@ -6,139 +6,133 @@
 
 pub mod written;
 
-use expecting::{Expected, answers, faults, starts, words};
-use machine::Ran;
-use ordering::{Call, Course, Way};
+use expecting::faults::{Fault, expect};
+use expecting::{Expected, answers, starts, words};
+use ordering::{Call, Course, Order, Way};
+use searching::Found;
 
 // Far more turns than a run takes.
 const TURNS: u32 = 100000000;
 
-// Runs on, without a seed or with one.
-fn run_on(area: &mut [i32], call: Call) -> Ran {
-    if call.kind == ordering::RUN_SHUFFLED {
-        return runs::shuffled::run_shuffled(area, call.k, call.seed);
-    }
-    runs::running::run_on(area, call.k)
+// A case that was searched: its table, the list of its waits, what the search found, and what it expects of a run.
+#[derive(Clone, Copy)]
+pub struct Searched<'a> {
+    pub table: &'a [u8],
+    pub list: &'a [u16],
+    pub found: &'a Found,
+    pub expected: Expected,
 }
 
 // Makes a call, with N.
-fn make(area: &mut [i32], found: &[bool; 16899], n: usize, call: Call, c: Course) -> Course {
-    let kind = call.kind;
-    let p = call.from;
-    match kind {
-        ordering::PICK => {
-            answers::picked(
-                found,
-                call,
-                picks::picking::pick(area, p, call.to, call.place),
-                c,
-            )
+fn make(
+    area: &mut [i32],
+    found: &Found,
+    n: usize,
+    call: Call,
+    c: &mut Course,
+) -> Result<(), Fault> {
+    match call {
+        Call::Pick(pick) => {
+            let answer = picks::picking::pick(area, pick.from, pick.to, pick.place);
+            answers::picked(found, pick, answer, c)
         }
-        ordering::RUN_ON | ordering::RUN_SHUFFLED => answers::ran(call, run_on(area, call), c),
-        _ => answers::read(n, p, record_reading::read_record(area, p), c),
+        Call::RunOn { k } => answers::ran(k, runs::running::run_on(area, k), c),
+        Call::RunShuffled { k, seed } => {
+            answers::ran_shuffled(k, seed, runs::shuffled::run_shuffled(area, k, seed), c)
+        }
+        Call::Read { p } => answers::read(n, p, record_reading::read_record(area, p)),
     }
 }
 
 // Whether a report says that the run is over exactly if A is D.
-fn probe(area: &[i32], c: Course) -> Course {
+fn probe(area: &[i32], c: &Course) -> Result<(), Fault> {
     answers::reported(reports::report(area), c)
 }
 
-// The digest of an area before a call that is watched, 0 before another.
-fn digest(area: &[i32], c: Course) -> usize {
-    if ordering::is_watched(area.len(), c) {
-        return words::digest(area);
+// The digest of an area before a call that is watched.
+fn digest(area: &[i32], c: &Course) -> Option<u64> {
+    if c.is_watched(area.len()) {
+        Some(words::digest(area))
+    } else {
+        None
     }
-    0
 }
 
 // After a call, with A and the digest before it. If it delivered, a report says whether the run is over. If not and it is watched, it
 // changed no word, and a report says the same as before.
-fn settle(area: &[i32], before: usize, made: u32, c: Course) -> Course {
-    if c.made != made {
-        return probe(area, c);
+fn settle(area: &[i32], before: Option<u64>, made: u32, c: &Course) -> Result<(), Fault> {
+    if c.made == made {
+        let Some(before) = before else {
+            return Ok(());
+        };
+        expect(words::digest(area) == before, Fault::Changed)?;
     }
-    if !ordering::is_watched(area.len(), c) {
-        return c;
-    }
-    probe(
-        area,
-        answers::expect(c, words::digest(area) == before, faults::CHANGED),
-    )
+    probe(area, c)
 }
 
 // One call, and what is looked at after it.
-fn turn(area: &mut [i32], list: &[u16], found: &[bool; 16899], way: Way, c: Course) -> Course {
-    let d = ordering::drawn(c);
-    let call = ordering::next_call(list, way, d);
-    let e = ordering::chosen(call, d);
-    let before = digest(area, e);
-    let f = make(area, found, way.n, call, e);
-    settle(area, before, e.made, f)
+fn turn(area: &mut [i32], found: &Found, way: Way<'_>, c: &mut Course) -> Result<(), Fault> {
+    c.draw();
+    let call = way.next_call(c);
+    c.choose(call);
+    let before = digest(area, c);
+    let made = c.made;
+    make(area, found, way.n, call, c)?;
+    settle(area, before, made, c)
 }
 
 // Brings a run to its end, or makes the calls past it, which are refused or make nothing.
-fn drive(area: &mut [i32], list: &[u16], found: &[bool; 16899], way: Way, begun: Course) -> Course {
-    let mut c = begun;
+fn drive(area: &mut [i32], found: &Found, way: Way<'_>, c: &mut Course) -> Result<(), Fault> {
     for _ in 0..TURNS {
-        if ordering::is_done(list, c) {
-            return c;
+        if way.is_done(c) {
+            break;
         }
-        c = turn(area, list, found, way, c);
+        turn(area, found, way, c)?;
     }
-    c
+    Ok(())
 }
 
 // Whether every record is that of the end.
-fn are_last(area: &[i32], found: &[bool; 16899], e: Expected) -> bool {
-    for p in 1..129 {
-        if p > e.n {
-            return true;
-        }
-        let answer = record_reading::read_record(area, p);
-        if !answers::is_last_record(answer, found, e, p) {
-            return false;
-        }
-    }
-    true
+fn are_last(area: &[i32], found: &Found, e: &Expected) -> bool {
+    (1..=usize::from(e.n)).all(|p| answers::is_last_record(
+        record_reading::read_record(area, p),
+        found,
+        e,
+        p,
+    ))
 }
 
 // The end of a run compared (01, "The end of a check"), and the surplus words.
-fn compare(area: &[i32], found: &[bool; 16899], e: Expected, order: usize, c: Course) -> Course {
-    let over = answers::expect(c, c.made == c.due, faults::STILL);
-    let told = answers::last_reported(reports::report(area), e, over);
-    let read = answers::expect(told, are_last(area, found, e), faults::LAST_RECORD);
-    let counted = answers::expect(read, answers::are_all_probes(e, order, c), faults::PROBES);
-    let kept = words::is_marked(area, starts::needed(e.n, e.m));
-    answers::expect(counted, kept, faults::SURPLUS)
+fn compare(
+    area: &[i32],
+    found: &Found,
+    e: &Expected,
+    order: Order,
+    c: &Course,
+) -> Result<(), Fault> {
+    expect(c.made == c.due, Fault::Still)?;
+    answers::last_reported(reports::report(area), e, c)?;
+    expect(are_last(area, found, e), Fault::LastRecord)?;
+    expect(answers::are_all_probes(e, order, c), Fault::Probes)?;
+    expect(words::is_marked(area, e.needed()), Fault::Surplus)
 }
 
-// A begun run brought to its end, and the calls past it. The end is compared before and after these.
-fn end(
-    area: &mut [i32],
-    list: &[u16],
-    found: &[bool; 16899],
-    e: Expected,
-    way: Way,
-    begun: Course,
-) -> Course {
-    let ended = drive(area, list, found, way, begun);
-    let over = compare(area, found, e, way.order, ended);
-    let past = drive(area, list, found, way, ordering::past_end(over));
-    compare(area, found, e, way.order, past)
-}
-
-// One run in an order, by a random number. Words past those that a start needs are surplus.
+// One run in an order, on a course that has not begun, and the calls past its end. The end is compared before and after these. Words past
+// those that a start needs are surplus. At a difference the course stays as it was there.
 pub fn run(
     area: &mut [i32],
-    table: &[u8],
-    list: &[u16],
-    found: &[bool; 16899],
-    e: Expected,
-    order: usize,
-    x: usize,
-) -> Course {
-    let begun = starts::course(e, x, starts::begin(area, table, e, x));
-    let way = ordering::way_of(list, e.n, order, x);
-    end(area, list, found, e, way, probe(area, begun))
+    case: &Searched<'_>,
+    order: Order,
+    c: &mut Course,
+) -> Result<(), Fault> {
+    let e = &case.expected;
+    let found = case.found;
+    let way = Way::new(case.list, usize::from(e.n), order, c.seed);
+    starts::begin(area, case.table, e, c.seed)?;
+    probe(area, c)?;
+    drive(area, found, way, c)?;
+    compare(area, found, e, order, c)?;
+    c.end();
+    drive(area, found, way, c)?;
+    compare(area, found, e, order, c)
 }

@@ -1,43 +1,31 @@
 -- A delivery in code: what each call asks, and that each answer is the one that the promise names.
 --   Answer w a b i d      == d is a delivery from a to b, of the message at place i, before anything is changed
---   nothing_waits, none_there, message_small, message_prepared   == the answer by what waits there
---   Sent w n m a b x      == what is known where x is delivered from a to b
---   step_asks, room_asks, process_asks   == what the step, the test of room and the reading of the record ask
+--   none_there, message_small, message_prepared   == the answer by what waits there
+--   Arriving w s a b x, arriving   == what is known where x is delivered from a to b
+--   step_asks, room_asks   == what the step and the test of room ask
 --   step_refused, count_full, links_full, prepared   == the answer at each return
---   Outcome w a b i d v   == what is told, d, and the area v that a delivery from a to b leaves
---   refusal, delivery     == the outcome where it is refused, and where it is carried out
---   told_number, told_message   == what is told, by its number or its message alone
+--   refusal_kept, delivery_leaves   == the area that a delivery from a to b leaves: where it is refused, and where it is carried out
+--   told_number, told_message   == what is told, by its refusal or its message alone
 -- Assumes nothing.
-use Prim.Native.Nat.{ℕ, ◌≤◌, ◌<◌}
-use mathlib.Core.Bool.{Bool, true, false, not}
-use mathlib.Core.List.{List}
-use mathlib.Core.Path.{◌≡◌, sym, ap, ◌∙◌, subst}
-use native.Mathlib.Omega.{arith}
-use lib.IntN.{ℤ}
+use Rattle.std.proofs.Common.{ℕ, ◌≤◌, ◌<◌, Bool, true, false, not, List, ◌≡◌, sym, ap, ◌∙◌, subst, arith, ℤ, Result, Ok, Err, Some}
 use Rattle.base.specs.Sums.{all_to}
+use Rattle.base.specs.ChoiceLaws.{value_not, value_yes}
+use Rattle.refusals.specs.declared.Refusal.{Refusal}
+use Rattle.refusals.specs.Numbers.{numbered}
+use Rattle.tables.specs.declared.Sizes.{Sizes}
+use Rattle.tables.specs.Table.{IsProcess}
 use Rattle.tables.specs.Waits.{Waits, waits_of, neighbours}
 use Rattle.tables.specs.WaitsLaws.{neighbours_ends}
 use Rattle.steps.specs.declared.Message.{Message}
-use Rattle.steps.specs.declared.Process.{Process}
-use Rattle.steps.specs.declared.Probes.{Probes}
-use Rattle.steps.specs.declared.TwoCounts.{TwoCounts}
 use Rattle.steps.specs.declared.Reply.{Reply}
-use Rattle.steps.specs.declared.Reply.TheVariants.{To}
-use Rattle.steps.specs.declared.Stepped.{Stepped}
-use Rattle.steps.specs.declared.Stepped.TheVariants.{Taken}
+use Rattle.steps.specs.declared.Turn.{Turn}
 use Rattle.steps.specs.Step.{count_small}
-use Rattle.base.specs.ChoiceLaws.{value_not, value_yes}
 use Rattle.machine.specs.Among.{Among}
 use Rattle.machine.proofs.PlaceLaws.{cut_placed}
-use Rattle.checks.specs.declared.Delivery.{Delivery}
-use Rattle.checks.specs.declared.Delivery.TheVariants.{Delivered}
 use Rattle.checks.specs.Run.{most_deliveries, accepts}
 use Rattle.checks.specs.Calls.{Picked}
 use Rattle.areas.specs.Area.{fields_in, run_in, keeping}
 use Rattle.areas.specs.AreaLaws.{stored_same}
-use Rattle.areas.specs.Squares.{Row}
-use Rattle.link_lenses.specs.declared.links.AtPlace.{AtPlace}
-use Rattle.link_lenses.specs.declared.links.AtPlace.TheVariants.{Beyond}
 use Rattle.link_lenses.specs.Standing.{standing, OneAt}
 use Rattle.lenses.specs.Ready.{Ready}
 use Rattle.lenses.specs.Storable.{Storable}
@@ -47,28 +35,24 @@ use Rattle.link_lenses.specs.StandingLaws.{message_standing}
 use Rattle.preparing.specs.Rooms.{roomy, room_to}
 use Rattle.preparing.specs.Receiving.{stepped_at}
 use Rattle.carrying.specs.Carrying.{carried_out, Carried}
-use Rattle.delivery.specs.Delivering.{deliver_at, PreparedFor, prepared_of, told_of, told_at}
-use Rattle.delivery.specs.AcceptLaws.{accepts_refused, accepts_full, taken_replied, accepts_crowded}
-use Rattle.delivery.specs.PreparedLaws.{prepared_nothing, prepared_beyond, prepared_at, prepared_refused, prepared_go}
+use Rattle.delivery.specs.Delivering.{deliver_at, PreparedFor, prepared_of, told_at}
+use Rattle.delivery.specs.AcceptLaws.{stepped_at_refused, accepts_refused, accepts_full, taken_replied, accepts_crowded}
+use Rattle.delivery.specs.PreparedLaws.{prepared_none, prepared_at, prepared_refused, prepared_go}
 use Rattle.delivery.specs.PreparedLaws.{refused_of, going_of, told_refused, told-going}
 use Rattle.delivery.specs.declared.delivering.Prepared.{Prepared}
-use Rattle.delivery.specs.declared.delivering.Prepared.TheVariants.{Go}
-use Rattle.delivery.specs.declared.delivering.Told.{Told}
+use Rattle.delivery.specs.declared.delivering.Delivered.{Delivered}
 
 -- a delivery before anything is changed
-abbrev pub Answer : List ℤ → ℕ → ℕ → ℕ → Prepared → Type 0
+abbrev pub Answer : List ℤ → ℕ → ℕ → ℕ → Result Prepared Refusal → Type 0
 Answer w a b i d = d ≡ prepared_of (run_in w) a b i ((run_in w).link a b)
 
 -- ---- by what waits at the place
 
-module _ {w : List ℤ} {n m : ℕ} (y : Ready w n m) (a b i : ℕ) {p : AtPlace} (e : p ≡ standing i ((run_in w).link a b)) where
-  pub nothing_waits : p ≡ AtPlace.Nothing → Answer w a b i (Prepared.Refused 24)
-  nothing_waits o = sym (prepared_nothing (run_in w) a b i ((run_in w).link a b) (sym e ∙ o))
+module _ {w : List ℤ} {s : Sizes} (y : Ready w s) (a b i : ℕ) {p : Result Message Refusal} (e : p ≡ standing i ((run_in w).link a b)) where
+  pub none_there : {r : Refusal} → p ≡ Err r → Answer w a b i (Err r)
+  none_there o = sym (prepared_none (run_in w) a b i ((run_in w).link a b) (sym e ∙ o))
 
-  pub none_there : p ≡ Beyond → Answer w a b i (Prepared.Refused 31)
-  none_there o = sym (prepared_beyond (run_in w) a b i ((run_in w).link a b) (sym e ∙ o))
-
-  module _ {x : Message} (o : p ≡ AtPlace.Message x) where
+  module _ {x : Message} (o : p ≡ Ok x) where
     here : OneAt i ((run_in w).link a b) x
     here = message_standing i ((run_in w).link a b) (sym e ∙ o)
 
@@ -78,91 +62,83 @@ module _ {w : List ℤ} {n m : ℕ} (y : Ready w n m) (a b i : ℕ) {p : AtPlace
     pub message_small : count_small x ≡ true
     message_small = link_message (fields_in w) (run_in w) (right_storable w y.right) a b among
 
-    pub message_prepared : {d : Prepared} → PreparedFor w a b x d → Answer w a b i d
+    pub message_prepared : {d : Result Prepared Refusal} → PreparedFor w a b x d → Answer w a b i d
     message_prepared h = h here.rest among ∙ sym (prepared_at (run_in w) a b i ((run_in w).link a b) here.is)
 
 -- ---- the delivery of a message
 
 -- what is known where x is delivered from a to b
-pub record Sent (w : List ℤ) (n m a b : ℕ) (x : Message) : Type 0 where
-  pub ready : Ready w n m
+pub record Arriving (w : List ℤ) (s : Sizes) (a b : ℕ) (x : Message) : Type 0 where
+  pub ready : Ready w s
   pub near : neighbours (run_in w).waits a b ≡ true
-  pub ends : (a ≤ n) × (b ≤ n)
+  pub ends : (a ≤ s.n) × (b ≤ s.n)
   pub small : count_small x ≡ true
 
-module _ {w : List ℤ} {n m a b : ℕ} {x : Message} (h : Sent w n m a b x) where
+pub arriving : {w : List ℤ} {s : Sizes} → Ready w s → {a b : ℕ} → neighbours (run_in w).waits a b ≡ true → (a ≤ s.n) × (b ≤ s.n)
+    → {x : Message} → count_small x ≡ true → Arriving w s a b x
+arriving y j e c = record { ready = y; near = j; ends = e; small = c }
+
+module _ {w : List ℤ} {s : Sizes} {a b : ℕ} {x : Message} (h : Arriving w s a b x) where
   f : Storable (fields_in w) (run_in w)
   f = right_storable w h.ready.right
 
-  pub step_asks : Ready w n m × (((1 ≤ a) × (a ≤ n)) × (((1 ≤ b) × (b ≤ n)) × (count_small x ≡ true)))
-  step_asks =
-      let k = neighbours_ends (run_in w).waits f.sound a b h.near in
-      (h.ready, ((k.0, h.ends.0), ((k.2, h.ends.1), h.small)))
+  pub step_asks : IsProcess s.n a × IsProcess s.n b
+  step_asks = let k = neighbours_ends (run_in w).waits f.sound a b h.near in ((k.0, h.ends.0), (k.2, h.ends.1))
 
-  by_22 : ((rest : List Message) → Among x rest ((run_in w).link a b) → accepts (run_in w) a b x rest ≡ false) → PreparedFor w a b x (Prepared.Refused 22)
+  by_22 : ((rest : List Message) → Among x rest ((run_in w).link a b) → accepts (run_in w) a b x rest ≡ false) → PreparedFor w a b x (Err (numbered 22))
   by_22 k rest l = sym (prepared_refused (run_in w) a b x rest (k rest l))
 
-  pub process_asks : Ready w n m × ((1 ≤ b) × (b ≤ n))
-  process_asks = (h.ready, step_asks.1.1.0)
+  pub step_refused : {t : Result Turn Refusal} {e : Refusal} → t ≡ stepped_at (run_in w) a b x → t ≡ Err e → PreparedFor w a b x (Err e)
+  step_refused {e = e} t o =
+      let is : e ≡ numbered 22 = (stepped_at_refused (run_in w) f.formed f.sound a b h.near x h.small (sym t ∙ o)).1 in
+      rw is (by_22 (λ rest l. accepts_refused (run_in w) f.formed f.sound a b h.near x h.small rest l (sym t ∙ o)))
 
-  pub step_refused : {s : Stepped} {k : ℕ} → s ≡ stepped_at (run_in w) a b x → s ≡ Stepped.Refused k → PreparedFor w a b x (Prepared.Refused 22)
-  step_refused {k = k} t o = by_22 (λ rest l. accepts_refused (run_in w) f.formed f.sound a b h.near x h.small rest l k (sym t ∙ o))
-
-  pub count_full : {c : ℕ} → c ≡ (run_in w).count → most_deliveries ≤ c → PreparedFor w a b x (Prepared.Refused 22)
+  pub count_full : {c : ℕ} → c ≡ (run_in w).count → most_deliveries ≤ c → PreparedFor w a b x (Err (numbered 22))
   count_full k u = by_22 (λ rest l. accepts_full (run_in w) f.formed f.sound a b h.near x h.small rest l (omega arith))
 
-  module _ {s : Stepped} {q : Process} {p : Probes} {z : Reply} (t : s ≡ stepped_at (run_in w) a b x) (o : s ≡ Taken q p z) where
+  module _ {t : Result Turn Refusal} {u : Turn} (is : t ≡ stepped_at (run_in w) a b x) (o : t ≡ Ok u) where
     -- the room that code counts, over the N that it is given
-    room_is : {v : Bool} → v ≡ all_to n (room_to (run_in w) a b p z) → roomy (run_in w) a b p z ≡ v
-    room_is e = ap (λ (k : ℕ). all_to k (room_to (run_in w) a b p z)) (ready_n h.ready) ∙ sym e
+    room_is : {v : Bool} → v ≡ all_to s.n (room_to (run_in w) a b u.sent.probes u.sent.reply) → roomy (run_in w) a b u.sent.probes u.sent.reply ≡ v
+    room_is e = ap (λ (k : ℕ). all_to k (room_to (run_in w) a b u.sent.probes u.sent.reply)) (ready_n h.ready) ∙ sym e
 
-    pub room_asks : {row : List ℕ} → Row (fields_in w) b row → Ready w n m
-        × (Row (fields_in w) b row
-        × (((1 ≤ b) × (b ≤ n)) × ((i : ℕ) (c : TwoCounts) → z ≡ To i c → (1 ≤ i) × (i ≤ n) × (neighbours (waits_of (fields_in w)) b i ≡ true))))
-    room_asks g = (h.ready, (g, (process_asks.1, λ i c e. within i c e)))
-      where
-        within : (i : ℕ) (c : TwoCounts) → z ≡ To i c → (1 ≤ i) × (i ≤ n) × (neighbours (waits_of (fields_in w)) b i ≡ true)
-        within i c e =
-            let j = taken_replied (run_in w) f.formed f.sound a b h.near x h.small q p z (sym t ∙ o) i c e in
-            let k = neighbours_ends (run_in w).waits f.sound b i j in
-            (k.2, omega (arith, k.3, ready_n h.ready), subst (λ (v : Waits). neighbours v b i ≡ true) f.held.waits j)
+    pub room_asks : (y : Reply) → u.sent.reply ≡ Some y → (1 ≤ y.to) × (y.to ≤ s.n) × (neighbours (waits_of (fields_in w)) b y.to ≡ true)
+    room_asks y e =
+        let j = taken_replied (run_in w) f.formed f.sound a b h.near x h.small u (sym is ∙ o) y e in
+        let k = neighbours_ends (run_in w).waits f.sound b y.to j in
+        (k.2, omega (arith, k.3, ready_n h.ready), subst (λ (v : Waits). neighbours v b y.to ≡ true) f.held.waits j)
 
-    pub links_full : (v : Bool) → v ≡ all_to n (room_to (run_in w) a b p z) → not v ≡ true → PreparedFor w a b x (Prepared.Refused 22)
+    pub links_full : (v : Bool) → v ≡ all_to s.n (room_to (run_in w) a b u.sent.probes u.sent.reply) → not v ≡ true → PreparedFor w a b x (Err (numbered 22))
     links_full v e k =
-        by_22 (λ rest l. accepts_crowded (run_in w) f.formed f.sound a b h.near x h.small rest l q p z (sym t ∙ o) (value_not (sym (room_is e)) k))
+        by_22 (λ rest l. accepts_crowded (run_in w) f.formed f.sound a b h.near x h.small rest l u (sym is ∙ o) (value_not (sym (room_is e)) k))
 
-    pub prepared : {c : ℕ} → c ≡ (run_in w).count → c < most_deliveries → (r : Bool) → r ≡ all_to n (room_to (run_in w) a b p z) → not r ≡ false
-        → PreparedFor w a b x (Go x q p z)
-    prepared c u r e y rest l =
-        let free : roomy (run_in w) a b p z ≡ true = value_yes (sym (room_is e)) y in
-        sym (prepared_go (run_in w) f.formed f.sound a b h.near x h.small q p z (sym t ∙ o) rest l (omega arith) free)
+    pub prepared : {c : ℕ} → c ≡ (run_in w).count → c < most_deliveries → (r : Bool) → r ≡ all_to s.n (room_to (run_in w) a b u.sent.probes u.sent.reply) → not r ≡ false
+        → PreparedFor w a b x (Ok (record { message = x; turn = u }))
+    prepared c few r e y rest l =
+        let free : roomy (run_in w) a b u.sent.probes u.sent.reply ≡ true = value_yes (sym (room_is e)) y in
+        sym (prepared_go (run_in w) f.formed f.sound a b h.near x h.small u (sym is ∙ o) rest l (omega arith) free)
 
--- ---- the delivery itself
+-- ---- the area that a delivery leaves
 
--- what is told, and the area that a delivery leaves
-abbrev pub Outcome : List ℤ → ℕ → ℕ → ℕ → Told → List ℤ → Type 0
-Outcome w a b i d v = (d ≡ told_at (run_in w) a b i) × (v ≡ keeping w (deliver_at (run_in w) a b i).run)
+module _ {w : List ℤ} {s : Sizes} (y : Ready w s) (a b i : ℕ) where
+  module _ {d : Result Prepared Refusal} (t : Answer w a b i d) where
+    -- a refusal leaves the area as it was
+    pub refusal_kept : {e : Refusal} → d ≡ Err e → w ≡ keeping w (deliver_at (run_in w) a b i).run
+    refusal_kept o =
+        let e = refused_of (run_in w) a b i ((run_in w).link a b) (sym t ∙ o) in
+        sym (stored_same w y.right) ∙ sym (ap (λ (p : Picked). keeping w p.run) e)
 
-module _ {w : List ℤ} {n m : ℕ} (y : Ready w n m) where
-  -- a refusal leaves the area as it was
-  pub refusal : (a b i : ℕ) {d : Prepared} → Answer w a b i d → {k : ℕ} → d ≡ Prepared.Refused k → Outcome w a b i (Told.Refused k) w
-  refusal a b i t {k} o =
-      let e = refused_of (run_in w) a b i k ((run_in w).link a b) (sym t ∙ o) in
-      (ap told_of (sym o ∙ t), sym (stored_same w y.right) ∙ sym (ap (λ (p : Picked). keeping w p.run) e))
+    module _ (j : neighbours (run_in w).waits a b ≡ true) {p : Prepared} (o : d ≡ Ok p) where
+      pub carry_asks : Carried (run_in w) a b i p.turn.process p.turn.sent.probes p.turn.sent.reply
+      carry_asks = (going_of y a b i j (sym t ∙ o)).carried
 
-  module _ (a b i : ℕ) (j : neighbours (run_in w).waits a b ≡ true) {d : Prepared} (t : Answer w a b i d) {g : Message} {x : Process} {p : Probes} {z : Reply}
-      (o : d ≡ Go g x p z) where
-    pub carry_asks : Carried (run_in w) a b i x p z
-    carry_asks = (going_of y a b i j (sym t ∙ o)).carried
-
-    pub delivery : {l : List ℤ} → l ≡ keeping w (carried_out (run_in w) a b i x p z) → Outcome w a b i (Told.Delivered g p z) l
-    delivery e = let h = going_of y a b i j (sym t ∙ o) in (ap told_of (sym o ∙ t), e ∙ ap (keeping w) (sym h.run))
+      pub delivery_leaves : {l : List ℤ} → l ≡ keeping w (carried_out (run_in w) a b i p.turn.process p.turn.sent.probes p.turn.sent.reply)
+          → l ≡ keeping w (deliver_at (run_in w) a b i).run
+      delivery_leaves e = e ∙ ap (keeping w) (sym (going_of y a b i j (sym t ∙ o)).run)
 
   -- the message alone
-  module _ (a b i : ℕ) {d : Told} (t : d ≡ told_at (run_in w) a b i) where
-    pub told_number : {k : ℕ} → d ≡ Told.Refused k → Delivery.Refused k ≡ (deliver_at (run_in w) a b i).answer
-    told_number {k} o = sym (ap (λ (p : Picked). p.answer) (told_refused (run_in w) a b i k (sym t ∙ o)))
+  module _ {d : Result Delivered Refusal} (t : d ≡ told_at (run_in w) a b i) where
+    pub told_number : {e : Refusal} → d ≡ Err e → Err e ≡ (deliver_at (run_in w) a b i).answer
+    told_number o = sym (ap (λ (p : Picked). p.answer) (told_refused (run_in w) a b i (sym t ∙ o)))
 
-    pub told_message : neighbours (run_in w).waits a b ≡ true → {g : Message} {p : Probes} {z : Reply} → d ≡ Told.Delivered g p z
-        → Delivered g ≡ (deliver_at (run_in w) a b i).answer
+    pub told_message : neighbours (run_in w).waits a b ≡ true → {x : Delivered} → d ≡ Ok x → Ok x.message ≡ (deliver_at (run_in w) a b i).answer
     told_message j o = sym (told-going y a b i j (sym t ∙ o)).1.answer

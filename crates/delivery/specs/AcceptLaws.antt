@@ -8,7 +8,7 @@
 --   carried_of            == what makes the changes of an accepted delivery possible
 --   deliver_answer, deliver_run   == what a delivery answers, and the run that it leaves
 -- Assumes nothing.
-use Rattle.std.specs.Prelude.{ℕ, ◌+◌, ◌≤◌, ◌<◌, Bool, true, not, ◌&&◌, List, refl, eqb, leb, length}
+use Rattle.std.specs.Prelude.{ℕ, ◌+◌, ◌≤◌, ◌<◌, Bool, true, not, ◌&&◌, List, refl, eqb, leb, length, Ok, Err, Some}
 use Rattle.std.proofs.Math.Bool.{false}
 use Rattle.std.proofs.Math.Path.{◌≡◌, sym, fun_ext}
 use Rattle.std.proofs.Common.{ap, ◌∙◌, arith}
@@ -24,16 +24,12 @@ use Rattle.tables.specs.Waits.{out_degree, in_degree, neighbours}
 use Rattle.tables.specs.Sound.{Sound}
 use Rattle.tables.specs.WaitsLaws.{neighbours_ends}
 use Rattle.steps.specs.declared.Message.{Message}
-use Rattle.steps.specs.declared.Process.{Process}
-use Rattle.steps.specs.declared.Probes.{Probes}
-use Rattle.steps.specs.declared.TwoCounts.{TwoCounts}
 use Rattle.steps.specs.declared.Reply.{Reply}
-use Rattle.steps.specs.declared.Reply.TheVariants.{To}
-use Rattle.steps.specs.declared.Stepped.{Stepped}
-use Rattle.steps.specs.declared.Stepped.TheVariants.{Taken}
-use Rattle.steps.specs.Step.{in_range, count_small, num_suffices, reply_fits, fitting, start_stepped, answer}
+use Rattle.steps.specs.declared.Turn.{Turn}
+use Rattle.steps.specs.Step.{in_range, count_small, num_suffices, reply_fits, fitting, start_stepped}
 use Rattle.steps.specs.StepLaws.{stepped_inside}
-use Rattle.checks.specs.declared.Delivery.TheVariants.{Delivered}
+use Rattle.refusals.specs.declared.Refusal.{Refusal}
+use Rattle.refusals.specs.Numbers.{numbered, answered}
 use Rattle.machine.specs.Calls.{cut, at_place}
 use Rattle.machine.specs.Among.{Among}
 use Rattle.machine.proofs.PlaceLaws.{cut_placed}
@@ -53,49 +49,44 @@ use Rattle.delivery.specs.DeliveryFacts.{Taking}
 
 module _ (r : Run) (h : well_formed r ≡ true) (sd : Sound r.waits) (a b : ℕ) (j : neighbours r.waits a b ≡ true) (m : Message)
     (c : count_small m ≡ true) where
-  stepped_at_is : stepped_at r a b m ≡ answer (choose (not (fitting m (r.process b) (turn_at r a b m))) 22 0) (turn_at r a b m)
+  stepped_at_is : stepped_at r a b m ≡ answered (choose (not (fitting m (r.process b) (turn_at r a b m))) 22 0) (turn_at r a b m)
   unfolding turn_of start_stepped
   stepped_at_is = at (tested (eqb b r.start))
     where
-      at : Tested (eqb b r.start) → stepped_at r a b m ≡ answer (choose (not (fitting m (r.process b) (turn_at r a b m))) 22 0) (turn_at r a b m)
+      at : Tested (eqb b r.start) → stepped_at r a b m ≡ answered (choose (not (fitting m (r.process b) (turn_at r a b m))) 22 0) (turn_at r a b m)
       at (passed e) = rw e
       at (failed e) =
           let k = neighbours_ends r.waits sd a b j in
           rw e (stepped_inside m (out_degree r.waits b) (in_degree r.waits b) a (r.process b) (lent r h sd b (k.2, k.3) m c)
           (λ q. omega (arith, k.0)) (omega (arith, k.1, sd.few)))
 
-  pub stepped_at_taken : (x : Process) (y : Probes) (z : Reply) → stepped_at r a b m ≡ Taken x y z → Taking r a b m x y z
-  unfolding answer
-  stepped_at_taken x y z e = at (tested (fitting m (r.process b) (turn_at r a b m)))
+  pub stepped_at_taken : (t : Turn) → stepped_at r a b m ≡ Ok t → Taking r a b m t
+  stepped_at_taken t e = at (tested (fitting m (r.process b) (turn_at r a b m)))
     where
-      at : Tested (fitting m (r.process b) (turn_at r a b m)) → Taking r a b m x y z
-      at (passed f) =
-          let k : Taken (turn_at r a b m).process (turn_at r a b m).probes (turn_at r a b m).reply ≡ Taken x y z = rw f at (sym stepped_at_is ∙ e) in
-          record { fits = f; process = cc; probes = cc; reply = cc }
+      at : Tested (fitting m (r.process b) (turn_at r a b m)) → Taking r a b m t
+      at (passed f) = let k : Ok (turn_at r a b m) ≡ Ok t = rw f at (sym stepped_at_is ∙ e) in record { fits = f; is = cc }
       at (failed f) =
-          let k : Stepped.Refused 22 ≡ Taken x y z = rw f at (sym stepped_at_is ∙ e) in
+          let k : Err (numbered 22) ≡ Ok t = rw f at (sym stepped_at_is ∙ e) in
           let n : ◌≡◌ {A = ℕ} 0 1 = cc in
           absurd (omega arith)
 
-  stepped_at_refused : (n : ℕ) → stepped_at r a b m ≡ Stepped.Refused n → fitting m (r.process b) (turn_at r a b m) ≡ false
-  unfolding answer
-  stepped_at_refused n e = at (tested (fitting m (r.process b) (turn_at r a b m)))
+  pub stepped_at_refused : {e : Refusal} → stepped_at r a b m ≡ Err e → (fitting m (r.process b) (turn_at r a b m) ≡ false) × (e ≡ numbered 22)
+  stepped_at_refused {e} q = at (tested (fitting m (r.process b) (turn_at r a b m)))
     where
-      at : Tested (fitting m (r.process b) (turn_at r a b m)) → fitting m (r.process b) (turn_at r a b m) ≡ false
+      at : Tested (fitting m (r.process b) (turn_at r a b m)) → (fitting m (r.process b) (turn_at r a b m) ≡ false) × (e ≡ numbered 22)
       at (passed f) =
-          let k : Taken (turn_at r a b m).process (turn_at r a b m).probes (turn_at r a b m).reply ≡ Stepped.Refused n = rw f at (sym stepped_at_is ∙ e) in
-          let o : ◌≡◌ {A = ℕ} 0 1 = cc in
+          let k : Ok (turn_at r a b m) ≡ Err e = rw f at (sym stepped_at_is ∙ q) in
+          let n : ◌≡◌ {A = ℕ} 0 1 = cc in
           absurd (omega arith)
-      at (failed f) = f
+      at (failed f) = let k : Err (numbered 22) ≡ Err e = rw f at (sym stepped_at_is ∙ q) in (f, cc)
 
   -- whom the step acknowledges is a neighbour of the receiver
-  pub taken_replied :
-      (x : Process) (y : Probes) (z : Reply) → stepped_at r a b m ≡ Taken x y z → (p : ℕ) (c : TwoCounts) → z ≡ To p c → neighbours r.waits b p ≡ true
+  pub taken_replied : (t : Turn) → stepped_at r a b m ≡ Ok t → (y : Reply) → t.sent.reply ≡ Some y → neighbours r.waits b y.to ≡ true
   unfolding fitting
-  taken_replied x y z e p c f =
-      let t : Taking r a b m x y z = stepped_at_taken x y z e in
-      let k = and_three (num_suffices m (r.process b)) (in_range (turn_at r a b m).process) (reply_fits (turn_at r a b m).reply) t.fits in
-      replied ((well_formed_P knot r).0 h) sd a b j m k.2 p c (sym t.reply ∙ f)
+  taken_replied t e y f =
+      let taking : Taking r a b m t = stepped_at_taken t e in
+      let k = and_three (num_suffices m (r.process b)) (in_range (turn_at r a b m).process) (reply_fits (turn_at r a b m).sent.reply) taking.fits in
+      replied ((well_formed_P knot r).0 h) sd a b j m k.2 y.to y.counts (ap (λ (u : Turn). u.sent.reply) (sym taking.is) ∙ f)
 
 -- ---- a delivery
 
@@ -128,66 +119,63 @@ module _ (r : Run) (h : well_formed r ≡ true) (sd : Sound r.waits) (a b : ℕ)
   held = all_to r.waits.n (λ q. leb (length ((after r a b m rest).link b q)) 4)
 
   -- the room that a promise asks for is the room that is counted
-  roomy_is : held ≡ roomy r a b (turn_at r a b m).probes (turn_at r a b m).reply
+  roomy_is : held ≡ roomy r a b (turn_at r a b m).sent.probes (turn_at r a b m).sent.reply
   roomy_is = ap (all_to r.waits.n) (fun_ext (λ q. ap (λ (k : ℕ). leb k 4) (load_after_is r a b m rest l q)))
 
   -- the step of an accepted delivery is taken, and the count and the links have room
   pub accepts_taken : accepts r a b m rest ≡ true
-      → (stepped_at r a b m ≡ Taken (turn_at r a b m).process (turn_at r a b m).probes (turn_at r a b m).reply) × (r.count < most_deliveries) × (roomy r a b
-      (turn_at r a b m).probes (turn_at r a b m).reply ≡ true)
-  unfolding Machines.accepts answer
+      → (stepped_at r a b m ≡ Ok (turn_at r a b m)) × (r.count < most_deliveries) × (roomy r a b (turn_at r a b m).sent.probes (turn_at r a b m).sent.reply ≡ true)
+  unfolding Machines.accepts
   accepts_taken e =
       let k = and_three counted fits held e in
       (rw (stepped_at_is r h sd a b j m small, k.1), omega (arith, leb-true (r.count + 1) most_deliveries k.0), sym roomy_is ∙ k.2)
 
-  pub accepts_refused : (n : ℕ) → stepped_at r a b m ≡ Stepped.Refused n → accepts r a b m rest ≡ false
+  pub accepts_refused : {e : Refusal} → stepped_at r a b m ≡ Err e → accepts r a b m rest ≡ false
   unfolding Machines.accepts
-  accepts_refused n e = not_second counted fits held (stepped_at_refused r h sd a b j m small n e)
+  accepts_refused e = not_second counted fits held (stepped_at_refused r h sd a b j m small e).0
 
   pub accepts_full : most_deliveries ≤ r.count → accepts r a b m rest ≡ false
   unfolding Machines.accepts
   accepts_full u = not_first counted fits held (lt-leb (r.count + 1) most_deliveries (omega arith))
 
-  module _ (x : Process) (y : Probes) (z : Reply) (e : stepped_at r a b m ≡ Taken x y z) where
-    taking : Taking r a b m x y z
-    taking = stepped_at_taken r h sd a b j m small x y z e
+  module _ (t : Turn) (e : stepped_at r a b m ≡ Ok t) where
+    taking : Taking r a b m t
+    taking = stepped_at_taken r h sd a b j m small t e
 
-    roomy_taken : held ≡ roomy r a b y z
-    roomy_taken = rw (taking.probes, taking.reply) roomy_is
+    roomy_taken : held ≡ roomy r a b t.sent.probes t.sent.reply
+    roomy_taken = rw taking.is roomy_is
 
     -- the delivery of a step that is taken meets no 22 exactly if the count and the links have room
-    accepts_is : accepts r a b m rest ≡ (leb (r.count + 1) most_deliveries && roomy r a b y z)
+    accepts_is : accepts r a b m rest ≡ (leb (r.count + 1) most_deliveries && roomy r a b t.sent.probes t.sent.reply)
     unfolding Machines.accepts
-    accepts_is = rw (taking.fits, roomy_taken) (and_true counted (roomy r a b y z))
+    accepts_is = rw (taking.fits, roomy_taken) (and_true counted (roomy r a b t.sent.probes t.sent.reply))
 
-    pub accepts_crowded : roomy r a b y z ≡ false → accepts r a b m rest ≡ false
-    accepts_crowded f = accepts_is ∙ not_right counted (roomy r a b y z) f
+    pub accepts_crowded : roomy r a b t.sent.probes t.sent.reply ≡ false → accepts r a b m rest ≡ false
+    accepts_crowded f = accepts_is ∙ not_right counted (roomy r a b t.sent.probes t.sent.reply) f
 
-    module _ (few : r.count < most_deliveries) (free : roomy r a b y z ≡ true) where
+    module _ (few : r.count < most_deliveries) (free : roomy r a b t.sent.probes t.sent.reply ≡ true) where
       pub accepts_of : accepts r a b m rest ≡ true
-      accepts_of = accepts_is ∙ and_both counted (roomy r a b y z) (le-leb (r.count + 1) most_deliveries (omega arith)) free
+      accepts_of = accepts_is ∙ and_both counted (roomy r a b t.sent.probes t.sent.reply) (le-leb (r.count + 1) most_deliveries (omega arith)) free
 
       -- the same with the place of the message
       module _ (i : ℕ) (p : at_place i (r.link a b) ≡ cut m rest) where
-        pub carried_of : Carried r a b i x y z
+        pub carried_of : Carried r a b i t.process t.sent.probes t.sent.reply
         carried_of =
             record {
               joined = j;
               placed = (cut_placed i (r.link a b) p).1;
-              range = rw taking.process (new_range r a b m rest accepts_of);
-              father = rw taking.process (new_father ((well_formed_P knot r).0 h) sd a b j m);
-              replies = rw taking.reply (new_reply r a b m rest accepts_of);
-              replied = taken_replied r h sd a b j m small x y z e;
+              range = rw taking.is (new_range r a b m rest accepts_of);
+              father = rw taking.is (new_father ((well_formed_P knot r).0 h) sd a b j m);
+              replies = rw taking.is (new_reply r a b m rest accepts_of);
+              replied = taken_replied r h sd a b j m small t e;
               count = omega arith;
-              room = λ q u v. leb-true (load_after r a b y z q) 4 (all_to_at r.waits.n (λ q. leb (load_after r a b y z q) 4) free q u v);
+              room = λ q u v. leb-true (load_after r a b t.sent.probes t.sent.reply q) 4 (all_to_at r.waits.n (λ q. leb (load_after r a b t.sent.probes t.sent.reply q) 4) free q u v);
             }
 
-        pub deliver_answer : (deliver_at r a b i).answer ≡ Delivered m
+        pub deliver_answer : (deliver_at r a b i).answer ≡ Ok m
         unfolding MachineCalls.delivered
         deliver_answer = rw (deliver_cut knot r a b i (r.link a b) p, accepts_of)
 
-        pub deliver_run : (deliver_at r a b i).run ≡ carried_out r a b i x y z
+        pub deliver_run : (deliver_at r a b i).run ≡ carried_out r a b i t.process t.sent.probes t.sent.reply
         unfolding MachineCalls.delivered
-        deliver_run =
-            rw (deliver_cut knot r a b i (r.link a b) p, accepts_of, taking.process, taking.probes, taking.reply)
-            (sym (carried_out_is r sd a b i m rest p))
+        deliver_run = rw (deliver_cut knot r a b i (r.link a b) p, accepts_of, taking.is) (sym (carried_out_is r sd a b i m rest p))

@@ -6,8 +6,10 @@
 --   prepared_of r a b k ms == the same of the message at place k: 24, then 31, then 22
 --   told_of p, told_at r a b k   == what is told of a prepared delivery once it is carried out: its message and what was sent, or its refusal
 -- Assumes nothing.
-use Rattle.std.specs.Prelude.{ℕ, List, [], ◌∷◌, ◌≡◌, ℤ}
+use Rattle.std.specs.Prelude.{ℕ, List, [], ◌∷◌, ◌≡◌, ℤ, Result, Ok, Err}
 use Rattle.base.specs.Choice.{choose}
+use Rattle.refusals.specs.declared.Refusal.{Refusal}
+use Rattle.refusals.specs.Numbers.{numbered}
 use Rattle.steps.specs.declared.Message.{Message}
 use Rattle.checks.specs.Run.{Run, turn_at, accepts}
 use Rattle.checks.specs.Calls.{Picked, deliver}
@@ -15,8 +17,7 @@ use Rattle.machine.specs.Calls.{Cut, nowhere, cut, at_place}
 use Rattle.machine.specs.Among.{Among}
 use Rattle.areas.specs.Area.{run_in}
 use Rattle.delivery.specs.declared.delivering.Prepared.{Prepared}
-use Rattle.delivery.specs.declared.delivering.Told.{Told}
-use Rattle.delivery.specs.declared.delivering.Prepared.TheVariants.{Go}
+use Rattle.delivery.specs.declared.delivering.Delivered.{Delivered}
 
 -- the delivery of the message at place k of the link from a to b
 abbrev pub deliver_at : Run → ℕ → ℕ → ℕ → Picked
@@ -25,30 +26,27 @@ deliver_at r a b k = deliver r a b k (r.link a b)
 -- ---- before anything is changed
 
 -- 22, or what the receiver's step leaves and sends
-unfoldable pub prepared_with : Run → ℕ → ℕ → Message → List Message → Prepared
-prepared_with r a b m rest =
-    choose (accepts r a b m rest)
-    (Go m (turn_at r a b m).process (turn_at r a b m).probes (turn_at r a b m).reply)
-    (Prepared.Refused 22)
+unfoldable pub prepared_with : Run → ℕ → ℕ → Message → List Message → Result Prepared Refusal
+prepared_with r a b m rest = choose (accepts r a b m rest) (Ok (record { message = m; turn = turn_at r a b m })) (Err (numbered 22))
 
 -- d is the prepared delivery of m, wherever on the link from a to b it stands
-abbrev pub PreparedFor : List ℤ → ℕ → ℕ → Message → Prepared → Type 0
+abbrev pub PreparedFor : List ℤ → ℕ → ℕ → Message → Result Prepared Refusal → Type 0
 PreparedFor w a b m d = (rest : List Message) → Among m rest ((run_in w).link a b) → d ≡ prepared_with (run_in w) a b m rest
 
 -- 31, "a place that is 0 or beyond the messages waiting" (02, N5), then 22
-abbrev pub prepared_found : Run → ℕ → ℕ → Cut Message → Prepared
-prepared_found r a b nowhere = Prepared.Refused 31
+abbrev pub prepared_found : Run → ℕ → ℕ → Cut Message → Result Prepared Refusal
+prepared_found r a b nowhere = Err (numbered 31)
 prepared_found r a b (cut m rest) = prepared_with r a b m rest
 
 -- 24, "nothing waits on that link", then 31, 22
-unfoldable pub prepared_of : Run → ℕ → ℕ → ℕ → List Message → Prepared
-prepared_of r a b k [] = Prepared.Refused 24
+unfoldable pub prepared_of : Run → ℕ → ℕ → ℕ → List Message → Result Prepared Refusal
+prepared_of r a b k [] = Err (numbered 24)
 prepared_of r a b k (m ∷ ms) = prepared_found r a b (at_place k (m ∷ ms))
 
 -- what is told of a prepared delivery once it is carried out
-abbrev pub told_of : Prepared → Told
-told_of (Go m x y z) = Told.Delivered m y z
-told_of (Prepared.Refused n) = Told.Refused n
+abbrev pub told_of : Result Prepared Refusal → Result Delivered Refusal
+told_of (Ok p) = Ok (record { message = p.message; sent = p.turn.sent })
+told_of (Err e) = Err e
 
-abbrev pub told_at : Run → ℕ → ℕ → ℕ → Told
+abbrev pub told_at : Run → ℕ → ℕ → ℕ → Result Delivered Refusal
 told_at r a b k = told_of (prepared_of r a b k (r.link a b))

@@ -1,51 +1,36 @@
 -- The lines of the picks and of the program's own deliveries, one by one, in a tested area.
---   pick_refused, pick_delivered   == the line of a pick, by what it answered
 --   picked                   == the run in the area that a pick leaves
 --   picks_next, picks_none   == the line of pick j, and those from the area that it leaves; none is left
---   own_delivered, own_refused   == the line of a delivery of the program's own, by what it answered
 --   ran_out                  == the run in the area once running on has ended
 --   own_full                 == no line once as many deliveries are made as a run counts at most
 --   own_next                 == the line of the next delivery, and what follows it
 --   follows_made, follows_none   == by whether the delivery was made: the lines from the area that it leaves on, or none
 -- Assumes nothing.
-use Prim.Native.Nat.{ℕ, suc, ◌+◌, ◌-◌, ◌≤◌, ◌<◌}
-use mathlib.Core.Bool.{true, false}
-use mathlib.Core.List.{List, [], ◌++◌}
-use mathlib.Core.Path.{◌≡◌, refl, sym, ap, ◌∙◌}
-use native.Mathlib.Omega.{arith}
-use lib.IntN.{ℤ}
+use Rattle.std.proofs.Common.{ℕ, suc, ◌+◌, ◌-◌, ◌≤◌, ◌<◌, true, false, List, [], ◌++◌, ◌≡◌, refl, sym, ap, ◌∙◌, arith, ℤ, Result, Ok, Err}
 use Rattle.machine.specs.Calls.{Selection, nobody, pair, lowest, fixed_order, run_from}
 use Rattle.machine.specs.Calls as Machines
 use Rattle.steps.specs.declared.Message.{Message}
-use Rattle.checks.specs.declared.Delivery.{Delivery}
+use Rattle.refusals.specs.declared.Refusal.{Refusal}
+use Rattle.tables.specs.declared.Sizes.{Sizes}
 use Rattle.checks.specs.Run.{Run, knot, over, well_formed}
-use Rattle.checks.specs.Calls.{pick, deliver_on, delivery_number, delivery_made}
+use Rattle.checks.specs.Calls.{pick, deliver_on, delivery_made}
 use Rattle.areas.specs.Area.{fields_in, run_in, keeping}
 use Rattle.lenses.specs.Ready.{Ready}
 use Rattle.lenses.specs.ReadyLaws.{right_storable, keeping_run}
 use Rattle.lenses.proofs.Holding.{holding_first, holding_run}
 use Rattle.delivery.specs.StorableLaws.{storable_pick, storable_run_on}
-use Rattle.choosing.specs.declared.ChosenDelivery.{ChosenDelivery}
 use Rattle.choosing.specs.OrderLaws.{lowest_names}
 use Rattle.choosing.specs.Answers.{chosen_answer, next_of}
 use Rattle.choosing.proofs.OnLink.{holding-next-of}
 use Rattle.area_calls.specs.AreaCalls.{pick_answer, pick_area}
 use Rattle.inputs.specs.declared.Pick.{Pick}
 use Rattle.inputs.specs.Input.{pick_from, pick_to, pick_in}
-use Rattle.lines.specs.Text.{delivery_line, refused_pick_line, refused_line}
 use Rattle.program_text.specs.OwnLaws.{own_turn}
 use Rattle.program_text.specs.Program.{end_run, pick_line, picks_text, own_line, unless_refused, next_chosen, own_text}
 
 -- ---- the picks
 
-module _ (a b : ℕ) {x d : Delivery} (e : x ≡ d) where
-  pub pick_refused : {k i : ℕ} → x ≡ Delivery.Refused k → i ≡ delivery_number x → pick_line a b d ≡ refused_pick_line a b i
-  pick_refused f g = rw (g, ← e, f)
-
-  pub pick_delivered : {z : Message} → x ≡ Delivery.Delivered z → pick_line a b d ≡ delivery_line false a b z
-  pick_delivered f = rw (← e, f)
-
-module _ {w : List ℤ} {n m : ℕ} (y : Ready w n m) where
+module _ {w : List ℤ} {s : Sizes} (y : Ready w s) where
   -- the run that a pick leaves
   pub picked : (a b : ℕ) → run_in (pick_area w a b 1) ≡ (pick (run_in w) a b 1).run
   unfolding pick_area
@@ -62,7 +47,7 @@ module _ (bs : List ℕ) (picks j : ℕ) where
   unfolding picks_text
   picks_none r h = let z : picks - j ≡ 0 = omega arith in ap (λ (k : ℕ). picks_text bs j k r) z
 
-  module _ {w : List ℤ} {n m : ℕ} (y : Ready w n m) where
+  module _ {w : List ℤ} {s : Sizes} (y : Ready w s) where
     pub picks_next : j < picks → (p : Pick) → p ≡ pick_in bs j → {v : List ℤ} → v ≡ pick_area w p.from p.to 1
         → picks_text bs j (picks - j) (run_in w) ≡ pick_line p.from p.to (pick_answer w p.from p.to 1) ++ picks_text bs (j + 1) (picks - (j + 1)) (run_in v)
     unfolding picks_text pick_in
@@ -74,19 +59,12 @@ module _ (bs : List ℕ) (picks j : ℕ) where
 
 -- ---- the program's own deliveries
 
-module _ {x d : ChosenDelivery} (e : x ≡ d) where
-  pub own_delivered : {a b : ℕ} {z : Message} → x ≡ ChosenDelivery.Delivered a b z → own_line d ≡ delivery_line true a b z
-  own_delivered f = rw (← e, f)
-
-  pub own_refused : {k : ℕ} → x ≡ ChosenDelivery.Refused k → own_line d ≡ refused_line k
-  own_refused f = rw (← e, f)
-
 -- the run in the area once running on has ended
 ran_is : (r : Run) → well_formed r ≡ true → (run_from knot fixed_order knot.most 0 0 r).run ≡ end_run r
 unfolding Machines.run_on
 ran_is r e = rw (end_run, e)
 
-pub ran_out : {w : List ℤ} {n m : ℕ} (y : Ready w n m) {v : List ℤ}
+pub ran_out : {w : List ℤ} {s : Sizes} (y : Ready w s) {v : List ℤ}
     → v ≡ keeping w (run_from knot fixed_order knot.most 0 0 (run_in w)).run → run_in v ≡ end_run (run_in w)
 ran_out {w} y e =
     let f = right_storable w y.right in
@@ -104,17 +82,17 @@ module _ (r : Run) (t : List ℕ) where
   made_on nobody e = absurd (omega arith)
   made_on (pair a b) e = at (deliver_on r (pair a b)).answer e
     where
-      at : (x : Delivery) → delivery_made x ≡ 1 → unless_refused (chosen_answer (pair a b) x) t ≡ t
-      at (Delivery.Delivered m) e = refl
-      at (Delivery.Refused n) e = absurd (omega arith)
+      at : (x : Result Message Refusal) → delivery_made x ≡ 1 → unless_refused (chosen_answer (pair a b) x) t ≡ t
+      at (Ok m) e = refl
+      at (Err n) e = absurd (omega arith)
 
-  none_on : (c : Selection) (x : Delivery) → delivery_made x ≡ 0 → unless_refused (chosen_answer c x) t ≡ []
-  none_on nobody (Delivery.Delivered m) e = absurd (omega arith)
-  none_on nobody (Delivery.Refused n) e = refl
-  none_on (pair a b) (Delivery.Delivered m) e = absurd (omega arith)
-  none_on (pair a b) (Delivery.Refused n) e = refl
+  none_on : (c : Selection) (x : Result Message Refusal) → delivery_made x ≡ 0 → unless_refused (chosen_answer c x) t ≡ []
+  none_on nobody (Ok m) e = absurd (omega arith)
+  none_on nobody (Err n) e = refl
+  none_on (pair a b) (Ok m) e = absurd (omega arith)
+  none_on (pair a b) (Err n) e = refl
 
-module _ {w : List ℤ} {n m : ℕ} (y : Ready w n m) (o : over (run_in w) ≡ false) (most made : ℕ) (h : made < most) where
+module _ {w : List ℤ} {s : Sizes} (y : Ready w s) (o : over (run_in w) ≡ false) (most made : ℕ) (h : made < most) where
   -- the lines from the area on that the delivery leaves
   module _ {v : List ℤ} (e : v ≡ keeping w (next_of (run_in w)).run) where
     next_run : run_in v ≡ (next_of (run_in w)).run

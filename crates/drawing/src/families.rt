@@ -1,178 +1,166 @@
 // The families of cases: which graphs are tried, from which starts, and in how many runs.
+use crate::graphs::{Layout, Shape};
+use crate::waits::Waits;
 use crate::{graphs, numbers};
 
-pub const FAMILIES: usize = 9;
-// Families 0, 1 and 2: every graph of 1, 2 and 3 processes, from every start. From this one on graphs are drawn.
-const DRAWN: usize = 3;
-// The last family: the shapes.
-const SHAPED: usize = 8;
+// Which graphs a family has.
+#[derive(Clone, Copy)]
+pub enum Graphs {
+    // Every one of n processes, from every start.
+    Every,
+    // Drawn ones, of 2 to n processes and 1 to m waits,
+    UpTo { m: usize },
+    // or of n processes and m waits.
+    Full { m: usize },
+    // The shapes.
+    Shapes,
+}
 
-// A family: how many cases, the most processes and waits that one may have, whether each has that many, and the runs of each.
+// A family: how many cases, the most processes that one may have, its graphs, and the runs of each.
 #[derive(Clone, Copy)]
 pub struct Family {
     pub cases: usize,
     pub n: usize,
-    pub m: usize,
-    pub full: bool,
+    pub graphs: Graphs,
     pub runs: usize,
 }
 
-// A case: N, the start, the number of entries in the list of its waits, and the last random number.
+pub const FAMILIES: [Family; 9] = [
+    Family {
+        cases: 2,
+        n: 1,
+        graphs: Graphs::Every,
+        runs: 10,
+    },
+    Family {
+        cases: 32,
+        n: 2,
+        graphs: Graphs::Every,
+        runs: 10,
+    },
+    Family {
+        cases: 1536,
+        n: 3,
+        graphs: Graphs::Every,
+        runs: 10,
+    },
+    Family {
+        cases: 2000,
+        n: 8,
+        graphs: Graphs::UpTo { m: 24 },
+        runs: 5,
+    },
+    Family {
+        cases: 800,
+        n: 16,
+        graphs: Graphs::UpTo { m: 48 },
+        runs: 5,
+    },
+    Family {
+        cases: 120,
+        n: 40,
+        graphs: Graphs::UpTo { m: 120 },
+        runs: 5,
+    },
+    Family {
+        cases: 10,
+        n: 128,
+        graphs: Graphs::UpTo { m: 512 },
+        runs: 5,
+    },
+    Family {
+        cases: 3,
+        n: 128,
+        graphs: Graphs::Full { m: 512 },
+        runs: 9,
+    },
+    Family {
+        cases: 11,
+        n: 128,
+        graphs: Graphs::Shapes,
+        runs: 9,
+    },
+];
+
+// A case: N, the start, its waits, and the last random number.
 #[derive(Clone, Copy)]
 pub struct Case {
     pub n: usize,
     pub start: usize,
-    pub entries: usize,
+    pub waits: Waits,
     pub seed: usize,
 }
 
-pub fn family_of(number: usize) -> Family {
-    match number {
-        0 => Family {
-            cases: 2,
-            n: 1,
-            m: 1,
-            full: true,
-            runs: 10,
-        },
-        1 => Family {
-            cases: 32,
-            n: 2,
-            m: 4,
-            full: true,
-            runs: 10,
-        },
-        2 => Family {
-            cases: 1536,
-            n: 3,
-            m: 9,
-            full: true,
-            runs: 10,
-        },
-        3 => Family {
-            cases: 2000,
-            n: 8,
-            m: 24,
-            full: false,
-            runs: 5,
-        },
-        4 => Family {
-            cases: 800,
-            n: 16,
-            m: 48,
-            full: false,
-            runs: 5,
-        },
-        5 => Family {
-            cases: 120,
-            n: 40,
-            m: 120,
-            full: false,
-            runs: 5,
-        },
-        6 => Family {
-            cases: 10,
-            n: 128,
-            m: 512,
-            full: false,
-            runs: 5,
-        },
-        7 => Family {
-            cases: 3,
-            n: 128,
-            m: 512,
-            full: true,
-            runs: 9,
-        },
-        _ => Family {
-            cases: graphs::SHAPES,
-            n: 128,
-            m: 512,
-            full: false,
-            runs: 9,
-        },
-    }
+// A random number of processes or waits, from the least to the most.
+fn between(least: usize, most: usize, x: usize) -> usize {
+    least.saturating_add(numbers::below(x, most.saturating_sub(least).saturating_add(1)))
 }
 
 // Graph k / n of n processes, n at most 3, from one of its starts.
-fn numbered(n: usize, k: usize, seed: usize, list: &mut [u16; 1024]) -> Case {
+fn numbered(n: usize, k: usize, seed: usize) -> Case {
+    let mut waits = Waits::NONE;
     if n == 0 {
         return Case {
             n,
             start: 0,
-            entries: 0,
+            waits,
             seed,
         };
     }
+    graphs::number(n, k / n, &mut waits);
     Case {
         n,
-        start: numbers::more(k % n),
-        entries: graphs::number(n, k / n, list),
+        start: k % n + 1,
+        waits,
         seed,
     }
 }
 
-// A number of processes or waits: the most, or a random one from the least to the most.
-fn size(full: bool, least: usize, most: usize, x: usize) -> usize {
-    if full {
-        return most;
-    }
-    if least > most {
-        return most;
-    }
-    if most > 1000 {
-        return most;
-    }
-    least + numbers::below(x, most - least + 1) % 1024
-}
-
-// One drawn graph from one start.
-fn drawn(f: Family, k: usize, seed: usize, list: &mut [u16; 1024]) -> Case {
-    let x = numbers::next(seed);
-    let y = numbers::next(x);
-    let n = size(f.full, 2, f.n, x);
-    let d = graphs::draw(k % graphs::KINDS, n, size(f.full, 1, f.m, y), y, list);
+// A drawn graph of n processes and m waits from one start, by a random number.
+fn drawn(n: usize, m: usize, k: usize, seed: usize) -> Case {
+    let layout = Layout::ALL[k % Layout::ALL.len()];
+    let mut waits = Waits::NONE;
+    let last = graphs::draw(layout, n, m, seed, &mut waits);
     Case {
         n,
-        start: size(false, 1, n, d.seed),
-        entries: d.entries,
-        seed: numbers::next(d.seed),
+        start: between(1, n, last),
+        waits,
+        seed: numbers::next(last),
     }
 }
 
-fn shape_size(kind: usize) -> usize {
-    match kind {
-        graphs::COMPLETE => 22,
-        graphs::ROW => 40,
+// The number of processes of a shape, and the start: some are run from their first process, which is not like the others, and the rest from
+// a middle one.
+fn shaped(shape: Shape, seed: usize) -> Case {
+    let n = match shape {
+        Shape::Complete => 22,
+        Shape::Row => 40,
         _ => 128,
-    }
-}
-
-// Some shapes are run from their first process, which is not like the others, and the rest from a middle one.
-fn shape_start(kind: usize, n: usize) -> usize {
-    match kind {
-        graphs::FAN | graphs::STAR | graphs::EXTREME | graphs::FUNNEL => 1,
+    };
+    let start = match shape {
+        Shape::Fan | Shape::Star | Shape::Extreme | Shape::Funnel => 1,
         _ => n / 2,
-    }
-}
-
-fn shaped(kind: usize, seed: usize, list: &mut [u16; 1024]) -> Case {
-    let n = shape_size(kind);
+    };
+    let mut waits = Waits::NONE;
+    shape.put(n, &mut waits);
     Case {
         n,
-        start: shape_start(kind, n),
-        entries: graphs::shape(kind, n, list),
+        start,
+        waits,
         seed,
     }
 }
 
-// Case k + 1 of a family, by a random number, in a list that holds 0.
-pub fn case_of(number: usize, f: Family, k: usize, seed: usize, list: &mut [u16; 1024]) -> Case {
-    if number < DRAWN {
-        return numbered(f.n, k, seed, list);
+impl Family {
+    // Case k + 1, by a random number.
+    pub fn case(self, k: usize, seed: usize) -> Case {
+        let x = numbers::next(seed);
+        let y = numbers::next(x);
+        match self.graphs {
+            Graphs::Every => numbered(self.n, k, seed),
+            Graphs::UpTo { m } => drawn(between(2, self.n, x), between(1, m, y), k, y),
+            Graphs::Full { m } => drawn(self.n, m, k, y),
+            Graphs::Shapes => shaped(Shape::ALL[k % Shape::ALL.len()], seed),
+        }
     }
-    if number < SHAPED {
-        return drawn(f, k, seed, list);
-    }
-    shaped(k, seed, list)
 }

@@ -5,3 +5,4 @@
 pub mod families;
 pub mod graphs;
 pub mod numbers;
+pub mod waits;

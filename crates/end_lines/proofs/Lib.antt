@@ -1,2 +1,2 @@
--- What the proofs of the functions share: Rows (the lines of the processes and of the report, one by one).
+-- What the proofs of the functions share: Rows (the lines of the processes, one by one).
 pub mod Rows

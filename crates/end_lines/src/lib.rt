@@ -2,55 +2,40 @@
 // program_text, `Program`). It stands on `reports`, `lenses`, `lines` and below; it refuses nothing, and puts the number of a refused report.
 #![tactic(auto)]
 
-ghost use Rattle.std.specs.Prelude.{◌+◌, ◌≤◌, length};
 ghost use Rattle.areas.specs.Area.{run_in};
 ghost use Rattle.checks.specs.Calls.{report};
-ghost use Rattle.lenses.specs.Ready.{Ready};
-ghost use Rattle.lines.specs.Adding.{Put};
+ghost use Rattle.lines.specs.Adding.{HasRoom, Adds};
 ghost use Rattle.program_text.specs.Program.{processes_text, report_lines, end_text};
 
-use checks::Report;
-use lenses::records;
+use lenses::tested::Tested;
+use lines::Page;
 
 // "process lines rise"
-fn put_processes(out: &mut [u8], at: usize, area: &[i32], n: usize, m: usize) -> usize
-    requires ready { Ready area.now n m }
-    requires area_in_bounds { at + length (processes_text (run_in area.now)) ≤ length out.old }
-    ensures { Put out.old at (processes_text (run_in area.now)) out.new result }
+fn put_processes(page: &mut Page, area: Tested)
+    requires { HasRoom page.old (processes_text (run_in area.words.now)) }
+    ensures { Adds page.old (processes_text (run_in area.entry.words.now)) page.new }
 {
-    let end = n + 1;
-    let mut place = at;
-    for p in 1..end {
-        let process = records::process(area, n, m, p);
-        place = lines::put_process(out, place, p as u32, process);
+    for p in 1..=area.sizes.n {
+        page.put_process(p as u32, area.process(p));
     }
-    place
 }
 
 // The report.
-fn put_report(out: &mut [u8], at: usize, area: &[i32], n: usize, m: usize) -> usize
-    requires ready { Ready area.now n m }
-    requires area_in_bounds { at + length (report_lines (report (run_in area.now))) ≤ length out.old }
-    ensures { Put out.old at (report_lines (report (run_in area.now))) out.new result }
+fn put_report(page: &mut Page, area: Tested)
+    requires { HasRoom page.old (report_lines (report (run_in area.words.now))) }
+    ensures { Adds page.old (report_lines (report (run_in area.entry.words.now))) page.new }
 {
-    match reports::report_in(area, n, m) {
-        Report::Refused(number) => lines::put_refused(out, at, number),
-        Report::Over {
-            deliveries,
-            verdict,
-            outside,
-            escape,
-            mark,
-        } => lines::put_report(out, at, deliveries, verdict, outside, escape, mark),
+    match reports::report_in(area) {
+        Ok(report) => page.put_report(report),
+        Err(refusal) => page.put_refused(u32::from(refusal)),
     }
 }
 
 // The processes, and then the report.
-pub fn put_end(out: &mut [u8], at: usize, area: &[i32], n: usize, m: usize) -> usize
-    requires ready { Ready area.now n m }
-    requires area_in_bounds { at + length (end_text (run_in area.now)) ≤ length out.old }
-    ensures { Put out.old at (end_text (run_in area.now)) out.new result }
+pub fn put_end(page: &mut Page, area: Tested)
+    requires { HasRoom page.old (end_text (run_in area.words.now)) }
+    ensures { Adds page.old (end_text (run_in area.entry.words.now)) page.new }
 {
-    let end = put_processes(out, at, area, n, m);
-    put_report(out, end, area, n, m)
+    put_processes(page, area);
+    put_report(page, area);
 }

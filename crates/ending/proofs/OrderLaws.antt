@@ -10,19 +10,20 @@
 --   order_changes     == THE LAW: after every list of calls on an accepted start, one of the three holds
 -- Assumes nothing.
 use Prim.Native.Nat.{ℕ, zero, suc, ◌+◌, ◌≤◌}
-use Rattle.std.specs.Prelude.{Bool, not, ◌&&◌, List, [], ◌∷◌, ◌≡◌, eqb}
+use Rattle.std.specs.Prelude.{Bool, not, ◌&&◌, List, [], ◌∷◌, ◌≡◌, eqb, Ok, Err}
 use Rattle.std.proofs.Math.Bool.{true, false}
 use Rattle.std.proofs.Math.Path.{refl, ap}
 use Rattle.std.proofs.Common.{sym, ap₂, ◌∙◌, subst, arith}
 use Rattle.base.specs.Choice.{choose}
 use Rattle.base.specs.ChoiceLaws.{tested, below?, and_left, and_right}
 use Rattle.base.specs.Checks.{Tested, passed, failed, Below, below, beyond}
+use Rattle.refusals.specs.Numbers.{numbered}
 use Rattle.tables.specs.Waits.{Waits, neighbours}
 use Rattle.tables.specs.Sound.{Sound}
 use Rattle.tables.specs.Table.{IsProcess, is_process}
 use Rattle.tables.specs.TableLaws.{is_process_P}
 use Rattle.machine.specs.declared.Ran.{Ran}
-use Rattle.machine.specs.Calls.{in_row, link_if, fixed_order, shuffled_order, refused, not_run, run_from, run_on, run_shuffled}
+use Rattle.machine.specs.Calls.{in_row, link_if, fixed_order, shuffled_order, refused, halted, not_run, run_from, run_on, run_shuffled}
 use Rattle.machine.specs.Calls as MachineCalls
 use Rattle.machine.specs.Lists.{Call, picking, running_on, running_shuffled, reporting, reading, in_turn, passed_by}
 use Rattle.machine.specs.Made.{Made, Chooses, PassMade}
@@ -31,9 +32,6 @@ use Rattle.machine.proofs.ChooserLaws.{by_senders, all_links_choose, fixed_order
 use Rattle.machine.specs.RunningLaws.{from_over, from_spent}
 use Rattle.machine.proofs.UpheldLaws.{upheld_list}
 use Rattle.steps.specs.declared.Process.{Process}
-use Rattle.checks.specs.declared.Delivery.{Delivery}
-use Rattle.checks.specs.declared.Reading.{Reading}
-use Rattle.checks.specs.declared.Reading.TheVariants.{Found}
 use Rattle.checks.specs.Run.{Run, IsEdition, knot, over, start_run}
 use Rattle.checks.specs.Calls.{delivery_of, pick, read_record}
 use Rattle.checks.specs.Lists.{asked, Ended}
@@ -60,28 +58,28 @@ module _ (r : Run) (h : Holds r) where
   answers_alike reporting = refl
   answers_alike (reading p) = refl
 
-  read_record_formed : (p : ℕ) → read_record r p ≡ choose (not (is_process r.waits.n p)) (Reading.Refused 25) (Found (r.process p))
+  read_record_formed : (p : ℕ) → read_record r p ≡ choose (not (is_process r.waits.n p)) (Err (numbered 25)) (Ok (r.process p))
   unfolding read_record
   read_record_formed p = rw (holds_formed r h)
 
   module _ (o : over r ≡ true) where
-    pick_over : (a b k : ℕ) → (pick r a b k).answer ≡ choose (not (neighbours r.waits a b)) (Delivery.Refused 25) (Delivery.Refused 23)
+    pick_over : (a b k : ℕ) → (pick r a b k).answer ≡ choose (not (neighbours r.waits a b)) (Err (numbered 25)) (Err (numbered 23))
     unfolding MachineCalls.pick
     pick_over a b k = rw (holds_formed r h, o) (at (not (neighbours r.waits a b)))
       where
-        at : (t : Bool) → delivery_of (choose t (refused 25 r) (refused 23 r)).answer ≡ choose t (Delivery.Refused 25) (Delivery.Refused 23)
+        at : (t : Bool) → delivery_of (choose t (refused 25 r) (refused 23 r)).answer ≡ choose t (Err (numbered 25)) (Err (numbered 23))
         at true = refl
         at false = refl
 
-    run_on_over : (next : Order) (k : ℕ) → (run_on knot next k 0 r).answer ≡ Ran.Over 0
+    run_on_over : (next : Order) (k : ℕ) → (run_on knot next k 0 r).answer ≡ Ok (Ran.Over 0)
     unfolding run_on
     run_on_over next k = rw (holds_formed r h, from_over knot next 0 r k 0 o)
 
-    run_shuffled_over : (k seed : ℕ) → (run_shuffled knot k seed r).answer ≡ choose (eqb seed 0) (Ran.Refused 37 0) (Ran.Over 0)
+    run_shuffled_over : (k seed : ℕ) → (run_shuffled knot k seed r).answer ≡ choose (eqb seed 0) (halted 37 0) (Ok (Ran.Over 0))
     unfolding run_shuffled
     run_shuffled_over k seed = rw (holds_formed r h, from_over knot shuffled_order seed r k 0 o) (at (eqb seed 0))
       where
-        at : (t : Bool) → (choose t (not_run 37 r) (record { answer = Ran.Over 0; run = r })).answer ≡ choose t (Ran.Refused 37 0) (Ran.Over 0)
+        at : (t : Bool) → (choose t (not_run 37 r) (record { answer = Ok (Ran.Over 0); run = r })).answer ≡ choose t (halted 37 0) (Ok (Ran.Over 0))
         at true = refl
         at false = refl
 
@@ -144,9 +142,9 @@ module _ {from r q : Run} {k l : ℕ} (h : Holds from) (m : Made knot from k r) 
       rw (read_record_formed r holds_one x, read_record_formed q holds_other x, sym same_waits) (at (tested (is_process r.waits.n x)))
     where
       at : Tested (is_process r.waits.n x)
-          → aside (read (choose (not (is_process r.waits.n x)) (Reading.Refused 25) (Found (r.process x))))
-          ≡ aside (read (choose (not (is_process r.waits.n x)) (Reading.Refused 25) (Found (q.process x))))
-      at (passed e) = rw e (ap (λ (y : Process). read (Found y)) (same_records x ((is_process_P r.waits.n x).0 e)))
+          → aside (read (choose (not (is_process r.waits.n x)) (Err (numbered 25)) (Ok (r.process x))))
+          ≡ aside (read (choose (not (is_process r.waits.n x)) (Err (numbered 25)) (Ok (q.process x))))
+      at (passed e) = rw e (ap (λ (y : Process). read (Ok y)) (same_records x ((is_process_P r.waits.n x).0 e)))
       at (failed e) = rw e
 
 -- ---- lists

@@ -2,7 +2,7 @@
 --   rows_hold       == the tests of all eight rows pass: one computation over the whole table
 --   row_holds       == each of the eight rows holds of the table that the writer makes of its waits, under each edition
 -- Assumes nothing.
-use Rattle.std.specs.Prelude.{ℕ, Bool, true, false, not, ◌&&◌, ◌≡◌, refl, eqb, ℤ, pos, negsuc, length, replicate}
+use Rattle.std.specs.Prelude.{ℕ, Bool, true, false, not, ◌&&◌, ◌≡◌, refl, eqb, ℤ, pos, negsuc, length, replicate, Result, Ok, Err}
 use Rattle.std.proofs.lemmas.Bool.{false≢true}
 use mathlib.Core.List.{List, [], ◌∷◌, Memᴰ}
 use Rattle.std.proofs.Common.{sym, ap, ◌∙◌, ⊎_elim, eqb-true}
@@ -11,12 +11,14 @@ use Rattle.base.specs.Choice.{choose}
 use Rattle.base.specs.ChoiceLaws.{tested, and_left, and_right, and_three, and_four}
 use Rattle.base.specs.Checks.{Tested, passed, failed}
 use Rattle.base.specs.Sums.{sum_to, count_to, all_to, any_to, lowest_to}
+use Rattle.refusals.specs.Numbers.{numbered}
 use Rattle.tables.specs.Table.{field_of, is_process}
 use Rattle.tables.specs.Waits.{Waits, waits_of, out_degree, in_degree, neighbours}
 use Rattle.table_writer.specs.Writing.{end, given, ends_fit, unlike, write_number, given_waits, WrittenRight}
 use Rattle.table_writer.specs.WritingLaws.{written_right}
 use Rattle.machine.specs.declared.Ran.{Ran}
 use Rattle.machine.specs.declared.Ran.TheVariants.{Spent}
+use Rattle.machine.specs.declared.Halted.{Halted}
 use Rattle.machine.specs.Machine.{all_right}
 use Rattle.machine.specs.Machine as Machines
 use Rattle.machine.specs.Calls.{behind, at_place, delivered, deliver, in_row, link_at, link_if, links_to, links_of, lowest, deliver_on, run_from}
@@ -88,17 +90,21 @@ unfolding is_at
 is_at_P (pos n) k h = ap pos (eqb-true n k h)
 is_at_P (negsuc n) k h = absurd (false≢true h)
 
-over_after_P : (d : ℕ) (y : Ran) → over_after d y ≡ true → y ≡ Ran.Over d
+over_after_P : (d : ℕ) (y : Result Ran Halted) → over_after d y ≡ true → y ≡ Ok (Ran.Over d)
 unfolding over_after
-over_after_P d (Ran.Over made) h = ap Ran.Over (eqb-true made d h)
-over_after_P d (Spent made) h = absurd (false≢true h)
-over_after_P d (Ran.Refused n made) h = absurd (false≢true h)
+over_after_P d (Ok (Ran.Over made)) h = ap (λ k. Ok (Ran.Over k)) (eqb-true made d h)
+over_after_P d (Ok (Spent made)) h = absurd (false≢true h)
+over_after_P d (Err x) h = absurd (false≢true h)
 
--- the report of a row
+-- the report of a row, by its waits
+abbrev reported_by : ℕ → PRow → Waits → Report
+reported_by ed x w =
+    record { deliveries = x.d; verdict = verdict ed x; outside = pos x.outside; escape = lowest_outsider w 1; mark = mark x }
+
 abbrev due : ℕ → PRow → Report
-due ed x = Report.Over x.d (verdict ed x) (pos x.outside) (lowest_outsider (waits_from x) 1) (mark x)
+due ed x = reported_by ed x (waits_from x)
 
-reports_P : (ed : ℕ) (x : PRow) (r : Run) → reports ed x (report r) ≡ true → report r ≡ due ed x
+reports_P : (ed : ℕ) (x : PRow) (r : Run) → reports ed x (report r) ≡ true → report r ≡ Ok (due ed x)
 unfolding report reported reports
 reports_P ed x r h = at (tested (well_formed r)) (tested (over r))
   where
@@ -127,12 +133,12 @@ reports_P ed x r h = at (tested (well_formed r)) (tested (over r))
         )
 
     at : Tested (well_formed r) → Tested (over r)
-        → choose (not (well_formed r)) (Report.Refused 21) (choose (not (over r)) (Report.Refused 26) (reported r)) ≡ due ed x
+        → choose (not (well_formed r)) (Err (numbered 21)) (choose (not (over r)) (Err (numbered 26)) (Ok (reported r))) ≡ Ok (due ed x)
     at (failed f) _ = absurd (false≢true (rw f at h))
     at (passed f) (failed g) = absurd (false≢true (rw (f, g) at h))
     at (passed f) (passed g) =
         let k : (first && agree (is_returned marked) x.returned) ≡ true = rw (f, g) at h in
-        rw (f, g) (same (and_left first (agree (is_returned marked) x.returned) k) (and_right first (agree (is_returned marked) x.returned) k))
+        rw (f, g) (ap Ok (same (and_left first (agree (is_returned marked) x.returned) k) (and_right first (agree (is_returned marked) x.returned) k)))
 
 -- ---- each row
 
@@ -142,8 +148,8 @@ record Tests (x : PRow) (ed : ℕ) : Type 0 where
   knot : in_knot (waits_from x) 1 ed ≡ knot_under ed x
   outside : outsiders (waits_from x) 1 ≡ x.outside
   returned : all_wait (waits_from x) 1 ≡ x.returned
-  over : (ran_from (waits_from x) ed).answer ≡ Ran.Over x.d
-  reported : report (ran_from (waits_from x) ed).run ≡ due ed x
+  over : (ran_from (waits_from x) ed).answer ≡ Ok (Ran.Over x.d)
+  reported : report (ran_from (waits_from x) ed).run ≡ Ok (due ed x)
   write : write_number x.n x.waits (table_size x) ≡ 0
 
 -- under each edition
@@ -192,5 +198,5 @@ row_holds x m ed named =
       over = ap (λ (v : Waits). (ran_from v ed).answer) w ∙ t.over;
       reported =
           ap (λ (v : Waits). report (ran_from v ed).run) w ∙ t.reported ∙
-          ap (λ (v : Waits). Report.Over x.d (verdict ed x) (pos x.outside) (lowest_outsider v 1) (mark x)) (sym w);
+          ap (λ (v : Waits). Ok (reported_by ed x v)) (sym w);
     }

@@ -32,8 +32,7 @@ use Rattle.machine.specs.RestLaws.{link_most}
 use Rattle.steps.specs.declared.Message.{Message}
 use Rattle.steps.specs.declared.Message.TheVariants.{Suc, Pre}
 use Rattle.steps.specs.declared.Process.{Process}
-use Rattle.steps.specs.declared.Reply.TheVariants.{To}
-use Rattle.steps.specs.Step.{most_num, Turn, idle}
+use Rattle.steps.specs.Step.{most_num, Turn, acknowledgement, idle}
 use Rattle.steps.specs.Effect.{is_probe, sucs_of, pres_of, Effect}
 use Rattle.checks.specs.Run.{Run, most_waiting, knot, one, started, sent_to, leaving}
 use Rattle.checks.specs.SentLaws.{first_weight, sent_probe, sent_ack, sum_probes}
@@ -115,7 +114,7 @@ module _ (w : Waits) (s : ℕ) {a b : ℕ} {m : Message} {x : Process} {t : Turn
 
 -- the acknowledged process is the sender, or the father of a busy process
 pub acknowledged_in : {w : Waits} {s : ℕ} {r : Run} {a b : ℕ} {m : Message} {t : Turn} {o i : ℕ} → Diffuses w s r → IsProcess w.n a → IsProcess w.n b
-    → Effect (eqb b s) m o i a (r.process b) t → (p : ℕ) (c : TwoCounts) → t.reply ≡ To p c → IsProcess w.n p
+    → Effect (eqb b s) m o i a (r.process b) t → (p : ℕ) (c : TwoCounts) → t.sent.reply ≡ acknowledgement p c → IsProcess w.n p
 acknowledged_in {w} {s} {r} {a} {b} df pa pb ef p c e =
     ⊎_elim (λ f. rw f pa) (λ f. rw f.2 (df.father_in b pb (eqb-false b s f.0) f.1)) (ef.replies p c e)
 

@@ -3,7 +3,7 @@
 --   ended            == what is said of such a run that is over
 --   ending           == THE THEOREM: after every list of calls on an accepted start, the promise holds
 -- Assumes nothing.
-use Rattle.std.specs.Prelude.{ℕ, zero, suc, ◌+◌, ◌≤◌, Bool, true, false, List, [], ◌↔◌, ◌≡◌, refl, eqb}
+use Rattle.std.specs.Prelude.{ℕ, zero, suc, ◌+◌, ◌≤◌, Bool, true, false, List, [], ◌↔◌, ◌≡◌, refl, eqb, Ok}
 use Rattle.std.proofs.lemmas.Bool.{false≢true}
 use Rattle.std.proofs.Common.{sym, ap, ◌∙◌, subst, arith}
 use Rattle.std.proofs.Math.IntN.{pos}
@@ -24,7 +24,6 @@ use Rattle.machine.specs.RestLaws.{work_rest, work_busy}
 use Rattle.machine.proofs.UpheldLaws.{upheld_busy, upheld_rest, upheld_empty, upheld_goes_on, upheld_list}
 use Rattle.checks.specs.declared.Verdict.TheVariants.{Knot, Free}
 use Rattle.checks.specs.declared.Mark.TheVariants.{Returned, Held}
-use Rattle.checks.specs.declared.Report.{Report}
 use Rattle.checks.specs.Run.{Run, IsEdition, knot, over, start_run}
 use Rattle.checks.specs.Calls.{escape_of, is_zero, verdict_of, mark_of, reported, report}
 use Rattle.checks.specs.Reach.{all_reach_back, in_knot, outsider, outsiders, lowest_outsider, all_wait, sinks, d_of}
@@ -121,8 +120,14 @@ module _ (r : Run) (h : Holds r) (o : over r ≡ true) where
   mark_end = rw (start_second, zero_test (sinks r.waits r.start) (all_wait r.waits r.start) (wait_end r.waits r.start))
 
   reports : report r
-      ≡ Report.Over (d_of r.waits r.start) (choose inAKnot Knot Free) (pos (outsiders r.waits r.start))
-      (lowest_outsider r.waits r.start) (choose (all_wait r.waits r.start) Returned Held)
+      ≡ Ok
+      (record {
+        deliveries = d_of r.waits r.start;
+        verdict = choose inAKnot Knot Free;
+        outside = pos (outsiders r.waits r.start);
+        escape = lowest_outsider r.waits r.start;
+        mark = choose (all_wait r.waits r.start) Returned Held;
+      })
   unfolding report reported
   reports = rw (holds_formed r h, o, verdict_end, escape_end, mark_end, start_sum, at_d r h o)
 

@@ -6,7 +6,7 @@
 --   ending_runs_out   == after every list of calls, running on with as many deliveries as are left ends over, with the number that was left
 --   ending_over       == .. and leaves a run that is over
 -- Assumes nothing.
-use Rattle.std.specs.Prelude.{ℕ, ◌+◌, ◌-◌, ◌≤◌, ◌<◌, true, List, ◌≡◌}
+use Rattle.std.specs.Prelude.{ℕ, ◌+◌, ◌-◌, ◌≤◌, ◌<◌, true, List, ◌≡◌, Ok}
 use Rattle.std.proofs.Common.{sym, ap₂, ◌∙◌, arith}
 use Rattle.std.proofs.Math.Path.{ap}
 use Rattle.base.specs.ChoiceLaws.{below?}
@@ -42,7 +42,7 @@ module _ {next : Chooser Process Message} (chooses : Chooses next) (r : Run) (h 
     ran_out : RanOut knot (run_from knot next k 0 s r)
     ran_out = upheld_runs_out holds_upheld chooses d_of (λ q g o. omega (arith, before_d q g o)) k 0 s r h enough
 
-    all_made : (run_from knot next k 0 s r).answer ≡ Ran.Over (d_of r.waits r.start - r.count)
+    all_made : (run_from knot next k 0 s r).answer ≡ Ok (Ran.Over (d_of r.waits r.start - r.count))
     all_made =
         let m : RunMade knot r 0 (run_from knot next k 0 s r) = run_from_made knot next chooses.finds k 0 s r in
         let q : Run = (run_from knot next k 0 s r).run in
@@ -51,9 +51,9 @@ module _ {next : Chooser Process Message} (chooses : Chooses next) (r : Run) (h 
         let same : d_of q.waits q.start ≡ d_of r.waits r.start = ap₂ d_of (made_waits m.made) (made_start m.made) in
         let says : ran_made (run_from knot next k 0 s r).answer ≡ ran_out.made = ap ran_made ran_out.says in
         let is : ran_out.made ≡ d_of r.waits r.start - r.count = omega (arith, m.all, made_count m.made) in
-        ran_out.says ∙ ap Ran.Over is
+        ran_out.says ∙ ap (λ n. Ok (Ran.Over n)) is
 
-    pub runs_out : (MachineCalls.run_on knot next k s r).answer ≡ Ran.Over (d_of r.waits r.start - r.count)
+    pub runs_out : (MachineCalls.run_on knot next k s r).answer ≡ Ok (Ran.Over (d_of r.waits r.start - r.count))
     unfolding MachineCalls.run_on
     runs_out = rw (holds_formed r h) all_made
 
@@ -67,7 +67,7 @@ module _ {next : Chooser Process Message} (chooses : Chooses next) (r : Run) (h 
   runs_spent fewer =
       let x : RanShort knot (0 + k) (run_from knot next k 0 s r) =
       upheld_spent holds_upheld chooses d_of (λ q g o. omega (arith, at_d q g o)) k 0 s r h fewer in
-      rw (holds_formed r h) (record { says = x.says ∙ ap Spent (omega arith); goes_on = x.goes_on })
+      rw (holds_formed r h) (record { says = x.says ∙ ap (λ n. Ok (Spent n)) (omega arith); goes_on = x.goes_on })
 
 -- whatever the orders and their states, the answer is one
 pub ran_alike : {next other : Chooser Process Message} → Chooses next → Chooses other → (r : Run) → Holds r → (k s t : ℕ)
@@ -82,7 +82,7 @@ ran_alike {next} {other} c d r h k s t = at (below? (r.count + k) (d_of r.waits 
 pub ending_runs_out :
     (w : Waits) → Sound w → (s : ℕ) → IsProcess w.n s → (ed : ℕ) → IsEdition ed → (cs : List Call) (k : ℕ) →
     d_of w s ≤ (Lists.passed cs (start_run w s ed)).made + k →
-    (run_on k (Lists.passed cs (start_run w s ed)).left).answer ≡ Ran.Over (d_of w s - (Lists.passed cs (start_run w s ed)).made)
+    (run_on k (Lists.passed cs (start_run w s ed)).left).answer ≡ Ok (Ran.Over (d_of w s - (Lists.passed cs (start_run w s ed)).made))
 unfolding Machines.start_run
 ending_runs_out w sd s i ed named cs k enough =
     let u = upheld_list holds_upheld fixed_order fixed_order_finds cs (start_run w s ed) (holds_start w s ed sd i named) in
@@ -90,7 +90,7 @@ ending_runs_out w sd s i ed named cs k enough =
     let count : p.left.count ≡ 0 + p.made = made_count u.0.made in
     let same : d_of p.left.waits p.left.start ≡ d_of w s = ap₂ d_of (made_waits u.0.made) (made_start u.0.made) in
     let is : d_of p.left.waits p.left.start - p.left.count ≡ d_of w s - p.made = omega arith in
-    runs_out fixed_order_chooses p.left u.1 k 0 (omega arith) ∙ ap Ran.Over is
+    runs_out fixed_order_chooses p.left u.1 k 0 (omega arith) ∙ ap (λ n. Ok (Ran.Over n)) is
 
 -- .. and leaves a run that is over
 pub ending_over :

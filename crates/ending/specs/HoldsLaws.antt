@@ -8,7 +8,7 @@
 --   holds_made       == any number of deliveries keep them
 -- Assumes nothing.
 use Prim.Native.Nat.{ℕ, ◌≤◌}
-use Rattle.std.specs.Prelude.{Bool, false, not, ◌&&◌, List, [], ◌∷◌, ◌++◌, ◌≡◌, eqb, length}
+use Rattle.std.specs.Prelude.{Bool, false, not, ◌&&◌, List, [], ◌∷◌, ◌++◌, ◌≡◌, eqb, length, Option, Some, None, Ok, Err}
 use Rattle.std.proofs.Math.Bool.{true}
 use Rattle.std.proofs.lemmas.Bool.{false≢true}
 use Rattle.std.proofs.Math.Path.{refl, subst}
@@ -18,6 +18,7 @@ use borrow.Author.Tests.{eqb-true, le-leb, eq-eqb}
 use Rattle.base.specs.Choice.{choose, bit}
 use Rattle.base.specs.ChoiceLaws.{and_both, and_left, or_left, or_right, same?, tested}
 use Rattle.base.specs.Checks.{Same, same, apart, Tested, passed, failed}
+use Rattle.refusals.specs.Numbers.{numbered}
 use Rattle.tables.specs.Waits.{Waits, out_degree, in_degree, neighbours}
 use Rattle.tables.specs.Sound.{Sound}
 use Rattle.tables.specs.Table.{IsProcess, is_process}
@@ -36,14 +37,9 @@ use Rattle.machine.specs.Upheld.{Upheld}
 use Rattle.steps.specs.declared.Message.{Message}
 use Rattle.steps.specs.declared.Message.TheVariants.{Suc, Pre, Ack}
 use Rattle.steps.specs.declared.Process.{Process}
-use Rattle.steps.specs.declared.TwoCounts.{TwoCounts}
 use Rattle.steps.specs.declared.Reply.{Reply}
-use Rattle.steps.specs.declared.Reply.TheVariants.{To}
 use Rattle.steps.specs.Step.{most_num, in_range, both_small, count_small, num_suffices, reply_fits, fitting, new_subordinate}
 use Rattle.steps.specs.Effect.{is_probe, Effect}
-use Rattle.checks.specs.declared.Report.{Report}
-use Rattle.checks.specs.declared.Reading.{Reading}
-use Rattle.checks.specs.declared.Reading.TheVariants.{Found}
 use Rattle.checks.specs.Run.{Run, IsEdition, knot, over, start_run, turn_at, reply_receiver, probes_to, sent_to, leaving, after, accepts, well_formed}
 use Rattle.checks.specs.Run.{father_right, counts_small}
 use Rattle.checks.specs.Calls.{report, reported, read_record, report_number, reading_number}
@@ -174,13 +170,14 @@ module _ (r : Run) (h : Holds r) where
 -- ---- accepted
 
 -- an acknowledgement that a step sends stands on a link afterwards, so its counts are in range
-reply_small : (before after : List Message) (p : ℕ) (c : TwoCounts) → counts_small (before ++ (reply_receiver (To p c) p ++ after)) ≡ true → both_small c ≡ true
+reply_small : (before after : List Message) (y : Reply) → counts_small (before ++ (reply_receiver (Some y) y.to ++ after)) ≡ true → both_small y.counts ≡ true
 unfolding reply_receiver Machines.all_right count_small
-reply_small before after p c k = at (same? p p)
+reply_small before after y k = at (same? y.to y.to)
   where
-    at : Same p p → both_small c ≡ true
+    at : Same y.to y.to → both_small y.counts ≡ true
     at (apart d _) = absurd (d refl)
-    at (same _ e) = and_left (both_small c) (counts_small after) (rw e at (all_right_tail count_small before (reply_receiver (To p c) p ++ after) k))
+    at (same _ e) =
+        and_left (both_small y.counts) (counts_small after) (rw e at (all_right_tail count_small before (reply_receiver (Some y) y.to ++ after) k))
 
 module _ (r : Run) (h : Holds r) (a b : ℕ) (pa : IsProcess r.waits.n a) (pb : IsProcess r.waits.n b) (m : Message) (rest : List Message)
     (l : Among m rest (r.link a b)) where
@@ -193,14 +190,14 @@ module _ (r : Run) (h : Holds r) (a b : ℕ) (pa : IsProcess r.waits.n a) (pb : 
   suffices Pre k = refl
   suffices (Ack c) k = le-leb 1 (r.process b).num k
 
-  reply_fits_is : (y : Reply) → (turn_at r a b m).reply ≡ y → reply_fits y ≡ true
+  reply_fits_is : (y : Option Reply) → (turn_at r a b m).sent.reply ≡ y → reply_fits y ≡ true
   unfolding reply_fits Machines.after sent_to
-  reply_fits_is Reply.Nothing e = refl
-  reply_fits_is (To p c) e =
-      let ip : IsProcess r.waits.n p = acknowledged_in h.diffusing pa pb (effect r h a b pa pb m rest l) p c e in
-      let k : counts_small ((after r a b m rest).link b p) ≡ true = counts_small_met next.sound next.tidy next.summed next.seconds b p pb ip in
-      and_both _ _ (le-leb 1 p ip.0)
-      (reply_small (Machines.taken r a b rest b p) (probes_to r.waits b (turn_at r a b m).probes p) p c (rw (eq-eqb b b refl, e) at k))
+  reply_fits_is None e = refl
+  reply_fits_is (Some y) e =
+      let ip : IsProcess r.waits.n y.to = acknowledged_in h.diffusing pa pb (effect r h a b pa pb m rest l) y.to y.counts e in
+      let k : counts_small ((after r a b m rest).link b y.to) ≡ true = counts_small_met next.sound next.tidy next.summed next.seconds b y.to pb ip in
+      and_both _ _ (le-leb 1 y.to ip.0)
+      (reply_small (Machines.taken r a b rest b y.to) (probes_to r.waits b (turn_at r a b m).sent.probes y.to) y (rw (eq-eqb b b refl, e) at k))
 
   range : in_range (turn_at r a b m).process ≡ true
   unfolding Machines.after
@@ -208,7 +205,7 @@ module _ (r : Run) (h : Holds r) (a b : ℕ) (pa : IsProcess r.waits.n a) (pb : 
 
   fits : fitting m (r.process b) (turn_at r a b m) ≡ true
   unfolding fitting
-  fits = and_both _ _ (and_both _ _ (suffices m (awaited r h a b pa pb m rest l)) range) (reply_fits_is (turn_at r a b m).reply refl)
+  fits = and_both _ _ (and_both _ _ (suffices m (awaited r h a b pa pb m rest l)) range) (reply_fits_is (turn_at r a b m).sent.reply refl)
 
   holds_accepts : accepts r a b m rest ≡ true
   unfolding Machines.after
@@ -227,7 +224,7 @@ report_answered : (r : Run) → well_formed r ≡ true → Answered (report_numb
 unfolding report reported
 report_answered r h = rw h (at (tested (over r)))
   where
-    at : Tested (over r) → Answered (report_number (choose (not (over r)) (Report.Refused 26) (reported r)))
+    at : Tested (over r) → Answered (report_number (choose (not (over r)) (Err (numbered 26)) (Ok (reported r))))
     at (passed e) = rw e none_refused
     at (failed e) = rw e not_over
 
@@ -235,7 +232,7 @@ read_answered : (r : Run) → well_formed r ≡ true → (p : ℕ) → Answered 
 unfolding read_record
 read_answered r h p = rw h (at (tested (is_process r.waits.n p)))
   where
-    at : Tested (is_process r.waits.n p) → Answered (reading_number (choose (not (is_process r.waits.n p)) (Reading.Refused 25) (Found (r.process p))))
+    at : Tested (is_process r.waits.n p) → Answered (reading_number (choose (not (is_process r.waits.n p)) (Err (numbered 25)) (Ok (r.process p))))
     at (failed e) = rw e no_link
     at (passed e) = rw e none_refused
 

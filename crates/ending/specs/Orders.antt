@@ -10,19 +10,18 @@
 --   Parted cs r        == a running on that was spent with at least one delivery stands in the list; up to it the two runs are the same
 --   Compared cs r      == what is said after every list: one of three
 -- Assumes nothing.
-use Rattle.std.specs.Prelude.{ℕ, ◌≤◌, true, false, ◌&&◌, List, ◌∷◌, ◌++◌, ◌≡◌}
+use Rattle.std.specs.Prelude.{ℕ, ◌≤◌, true, false, ◌&&◌, List, ◌∷◌, ◌++◌, ◌≡◌, Result, Ok, Err}
+use Rattle.refusals.specs.declared.Refusal.{Refusal}
 use Rattle.tables.specs.Table.{IsProcess}
 use Rattle.machine.specs.declared.Ran.{Ran}
 use Rattle.machine.specs.declared.Ran.TheVariants.{Spent}
+use Rattle.machine.specs.declared.Halted.{Halted}
 use Rattle.machine.specs.Calls.{Selection, Chooser, in_row, link_at, link_if, fixed_order}
 use Rattle.machine.specs.Calls as MachineCalls
 use Rattle.machine.specs.Lists.{Call, picking, running_on, running_shuffled, reporting, reading, in_turn, passed_by}
 use Rattle.steps.specs.declared.Message.{Message}
 use Rattle.steps.specs.declared.Process.{Process}
-use Rattle.checks.specs.declared.Delivery.{Delivery}
 use Rattle.checks.specs.declared.Report.{Report}
-use Rattle.checks.specs.declared.Reading.{Reading}
-use Rattle.checks.specs.declared.Reading.TheVariants.{Found}
 use Rattle.checks.specs.Run.{Run, knot, over}
 use Rattle.checks.specs.Calls.{pick, report, read_record}
 use Rattle.checks.specs.Lists.{asked}
@@ -44,10 +43,10 @@ left_in next cs r = (in_turn (passed_by knot next asked) cs r).left
 -- ---- answers
 
 pub data Told : Type 0 where
-  picked : Delivery → Told
-  ran : Ran → Told
-  reported : Report → Told
-  read : Reading → Told
+  picked : Result Message Refusal → Told
+  ran : Result Ran Halted → Told
+  reported : Result Report Refusal → Told
+  read : Result Process Refusal → Told
 
 abbrev pub tells : Order → Call → Run → Told
 tells next (picking a b k) r = picked (pick r a b k).answer
@@ -58,24 +57,15 @@ tells next reporting r = reported (report r)
 tells next (reading p) r = read (read_record r p)
 
 abbrev pub fatherless : Process → Process
-fatherless x =
-    record {
-      succeeding = x.succeeding;
-      preceding = x.preceding;
-      subordinate = x.subordinate;
-      cs = x.cs;
-      num = x.num;
-      father = 0;
-      second = x.second;
-    }
+fatherless x = record x { father = 0 }
 
 -- only the reading of a record tells a father
 abbrev pub aside : Told → Told
 aside (picked d) = picked d
 aside (ran x) = ran x
 aside (reported x) = reported x
-aside (read (Found x)) = read (Found (fatherless x))
-aside (read (Reading.Refused n)) = read (Reading.Refused n)
+aside (read (Ok x)) = read (Ok (fatherless x))
+aside (read (Err e)) = read (Err e)
 
 abbrev pub AnswersAlike : Run → Run → Type 0
 AnswersAlike r q = (c : Call) → aside (tells fixed_order c r) ≡ aside (tells senders_first c q)
@@ -98,8 +88,8 @@ pub record Parted (cs : List Call) (r : Run) : Type 0 where
   pub stands : cs ≡ front ++ (running_on k ∷ back)
   pub same : left_in fixed_order front r ≡ left_in senders_first front r
   pub some : 1 ≤ k
-  pub spent : tells fixed_order (running_on k) (left_in fixed_order front r) ≡ ran (Spent k)
-  pub spent_before : tells senders_first (running_on k) (left_in senders_first front r) ≡ ran (Spent k)
+  pub spent : tells fixed_order (running_on k) (left_in fixed_order front r) ≡ ran (Ok (Spent k))
+  pub spent_before : tells senders_first (running_on k) (left_in senders_first front r) ≡ ran (Ok (Spent k))
 
 -- after the list cs on the run r, in both orders; what the calls within a list answer is said of the lists that end before them
 pub data Compared (cs : List Call) (r : Run) : Type 0 where

@@ -6,10 +6,12 @@
 --   holds x         == all three, under both editions
 --   agree, is_knot, is_returned, is_at, over_after, reports, all   == what these are made of
 -- Assumes nothing.
-use Rattle.std.specs.Prelude.{ℕ, Bool, true, false, not, ◌&&◌, List, [], ◌∷◌, eqb, ℤ, pos, negsuc}
+use Rattle.std.specs.Prelude.{ℕ, Bool, true, false, not, ◌&&◌, List, [], ◌∷◌, eqb, ℤ, pos, negsuc, Result, Ok, Err}
+use Rattle.refusals.specs.declared.Refusal.{Refusal}
 use Rattle.table_writer.specs.Writing.{write_number}
 use Rattle.machine.specs.declared.Ran.{Ran}
 use Rattle.machine.specs.declared.Ran.TheVariants.{Spent}
+use Rattle.machine.specs.declared.Halted.{Halted}
 use Rattle.checks.specs.declared.Verdict.{Verdict}
 use Rattle.checks.specs.declared.Verdict.TheVariants.{Knot, Free}
 use Rattle.checks.specs.declared.Mark.{Mark}
@@ -42,17 +44,17 @@ defined ed x =
     eqb (d_of (waits_from x) 1) x.d && agree (in_knot (waits_from x) 1 ed) (knot_under ed x) && eqb (outsiders (waits_from x) 1) x.outside &&
     agree (all_wait (waits_from x) 1) x.returned
 
-unfoldable pub over_after : ℕ → Ran → Bool
-over_after d (Ran.Over made) = eqb made d
-over_after d (Spent made) = false
-over_after d (Ran.Refused n made) = false
+unfoldable pub over_after : ℕ → Result Ran Halted → Bool
+over_after d (Ok (Ran.Over made)) = eqb made d
+over_after d (Ok (Spent made)) = false
+over_after d (Err h) = false
 
 -- a report with the row's values, and the escape that the definition names
-unfoldable pub reports : ℕ → PRow → Report → Bool
-reports ed x (Report.Over d v o e m) =
-    eqb d x.d && agree (is_knot v) (knot_under ed x) && is_at o x.outside && eqb e (lowest_outsider (waits_from x) 1) &&
-    agree (is_returned m) x.returned
-reports ed x (Report.Refused n) = false
+unfoldable pub reports : ℕ → PRow → Result Report Refusal → Bool
+reports ed x (Ok r) =
+    eqb r.deliveries x.d && agree (is_knot r.verdict) (knot_under ed x) && is_at r.outside x.outside &&
+    eqb r.escape (lowest_outsider (waits_from x) 1) && agree (is_returned r.mark) x.returned
+reports ed x (Err e) = false
 
 unfoldable pub runs : ℕ → PRow → Bool
 runs ed x = over_after x.d (ran_from (waits_from x) ed).answer && reports ed x (report (ran_from (waits_from x) ed).run)

@@ -8,7 +8,7 @@
 --   ran_from w ed    == the check from process 1 under an edition, run on to the end
 --   RowOfTable x ed bs   == the bytes bs are a table with the row's waits, and all that the row says of this edition holds of it
 -- Assumes nothing.
-use Rattle.std.specs.Prelude.{ℕ, Bool, true, false, List, [], ◌∷◌, ◌≡◌, eqb, take, replicate, pos}
+use Rattle.std.specs.Prelude.{ℕ, Bool, true, false, List, [], ◌∷◌, ◌≡◌, eqb, take, replicate, pos, Ok}
 use Rattle.base.specs.Choice.{choose}
 use Rattle.tables.specs.Table.{field_of, table_length}
 use Rattle.tables.specs.Layout.{MeetsLayout}
@@ -20,7 +20,6 @@ use Rattle.steps.specs.declared.Message.{Message}
 use Rattle.steps.specs.declared.Process.{Process}
 use Rattle.checks.specs.declared.Verdict.TheVariants.{Knot, Free}
 use Rattle.checks.specs.declared.Mark.TheVariants.{Returned, Held}
-use Rattle.checks.specs.declared.Report.{Report}
 use Rattle.checks.specs.Run.{most_deliveries, start_run}
 use Rattle.checks.specs.Calls.{run_on, report}
 use Rattle.checks.specs.Reach.{in_knot, outsiders, lowest_outsider, all_wait, d_of}
@@ -79,7 +78,13 @@ pub record RowOfTable (x : PRow) (ed : ℕ) (bs : List ℕ) : Type 0 where
   pub knot : in_knot (waits_of (field_of bs)) 1 ed ≡ knot_under ed x
   pub outside : outsiders (waits_of (field_of bs)) 1 ≡ x.outside
   pub returned : all_wait (waits_of (field_of bs)) 1 ≡ x.returned
-  pub over : (ran_from (waits_of (field_of bs)) ed).answer ≡ Ran.Over x.d
+  pub over : (ran_from (waits_of (field_of bs)) ed).answer ≡ Ok (Ran.Over x.d)
   pub reported : report (ran_from (waits_of (field_of bs)) ed).run
-      ≡ Report.Over x.d (choose (knot_under ed x) Knot Free) (pos x.outside) (lowest_outsider (waits_of (field_of bs)) 1)
-      (choose x.returned Returned Held)
+      ≡ Ok
+      (record {
+        deliveries = x.d;
+        verdict = choose (knot_under ed x) Knot Free;
+        outside = pos x.outside;
+        escape = lowest_outsider (waits_of (field_of bs)) 1;
+        mark = choose x.returned Returned Held;
+      })

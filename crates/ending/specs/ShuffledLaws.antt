@@ -6,7 +6,7 @@
 --   shuffled_alike    == so it answers what running on in the fixed order answers
 --   ending_shuffled   == the same after every list of calls on an accepted start
 -- Assumes nothing.
-use Rattle.std.specs.Prelude.{ℕ, ◌+◌, ◌-◌, ◌≤◌, ◌<◌, true, List, ◌≡◌}
+use Rattle.std.specs.Prelude.{ℕ, ◌+◌, ◌-◌, ◌≤◌, ◌<◌, true, List, ◌≡◌, Ok}
 use Rattle.std.proofs.Common.{sym, ap, ◌∙◌, subst, arith, ne_eqb}
 use Rattle.tables.specs.Waits.{Waits}
 use Rattle.tables.specs.Sound.{Sound}
@@ -42,7 +42,7 @@ module _ (r : Run) (h : Holds r) (k seed : ℕ) (u : 1 ≤ seed) where
 
   -- the deliveries that are left are made, and the run is over
   module _ (enough : d_of r.waits r.start ≤ r.count + k) where
-    pub shuffled_out : (run_shuffled k seed r).answer ≡ Ran.Over (d_of r.waits r.start - r.count)
+    pub shuffled_out : (run_shuffled k seed r).answer ≡ Ok (Ran.Over (d_of r.waits r.start - r.count))
     shuffled_out = rw is (runs_out shuffled_order_chooses r h k seed enough)
 
     pub shuffled_over : over (run_shuffled k seed r).run ≡ true

@@ -86,7 +86,7 @@ module _ {w : Waits} {s : ℕ} {r q : Run} {a b : ℕ} {m : Message} {t : Turn} 
     (none : τ.part no_counts ≡ pos 0) (summed : Summed w s τ r) (tallied : Tallied τ b m (r.process b) t) where
   -- counts on links
   counts_moved : (g : ℤ → ℕ) → g (pos 0) ≡ 0
-      → total w.n (λ n. g (count_in τ n)) q + g (count_in τ m) ≡ total w.n (λ n. g (count_in τ n)) r + g (τ.part (counts_replied t.reply))
+      → total w.n (λ n. g (count_in τ n)) q + g (count_in τ m) ≡ total w.n (λ n. g (count_in τ n)) r + g (τ.part (counts_replied t.sent.reply))
   counts_moved g e =
       omega (
         arith,

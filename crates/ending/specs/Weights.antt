@@ -76,7 +76,7 @@ pub record Begins (w : Waits) (s : ℕ) (τ : Tally) : Type 0 where
 -- what a step does to the sum of a tally
 abbrev pub Tallied : Tally → ℕ → Message → Process → Turn → Type 0
 Tallied τ b m x t =
-    Balanced (sum_in τ x) (count_in τ m) (sum_in τ t.process) (τ.part (counts_replied t.reply)) (τ.worth b x) (τ.worth b t.process)
+    Balanced (sum_in τ x) (count_in τ m) (sum_in τ t.process) (τ.part (counts_replied t.sent.reply)) (τ.worth b x) (τ.worth b t.process)
     (τ.slack b x) (τ.slack b t.process)
 
 -- no process adds more than 1, and where it adds, it has no slack

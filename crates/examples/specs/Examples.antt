@@ -4,52 +4,42 @@
 --   table n m ps ks     == the bytes of a table: N, M, first-out and first-in of each process, from, to, next-out and next-in of each arc
 --   met1 .. met7        == bytes that meet row 1 .. 7 and later rows; one, both and fork are accepted tables
 --   process_of s p b c n f    == a record: succeeding, preceding, subordinate, cs, num, father. root c n is a start's; in idle all values are 0
+--   numbered k          == the refusal with 01's number k; halted k n is the answer of a running on that it ended, after n deliveries
+--   taken x p y, told d v o e m   == the answers of a step and of a report, value by value
 --   two s d x y forth back   == a run on the wait 1-2: the start, the accepted deliveries, the records of 1 and 2, the messages from 1 to 2 and
 --                          those from 2 to 1. receiving y m is one in which m waits for 2, and area r is the words that hold the run r
 -- The others are in States. Assumes nothing.
-use Rattle.std.specs.Prelude.{ℕ, true, false, ◌≡◌, refl, pos, get_or, take, drop, set, replicate}
+use Rattle.std.specs.Prelude.{ℕ, true, false, ◌≡◌, refl, pos, get_or, take, drop, set, replicate, Some, None, Ok, Err}
 use mathlib.Core.List.Memᴰ
 use mathlib.Core.List.{[], ◌∷◌, ◌++◌, Memᴰ}
 use Rattle.std.proofs.lemmas.Bool.{eqb-false}
+use Rattle.refusals.specs.declared.Refusal.{Refusal}
+use Rattle.refusals.specs.Numbers.{number, numbered}
 use Rattle.tables.specs.declared.Chain.TheVariants.{Out, In}
-use Rattle.tables.specs.declared.Reading.TheVariants as Read
-use Rattle.tables.specs.declared.Opened.{Opened}
-use Rattle.tables.specs.declared.Next.{Next}
 use Rattle.tables.specs.Table.{field_of, sizes_fit}
 use Rattle.tables.specs.Waits.{Waits, waits_of}
 use Rattle.tables.specs.Reading.{read_number, reading_of}
 use Rattle.tables.specs.Walking.{opened_of, opened_number, opened_arc, next_of, next_arc}
-use Rattle.table_writer.specs.declared.Writing.{Writing}
 use Rattle.table_writer.specs.Writing.{write_number, writing_of, written}
 use Rattle.machine.specs.declared.Ran.{Ran}
-use Rattle.machine.specs.Calls.{nobody, pair, links_of, drawn, ran_number, ran_made}
+use Rattle.machine.specs.declared.Halted.{Halted}
+use Rattle.machine.specs.Calls.{nobody, pair, halted, links_of, drawn, ran_number, ran_made}
 use Rattle.machine.specs.Lists.{Passed}
 use Rattle.steps.specs.declared.Message.TheVariants.{Suc, Pre, Ack}
 use Rattle.steps.specs.declared.Probes.{Probes}
 use Rattle.steps.specs.declared.Probes.TheVariants.{Sucs, Pres}
-use Rattle.steps.specs.declared.Reply.{Reply}
-use Rattle.steps.specs.declared.Reply.TheVariants.{To}
-use Rattle.steps.specs.declared.Stepped.{Stepped}
-use Rattle.steps.specs.declared.Stepped.TheVariants.{Taken}
-use Rattle.steps.specs.Step.{idle, stepped, start_stepped}
+use Rattle.steps.specs.Step.{idle, acknowledgement, stepped, start_stepped}
 use Rattle.steps.specs.Effect.{counts_replied}
-use Rattle.checks.specs.declared.Delivery.{Delivery}
-use Rattle.checks.specs.declared.Delivery.TheVariants.{Delivered}
 use Rattle.checks.specs.declared.Verdict.TheVariants.{Knot, Free}
 use Rattle.checks.specs.declared.Mark.TheVariants.{Returned, Held}
-use Rattle.checks.specs.declared.Report.{Report}
-use Rattle.checks.specs.declared.Reading.{Reading}
-use Rattle.checks.specs.declared.Reading.TheVariants.{Found}
 use Rattle.checks.specs.Run.{Run, start_run}
 use Rattle.checks.specs.Reach.{lowest_outsider, all_wait, sinks}
 use Rattle.checks.specs.Calls.{pick, run_on, run_shuffled, escape_of, report, read_record, delivery_number, delivery_made, report_number, reading_number}
 use Rattle.checks.specs.Lists.{Promise}
 use Rattle.areas.specs.Used.{check_place}
 use Rattle.areas.specs.Area.{run_in}
-use Rattle.starting.specs.declared.Started.{Started}
 use Rattle.starting.specs.StartCall.{start_number, start_answer, start_area}
 use Rattle.area_calls.specs.AreaCalls.{pick_answer, pick_area, run_on_answer, run_on_area, shuffled_answer, shuffled_area, report_answer, read_answer}
-use Rattle.lending.specs.declared.Lent.{Lent}
 use Rattle.lending.specs.Lent.{lent_answer, lent_record}
 use Rattle.inputs.specs.Input.{input_number, begun_number, begun_area}
 use Rattle.lines.specs.Text.{bytes, message_text, verdict_line, mark_line}
@@ -59,7 +49,7 @@ use Rattle.host_values.specs.Values.{reading_process, stepped_number, stepped_pr
 use Rattle.host_values.specs.Interface.{chain_of, message_of, process_of, probes_number, reply_receiver}
 use Rattle.host_values.specs.Versions.{version_number, library_version}
 use Rattle.examples.specs.States.{minus, low_first, table, one, both, fork, alone, loop, met1, met2, met3, met4, met5, met6, met7, input, words, root}
-use Rattle.examples.specs.States.{beside, counted, only, plain, root_with, two, under, receiving, three, everywhere, loads, unlinked, area, answers}
+use Rattle.examples.specs.States.{beside, counted, only, plain, root_with, sending, taken, told, two, under, receiving, three, everywhere, loads, unlinked, area, answers}
 use Rattle.examples.specs.Computing.{computing}
 
 -- ==== Refused because of the input
@@ -75,8 +65,8 @@ reading_in_order :
     (read_number met6 ≡ 6) ×  -- a chain meets an arc twice, meets a foreign one or misses one
     (read_number met7 ≡ 7) ×  -- two arcs agree in from and to
     (read_number both ≡ 0) ×
-    (reading_of met4 ≡ Read.Refused 4) ×
-    (reading_of both ≡ Read.Accepted 2 2)
+    (reading_of met4 ≡ Err (numbered 4)) ×
+    (reading_of both ≡ Ok (record { n = 2; m = 2 }))
 unfolding computing
 reading_in_order = (refl, refl, refl, refl, refl, refl, refl, refl, refl, refl)
 
@@ -84,7 +74,7 @@ reading_in_order = (refl, refl, refl, refl, refl, refl, refl, refl, refl, refl)
 -- table of one wait, 1 for 2
 the_table_of_01 :
     (input 1 1 one ≡ 1 ∷ 0 ∷ 1 ∷ 0 ∷ 2 ∷ 0 ∷ 1 ∷ 0 ∷ 1 ∷ 0 ∷ 0 ∷ 0 ∷ 0 ∷ 0 ∷ 1 ∷ 0 ∷ 1 ∷ 0 ∷ 2 ∷ 0 ∷ 0 ∷ 0 ∷ 0 ∷ 0 ∷ []) ×
-    (reading_of one ≡ Read.Accepted 2 1)
+    (reading_of one ≡ Ok (record { n = 2; m = 1 }))
 unfolding computing
 the_table_of_01 = (refl, refl)
 
@@ -137,31 +127,31 @@ reading_accepted = (refl, refl, refl, refl)
 -- ---- a walk: "Opening it names a process and its out- or in-chain, checks 1 to 7, then 8 for that process"
 
 opening_in_order :
-    (opened_of met1 Out 0 ≡ Opened.Refused 1) ×
-    (opened_of met2 Out 0 ≡ Opened.Refused 2) ×
-    (opened_of met3 Out 0 ≡ Opened.Refused 3) ×
-    (opened_of met4 Out 0 ≡ Opened.Refused 4) ×
-    (opened_of met5 Out 0 ≡ Opened.Refused 5) ×
-    (opened_of met6 Out 0 ≡ Opened.Refused 6) ×
-    (opened_of met7 Out 0 ≡ Opened.Refused 7) ×
-    (opened_of fork Out 0 ≡ Opened.Refused 8) ×  -- process 0 or over N
-    (opened_of fork In 4 ≡ Opened.Refused 8)
+    (opened_of met1 Out 0 ≡ Err (numbered 1)) ×
+    (opened_of met2 Out 0 ≡ Err (numbered 2)) ×
+    (opened_of met3 Out 0 ≡ Err (numbered 3)) ×
+    (opened_of met4 Out 0 ≡ Err (numbered 4)) ×
+    (opened_of met5 Out 0 ≡ Err (numbered 5)) ×
+    (opened_of met6 Out 0 ≡ Err (numbered 6)) ×
+    (opened_of met7 Out 0 ≡ Err (numbered 7)) ×
+    (opened_of fork Out 0 ≡ Err (numbered 8)) ×  -- process 0 or over N
+    (opened_of fork In 4 ≡ Err (numbered 8))
 unfolding computing
 opening_in_order = (refl, refl, refl, refl, refl, refl, refl, refl, refl)
 
 -- "stands at the chain's first arc, or 0 if it has none"; "A step gives the next arc or the end; from an arc number that is 0, over M or past
 -- the lent bytes it gives the end" (the bytes have a next-out at the place of arc 0 and at that of arc 3)
 walk_steps :
-    (opened_of fork Out 1 ≡ Opened.At 2) ×
-    (opened_of fork In 1 ≡ Opened.At 0) ×
-    (opened_of fork In 3 ≡ Opened.At 2) ×
-    (next_of fork Out 2 ≡ Next.Arc 1) ×
-    (next_of fork Out 1 ≡ Next.End) ×
-    (next_of fork In 2 ≡ Next.End) ×
-    (next_of both Out 0 ≡ Next.End) ×
-    (next_of (fork ++ low_first (1 ∷ 1 ∷ 1 ∷ 1 ∷ [])) Out 3 ≡ Next.End) ×
-    (next_of (take 31 fork) Out 2 ≡ Next.End) ×
-    (next_of (take 3 fork) Out 2 ≡ Next.End)
+    (opened_of fork Out 1 ≡ Ok 2) ×
+    (opened_of fork In 1 ≡ Ok 0) ×
+    (opened_of fork In 3 ≡ Ok 2) ×
+    (next_of fork Out 2 ≡ Some 1) ×
+    (next_of fork Out 1 ≡ None) ×
+    (next_of fork In 2 ≡ None) ×
+    (next_of both Out 0 ≡ None) ×
+    (next_of (fork ++ low_first (1 ∷ 1 ∷ 1 ∷ 1 ∷ [])) Out 3 ≡ None) ×
+    (next_of (take 31 fork) Out 2 ≡ None) ×
+    (next_of (take 3 fork) Out 2 ≡ None)
 unfolding computing
 walk_steps = (refl, refl, refl, refl, refl, refl, refl, refl, refl, refl)
 
@@ -197,13 +187,13 @@ writing_ranges = (refl, refl, refl, refl, refl, refl, refl, refl, refl, refl, re
 -- "changes no lent byte"
 writing_outputs :
     (written 3 (1 ∷ 2 ∷ 1 ∷ 3 ∷ []) (replicate 34 9) ≡ fork ++ (9 ∷ 9 ∷ [])) ×
-    (writing_of 3 (1 ∷ 2 ∷ 1 ∷ 3 ∷ []) (replicate 34 9) ≡ Writing.Written 32) ×
+    (writing_of 3 (1 ∷ 2 ∷ 1 ∷ 3 ∷ []) (replicate 34 9) ≡ Ok 32) ×
     (written 3 (1 ∷ 2 ∷ 1 ∷ []) (replicate 34 9) ≡ replicate 34 9) ×
     (written 0 (1 ∷ 2 ∷ 1 ∷ 3 ∷ []) (replicate 34 9) ≡ replicate 34 9) ×
     (written 2 (1 ∷ 2 ∷ 1 ∷ 3 ∷ []) (replicate 34 9) ≡ replicate 34 9) ×
     (written 3 (1 ∷ 2 ∷ 1 ∷ 2 ∷ []) (replicate 34 9) ≡ replicate 34 9) ×
     (written 3 (1 ∷ 2 ∷ 1 ∷ 3 ∷ []) (replicate 31 9) ≡ replicate 31 9) ×
-    (writing_of 3 (1 ∷ 2 ∷ 1 ∷ 3 ∷ []) (replicate 31 9) ≡ Writing.Refused 11)
+    (writing_of 3 (1 ∷ 2 ∷ 1 ∷ 3 ∷ []) (replicate 31 9) ≡ Err (numbered 11))
 unfolding computing
 writing_outputs = (refl, refl, refl, refl, refl, refl, refl, refl)
 
@@ -233,9 +223,9 @@ start_in_order = (refl, refl, refl, refl, refl, refl, refl, refl, refl, refl, re
 -- a refusal "changes no lent byte or word"; "Surplus words are not touched"; "s sends suc to each successor, then pre to each predecessor; num
 -- is the number sent"; the area holds "the edition named at start" (02, N4)
 start_outcomes :
-    (start_answer both 3 1 (words 72) ≡ Started.Refused 8) ×
-    (start_answer both 1 3 (words 72) ≡ Started.Refused 30) ×
-    (start_answer both 1 1 (words 72) ≡ Started.Ready) ×
+    (start_answer both 3 1 (words 72) ≡ Err (numbered 8)) ×
+    (start_answer both 1 3 (words 72) ≡ Err (numbered 30)) ×
+    (start_answer both 1 1 (words 72) ≡ Ok tt) ×
     (start_area met7 1 1 (words 72) ≡ words 72) ×
     (start_area both 3 1 (words 72) ≡ words 72) ×
     (start_area both 1 3 (words 72) ≡ words 72) ×
@@ -302,26 +292,26 @@ program_sizes = (refl, refl, refl, refl, refl, refl, refl, refl, refl, refl, ref
 -- and repaired from line to line; then the same with an acknowledgement that waits for 2, whose num is 0, picked at place 2
 
 pick_in_order :
-    ((pick (two 1 0 (root (pos 129) 0) idle [] []) 2 2 0).answer ≡ Delivery.Refused 21) ×  -- run area not well formed
-    ((pick (two 1 0 (root (pos 128) 0) idle [] []) 2 2 0).answer ≡ Delivery.Refused 25) ×  -- the pick names no link
-    ((pick (two 1 0 (root (pos 128) 0) idle [] []) 2 1 0).answer ≡ Delivery.Refused 23) ×  -- the run is over
-    ((pick (two 1 0 (root (pos 128) 1) idle [] []) 2 1 0).answer ≡ Delivery.Refused 24) ×  -- nothing waits on that link
-    ((pick (two 1 0 (root (pos 129) 0) idle (Ack (only (pos 0)) ∷ []) []) 1 2 2).answer ≡ Delivery.Refused 21) ×
-    ((pick (two 1 0 (root (pos 128) 0) idle (Ack (only (pos 0)) ∷ []) []) 1 2 2).answer ≡ Delivery.Refused 23) ×
-    ((pick (two 1 0 (root (pos 128) 1) idle (Ack (only (pos 0)) ∷ []) []) 1 2 2).answer ≡ Delivery.Refused 31) ×  -- a place beyond the messages waiting
-    ((pick (two 1 0 (root (pos 128) 1) idle (Ack (only (pos 0)) ∷ []) []) 1 2 1).answer ≡ Delivery.Refused 22) ×  -- the step would take num out of its range
-    ((pick (two 1 0 (root (pos 128) 1) idle (Suc ∷ []) []) 1 2 1).answer ≡ Delivered Suc)
+    ((pick (two 1 0 (root (pos 129) 0) idle [] []) 2 2 0).answer ≡ Err (numbered 21)) ×  -- run area not well formed
+    ((pick (two 1 0 (root (pos 128) 0) idle [] []) 2 2 0).answer ≡ Err (numbered 25)) ×  -- the pick names no link
+    ((pick (two 1 0 (root (pos 128) 0) idle [] []) 2 1 0).answer ≡ Err (numbered 23)) ×  -- the run is over
+    ((pick (two 1 0 (root (pos 128) 1) idle [] []) 2 1 0).answer ≡ Err (numbered 24)) ×  -- nothing waits on that link
+    ((pick (two 1 0 (root (pos 129) 0) idle (Ack (only (pos 0)) ∷ []) []) 1 2 2).answer ≡ Err (numbered 21)) ×
+    ((pick (two 1 0 (root (pos 128) 0) idle (Ack (only (pos 0)) ∷ []) []) 1 2 2).answer ≡ Err (numbered 23)) ×
+    ((pick (two 1 0 (root (pos 128) 1) idle (Ack (only (pos 0)) ∷ []) []) 1 2 2).answer ≡ Err (numbered 31)) ×  -- a place beyond the messages waiting
+    ((pick (two 1 0 (root (pos 128) 1) idle (Ack (only (pos 0)) ∷ []) []) 1 2 1).answer ≡ Err (numbered 22)) ×  -- the step would take num out of its range
+    ((pick (two 1 0 (root (pos 128) 1) idle (Suc ∷ []) []) 1 2 1).answer ≡ Ok Suc)
 unfolding computing
 pick_in_order = (refl, refl, refl, refl, refl, refl, refl, refl, refl)
 
 -- 02, N5: "a place, 1 for the oldest message, and that message is taken out of the middle"; 31 for "a place that is 0 or beyond the messages waiting"
 pick_places :
-    ((pick three 1 2 0).answer ≡ Delivery.Refused 31) ×
-    ((pick three 1 2 1).answer ≡ Delivered Suc) ×
-    ((pick three 1 2 2).answer ≡ Delivered Pre) ×
-    ((pick three 1 2 3).answer ≡ Delivered (Ack (only (pos 5)))) ×
-    ((pick three 1 2 4).answer ≡ Delivery.Refused 31) ×
-    ((pick three 1 2 5).answer ≡ Delivery.Refused 31) ×
+    ((pick three 1 2 0).answer ≡ Err (numbered 31)) ×
+    ((pick three 1 2 1).answer ≡ Ok Suc) ×
+    ((pick three 1 2 2).answer ≡ Ok Pre) ×
+    ((pick three 1 2 3).answer ≡ Ok (Ack (only (pos 5)))) ×
+    ((pick three 1 2 4).answer ≡ Err (numbered 31)) ×
+    ((pick three 1 2 5).answer ≡ Err (numbered 31)) ×
     ((pick three 1 2 1).run.link 1 2 ≡ Pre ∷ Ack (only (pos 5)) ∷ []) ×
     ((pick three 1 2 2).run.link 1 2 ≡ Suc ∷ Ack (only (pos 5)) ∷ []) ×
     ((pick three 1 2 3).run.link 1 2 ≡ Suc ∷ Pre ∷ []) ×
@@ -333,16 +323,16 @@ pick_places = (refl, refl, refl, refl, refl, refl, refl, refl, refl, refl, refl,
 
 -- the same in words; a refusal "changes no lent byte or word"
 pick_in_words :
-    (pick_answer [] 2 2 0 ≡ Delivery.Refused 21) ×
-    (pick_answer (area (two 1 0 (root (pos 129) 0) idle [] [])) 2 2 0 ≡ Delivery.Refused 21) ×
-    (pick_answer (area (two 1 0 (root (pos 128) 0) idle [] [])) 2 2 0 ≡ Delivery.Refused 25) ×
-    (pick_answer (area (two 1 0 (root (pos 128) 0) idle [] [])) 2 1 0 ≡ Delivery.Refused 23) ×
-    (pick_answer (area (two 1 0 (root (pos 128) 1) idle [] [])) 2 1 0 ≡ Delivery.Refused 24) ×
-    (pick_answer (area (two 1 0 (root (pos 129) 0) idle (Ack (only (pos 0)) ∷ []) [])) 1 2 2 ≡ Delivery.Refused 21) ×
-    (pick_answer (area (two 1 0 (root (pos 128) 0) idle (Ack (only (pos 0)) ∷ []) [])) 1 2 2 ≡ Delivery.Refused 23) ×
-    (pick_answer (area (two 1 0 (root (pos 128) 1) idle (Ack (only (pos 0)) ∷ []) [])) 1 2 2 ≡ Delivery.Refused 31) ×
-    (pick_answer (area (two 1 0 (root (pos 128) 1) idle (Ack (only (pos 0)) ∷ []) [])) 1 2 1 ≡ Delivery.Refused 22) ×
-    (pick_answer (area (two 1 0 (root (pos 128) 1) idle (Suc ∷ []) [])) 1 2 1 ≡ Delivered Suc) ×
+    (pick_answer [] 2 2 0 ≡ Err (numbered 21)) ×
+    (pick_answer (area (two 1 0 (root (pos 129) 0) idle [] [])) 2 2 0 ≡ Err (numbered 21)) ×
+    (pick_answer (area (two 1 0 (root (pos 128) 0) idle [] [])) 2 2 0 ≡ Err (numbered 25)) ×
+    (pick_answer (area (two 1 0 (root (pos 128) 0) idle [] [])) 2 1 0 ≡ Err (numbered 23)) ×
+    (pick_answer (area (two 1 0 (root (pos 128) 1) idle [] [])) 2 1 0 ≡ Err (numbered 24)) ×
+    (pick_answer (area (two 1 0 (root (pos 129) 0) idle (Ack (only (pos 0)) ∷ []) [])) 1 2 2 ≡ Err (numbered 21)) ×
+    (pick_answer (area (two 1 0 (root (pos 128) 0) idle (Ack (only (pos 0)) ∷ []) [])) 1 2 2 ≡ Err (numbered 23)) ×
+    (pick_answer (area (two 1 0 (root (pos 128) 1) idle (Ack (only (pos 0)) ∷ []) [])) 1 2 2 ≡ Err (numbered 31)) ×
+    (pick_answer (area (two 1 0 (root (pos 128) 1) idle (Ack (only (pos 0)) ∷ []) [])) 1 2 1 ≡ Err (numbered 22)) ×
+    (pick_answer (area (two 1 0 (root (pos 128) 1) idle (Suc ∷ []) [])) 1 2 1 ≡ Ok Suc) ×
     (pick_area (area (two 1 0 (root (pos 129) 0) idle [] [])) 2 2 1 ≡ area (two 1 0 (root (pos 129) 0) idle [] [])) ×
     (pick_area (area (receiving idle (Ack (only (pos 0))))) 1 2 1 ≡ area (receiving idle (Ack (only (pos 0))))) ×
     (pick_area (area (receiving idle Suc)) 1 2 1 ≡ area (two 1 1 (root (pos 0) 1) (plain 1 0 1 (pos 0) 0 1) [] (Ack (counted (pos 1) (pos 1)) ∷ []))) ×
@@ -353,11 +343,11 @@ pick_in_words = (refl, refl, refl, refl, refl, refl, refl, refl, refl, refl, ref
 
 -- 25 "the pick names no link": "Two processes are neighbours if an arc joins them either way; a process with a loop is its own neighbour"
 links :
-    ((pick (receiving idle Suc) 1 1 1).answer ≡ Delivery.Refused 25) ×
-    ((pick (receiving idle Suc) 0 1 1).answer ≡ Delivery.Refused 25) ×
-    ((pick (receiving idle Suc) 1 3 1).answer ≡ Delivery.Refused 25) ×
-    ((pick (receiving idle Suc) 2 1 1).answer ≡ Delivery.Refused 24) ×
-    ((pick (start_run (waits_of (field_of loop)) 1 1) 1 1 1).answer ≡ Delivered Suc)
+    ((pick (receiving idle Suc) 1 1 1).answer ≡ Err (numbered 25)) ×
+    ((pick (receiving idle Suc) 0 1 1).answer ≡ Err (numbered 25)) ×
+    ((pick (receiving idle Suc) 1 3 1).answer ≡ Err (numbered 25)) ×
+    ((pick (receiving idle Suc) 2 1 1).answer ≡ Err (numbered 24)) ×
+    ((pick (start_run (waits_of (field_of loop)) 1 1) 1 1 1).answer ≡ Ok Suc)
 unfolding computing
 links = (refl, refl, refl, refl, refl)
 
@@ -365,59 +355,59 @@ links = (refl, refl, refl, refl, refl)
 -- first value out
 picks_refused_by_22 :
     -- num 0 loses 1
-    ((pick (receiving (plain 0 0 0 (pos 0) 1 1) (Ack (only (pos 0)))) 1 2 1).answer ≡ Delivered (Ack (only (pos 0)))) ×
-    ((pick (receiving (plain 0 0 0 (pos 0) 0 1) (Ack (only (pos 0)))) 1 2 1).answer ≡ Delivery.Refused 22) ×
+    ((pick (receiving (plain 0 0 0 (pos 0) 1 1) (Ack (only (pos 0)))) 1 2 1).answer ≡ Ok (Ack (only (pos 0)))) ×
+    ((pick (receiving (plain 0 0 0 (pos 0) 0 1) (Ack (only (pos 0)))) 1 2 1).answer ≡ Err (numbered 22)) ×
     -- num 256 and 257
-    ((pick (receiving (plain 0 0 0 (pos 0) 255 1) Pre) 1 2 1).answer ≡ Delivered Pre) ×
-    ((pick (receiving (plain 0 0 0 (pos 0) 256 1) Pre) 1 2 1).answer ≡ Delivery.Refused 22) ×
+    ((pick (receiving (plain 0 0 0 (pos 0) 255 1) Pre) 1 2 1).answer ≡ Ok Pre) ×
+    ((pick (receiving (plain 0 0 0 (pos 0) 256 1) Pre) 1 2 1).answer ≡ Err (numbered 22)) ×
     -- cs 128 and 129, −128 and −129
-    ((pick (receiving (plain 0 0 0 (pos 127) 2 1) (Ack (only (pos 1)))) 1 2 1).answer ≡ Delivered (Ack (only (pos 1)))) ×
-    ((pick (receiving (plain 0 0 0 (pos 128) 2 1) (Ack (only (pos 1)))) 1 2 1).answer ≡ Delivery.Refused 22) ×
-    ((pick (receiving (plain 0 0 0 (minus 127) 2 1) (Ack (only (minus 1)))) 1 2 1).answer ≡ Delivered (Ack (only (minus 1)))) ×
-    ((pick (receiving (plain 0 0 0 (minus 128) 2 1) (Ack (only (minus 1)))) 1 2 1).answer ≡ Delivery.Refused 22) ×
+    ((pick (receiving (plain 0 0 0 (pos 127) 2 1) (Ack (only (pos 1)))) 1 2 1).answer ≡ Ok (Ack (only (pos 1)))) ×
+    ((pick (receiving (plain 0 0 0 (pos 128) 2 1) (Ack (only (pos 1)))) 1 2 1).answer ≡ Err (numbered 22)) ×
+    ((pick (receiving (plain 0 0 0 (minus 127) 2 1) (Ack (only (minus 1)))) 1 2 1).answer ≡ Ok (Ack (only (minus 1)))) ×
+    ((pick (receiving (plain 0 0 0 (minus 128) 2 1) (Ack (only (minus 1)))) 1 2 1).answer ≡ Err (numbered 22)) ×
     -- the same where num becomes 0, so that it is the count sent
-    ((pick (receiving (plain 0 0 0 (pos 127) 1 1) (Ack (only (pos 1)))) 1 2 1).answer ≡ Delivered (Ack (only (pos 1)))) ×
-    ((pick (receiving (plain 0 0 0 (pos 128) 1 1) (Ack (only (pos 1)))) 1 2 1).answer ≡ Delivery.Refused 22) ×
-    ((pick (receiving (plain 0 0 0 (minus 127) 1 1) (Ack (only (minus 1)))) 1 2 1).answer ≡ Delivered (Ack (only (minus 1)))) ×
-    ((pick (receiving (plain 0 0 0 (minus 128) 1 1) (Ack (only (minus 1)))) 1 2 1).answer ≡ Delivery.Refused 22) ×
+    ((pick (receiving (plain 0 0 0 (pos 127) 1 1) (Ack (only (pos 1)))) 1 2 1).answer ≡ Ok (Ack (only (pos 1)))) ×
+    ((pick (receiving (plain 0 0 0 (pos 128) 1 1) (Ack (only (pos 1)))) 1 2 1).answer ≡ Err (numbered 22)) ×
+    ((pick (receiving (plain 0 0 0 (minus 127) 1 1) (Ack (only (minus 1)))) 1 2 1).answer ≡ Ok (Ack (only (minus 1)))) ×
+    ((pick (receiving (plain 0 0 0 (minus 128) 1 1) (Ack (only (minus 1)))) 1 2 1).answer ≡ Err (numbered 22)) ×
     -- the start's cs
-    ((pick (two 1 0 (root (pos 127) 2) idle [] (Ack (only (pos 1)) ∷ [])) 2 1 1).answer ≡ Delivered (Ack (only (pos 1)))) ×
-    ((pick (two 1 0 (root (pos 128) 2) idle [] (Ack (only (pos 1)) ∷ [])) 2 1 1).answer ≡ Delivery.Refused 22) ×
+    ((pick (two 1 0 (root (pos 127) 2) idle [] (Ack (only (pos 1)) ∷ [])) 2 1 1).answer ≡ Ok (Ack (only (pos 1)))) ×
+    ((pick (two 1 0 (root (pos 128) 2) idle [] (Ack (only (pos 1)) ∷ [])) 2 1 1).answer ≡ Err (numbered 22)) ×
     -- a fourth and a fifth message on the link from 2 to 1
-    ((pick (two 1 0 (root (pos 0) 1) (plain 1 0 1 (pos 0) 1 1) (Suc ∷ []) (replicate 3 Suc)) 1 2 1).answer ≡ Delivered Suc) ×
-    ((pick (two 1 0 (root (pos 0) 1) (plain 1 0 1 (pos 0) 1 1) (Suc ∷ []) (replicate 4 Suc)) 1 2 1).answer ≡ Delivery.Refused 22) ×
+    ((pick (two 1 0 (root (pos 0) 1) (plain 1 0 1 (pos 0) 1 1) (Suc ∷ []) (replicate 3 Suc)) 1 2 1).answer ≡ Ok Suc) ×
+    ((pick (two 1 0 (root (pos 0) 1) (plain 1 0 1 (pos 0) 1 1) (Suc ∷ []) (replicate 4 Suc)) 1 2 1).answer ≡ Err (numbered 22)) ×
     -- father 1 and father 0
-    ((pick (receiving (plain 1 0 1 (pos 0) 1 1) (Ack (only (pos 0)))) 1 2 1).answer ≡ Delivered (Ack (only (pos 0)))) ×
-    ((pick (receiving (plain 1 0 1 (pos 0) 1 0) (Ack (only (pos 0)))) 1 2 1).answer ≡ Delivery.Refused 22) ×
+    ((pick (receiving (plain 1 0 1 (pos 0) 1 1) (Ack (only (pos 0)))) 1 2 1).answer ≡ Ok (Ack (only (pos 0)))) ×
+    ((pick (receiving (plain 1 0 1 (pos 0) 1 0) (Ack (only (pos 0)))) 1 2 1).answer ≡ Err (numbered 22)) ×
     -- the 2,048th and the 2,049th delivery
-    ((pick (two 1 2047 (root (pos 0) 1) idle (Suc ∷ []) []) 1 2 1).answer ≡ Delivered Suc) ×
-    ((pick (two 1 2048 (root (pos 0) 1) idle (Suc ∷ []) []) 1 2 1).answer ≡ Delivery.Refused 22)
+    ((pick (two 1 2047 (root (pos 0) 1) idle (Suc ∷ []) []) 1 2 1).answer ≡ Ok Suc) ×
+    ((pick (two 1 2048 (root (pos 0) 1) idle (Suc ∷ []) []) 1 2 1).answer ≡ Err (numbered 22))
 unfolding computing
 picks_refused_by_22 = (refl, refl, refl, refl, refl, refl, refl, refl, refl, refl, refl, refl, refl, refl, refl, refl, refl, refl, refl, refl)
 
 -- ---- "Running on checks 21 first, then over, then spent, then 24, 22"; "k = 0 gives over if the run is over, else spent"
 
 running_in_order :
-    ((run_on 0 (two 1 0 (root (pos 129) 0) idle [] [])).answer ≡ Ran.Refused 21 0) ×
-    ((run_on 0 (two 1 0 (root (pos 128) 0) idle [] [])).answer ≡ Ran.Over 0) ×
-    ((run_on 5 (two 1 0 (root (pos 128) 0) idle [] [])).answer ≡ Ran.Over 0) ×
-    ((run_on 0 (two 1 0 (root (pos 128) 1) idle [] [])).answer ≡ Ran.Spent 0) ×
-    ((run_on 1 (two 1 0 (root (pos 128) 1) idle [] [])).answer ≡ Ran.Refused 24 0) ×
-    ((run_on 5 (two 1 0 (root (pos 129) 0) idle (Ack (only (pos 0)) ∷ []) [])).answer ≡ Ran.Refused 21 0) ×
-    ((run_on 5 (two 1 0 (root (pos 128) 0) idle (Ack (only (pos 0)) ∷ []) [])).answer ≡ Ran.Over 0) ×
-    ((run_on 0 (two 1 0 (root (pos 128) 1) idle (Ack (only (pos 0)) ∷ []) [])).answer ≡ Ran.Spent 0) ×
-    ((run_on 5 (two 1 0 (root (pos 128) 1) idle (Ack (only (pos 0)) ∷ []) [])).answer ≡ Ran.Refused 22 0) ×
-    ((run_on 1 (receiving idle Suc)).answer ≡ Ran.Spent 1) ×
-    ((run_on 2 (receiving idle Suc)).answer ≡ Ran.Over 2) ×
-    ((run_on 2048 (receiving idle Suc)).answer ≡ Ran.Over 2)
+    ((run_on 0 (two 1 0 (root (pos 129) 0) idle [] [])).answer ≡ halted 21 0) ×
+    ((run_on 0 (two 1 0 (root (pos 128) 0) idle [] [])).answer ≡ Ok (Ran.Over 0)) ×
+    ((run_on 5 (two 1 0 (root (pos 128) 0) idle [] [])).answer ≡ Ok (Ran.Over 0)) ×
+    ((run_on 0 (two 1 0 (root (pos 128) 1) idle [] [])).answer ≡ Ok (Ran.Spent 0)) ×
+    ((run_on 1 (two 1 0 (root (pos 128) 1) idle [] [])).answer ≡ halted 24 0) ×
+    ((run_on 5 (two 1 0 (root (pos 129) 0) idle (Ack (only (pos 0)) ∷ []) [])).answer ≡ halted 21 0) ×
+    ((run_on 5 (two 1 0 (root (pos 128) 0) idle (Ack (only (pos 0)) ∷ []) [])).answer ≡ Ok (Ran.Over 0)) ×
+    ((run_on 0 (two 1 0 (root (pos 128) 1) idle (Ack (only (pos 0)) ∷ []) [])).answer ≡ Ok (Ran.Spent 0)) ×
+    ((run_on 5 (two 1 0 (root (pos 128) 1) idle (Ack (only (pos 0)) ∷ []) [])).answer ≡ halted 22 0) ×
+    ((run_on 1 (receiving idle Suc)).answer ≡ Ok (Ran.Spent 1)) ×
+    ((run_on 2 (receiving idle Suc)).answer ≡ Ok (Ran.Over 2)) ×
+    ((run_on 2048 (receiving idle Suc)).answer ≡ Ok (Ran.Over 2))
 unfolding computing
 running_in_order = (refl, refl, refl, refl, refl, refl, refl, refl, refl, refl, refl, refl)
 
 -- "running on that meets 24 or 22 midway keeps its deliveries and gives their number"
 running_refused_midway :
-    ((run_on 9 (two 1 0 (root (pos 0) 2) idle (Suc ∷ []) [])).answer ≡ Ran.Refused 24 2) ×
-    ((run_on 9 (two 1 0 (root (pos 0) 2) idle (Suc ∷ Ack (only (pos 0)) ∷ []) [])).answer ≡ Ran.Refused 22 2) ×
-    ((run_on 9 (two 1 2047 (root (pos 0) 1) idle (Suc ∷ []) [])).answer ≡ Ran.Refused 22 1) ×
+    ((run_on 9 (two 1 0 (root (pos 0) 2) idle (Suc ∷ []) [])).answer ≡ halted 24 2) ×
+    ((run_on 9 (two 1 0 (root (pos 0) 2) idle (Suc ∷ Ack (only (pos 0)) ∷ []) [])).answer ≡ halted 22 2) ×
+    ((run_on 9 (two 1 2047 (root (pos 0) 1) idle (Suc ∷ []) [])).answer ≡ halted 22 1) ×
     (run_on_area 9 (area (two 1 0 (root (pos 0) 2) idle (Suc ∷ Ack (only (pos 0)) ∷ []) []))
     ≡ area (two 1 2 (root_with (pos 1) (pos 1) 1) (plain 1 0 1 (pos 0) 0 1) (Ack (only (pos 0)) ∷ []) []))
 unfolding computing
@@ -425,12 +415,12 @@ running_refused_midway = (refl, refl, refl, refl)
 
 -- the same in words
 running_in_words :
-    (run_on_answer 5 [] ≡ Ran.Refused 21 0) ×
-    (run_on_answer 0 (area (two 1 0 (root (pos 129) 0) idle [] [])) ≡ Ran.Refused 21 0) ×
-    (run_on_answer 0 (area (two 1 0 (root (pos 128) 0) idle [] [])) ≡ Ran.Over 0) ×
-    (run_on_answer 0 (area (two 1 0 (root (pos 128) 1) idle [] [])) ≡ Ran.Spent 0) ×
-    (run_on_answer 1 (area (two 1 0 (root (pos 128) 1) idle [] [])) ≡ Ran.Refused 24 0) ×
-    (run_on_answer 9 (area (two 1 0 (root (pos 0) 2) idle (Suc ∷ Ack (only (pos 0)) ∷ []) [])) ≡ Ran.Refused 22 2) ×
+    (run_on_answer 5 [] ≡ halted 21 0) ×
+    (run_on_answer 0 (area (two 1 0 (root (pos 129) 0) idle [] [])) ≡ halted 21 0) ×
+    (run_on_answer 0 (area (two 1 0 (root (pos 128) 0) idle [] [])) ≡ Ok (Ran.Over 0)) ×
+    (run_on_answer 0 (area (two 1 0 (root (pos 128) 1) idle [] [])) ≡ Ok (Ran.Spent 0)) ×
+    (run_on_answer 1 (area (two 1 0 (root (pos 128) 1) idle [] [])) ≡ halted 24 0) ×
+    (run_on_answer 9 (area (two 1 0 (root (pos 0) 2) idle (Suc ∷ Ack (only (pos 0)) ∷ []) [])) ≡ halted 22 2) ×
     (run_on_area 5 (area (two 1 0 (root (pos 129) 1) idle (Suc ∷ []) [])) ≡ area (two 1 0 (root (pos 129) 1) idle (Suc ∷ []) []))
 unfolding computing
 running_in_words = (refl, refl, refl, refl, refl, refl, refl)
@@ -454,34 +444,34 @@ running_order = (refl, refl, refl, refl, refl, refl, refl, refl, refl)
 -- ---- 02, N13: "It refuses seed 0 with 37, after 21", and before over and spent; with any other seed as running on: the deliveries, and the seed
 
 shuffled_in_order :
-    ((run_shuffled 0 0 (two 1 0 (root (pos 129) 0) idle [] [])).answer ≡ Ran.Refused 21 0) ×
-    ((run_shuffled 5 0 (two 1 0 (root (pos 129) 1) idle (Suc ∷ []) [])).answer ≡ Ran.Refused 21 0) ×
-    ((run_shuffled 0 0 (two 1 0 (root (pos 128) 0) idle [] [])).answer ≡ Ran.Refused 37 0) ×  -- the run is over
-    ((run_shuffled 5 0 (two 1 0 (root (pos 128) 0) idle [] [])).answer ≡ Ran.Refused 37 0) ×
-    ((run_shuffled 0 0 (two 1 0 (root (pos 128) 1) idle [] [])).answer ≡ Ran.Refused 37 0) ×  -- none is to be made
-    ((run_shuffled 5 0 (two 1 0 (root (pos 128) 1) idle [] [])).answer ≡ Ran.Refused 37 0) ×  -- nothing waits
-    ((run_shuffled 5 0 (two 1 0 (root (pos 128) 1) idle (Ack (only (pos 0)) ∷ []) [])).answer ≡ Ran.Refused 37 0) ×
-    ((run_shuffled 5 0 (receiving idle Suc)).answer ≡ Ran.Refused 37 0) ×
+    ((run_shuffled 0 0 (two 1 0 (root (pos 129) 0) idle [] [])).answer ≡ halted 21 0) ×
+    ((run_shuffled 5 0 (two 1 0 (root (pos 129) 1) idle (Suc ∷ []) [])).answer ≡ halted 21 0) ×
+    ((run_shuffled 0 0 (two 1 0 (root (pos 128) 0) idle [] [])).answer ≡ halted 37 0) ×  -- the run is over
+    ((run_shuffled 5 0 (two 1 0 (root (pos 128) 0) idle [] [])).answer ≡ halted 37 0) ×
+    ((run_shuffled 0 0 (two 1 0 (root (pos 128) 1) idle [] [])).answer ≡ halted 37 0) ×  -- none is to be made
+    ((run_shuffled 5 0 (two 1 0 (root (pos 128) 1) idle [] [])).answer ≡ halted 37 0) ×  -- nothing waits
+    ((run_shuffled 5 0 (two 1 0 (root (pos 128) 1) idle (Ack (only (pos 0)) ∷ []) [])).answer ≡ halted 37 0) ×
+    ((run_shuffled 5 0 (receiving idle Suc)).answer ≡ halted 37 0) ×
     ((run_shuffled 5 0 (receiving idle Suc)).run ≡ receiving idle Suc) ×
-    ((run_shuffled 0 1 (two 1 0 (root (pos 129) 0) idle [] [])).answer ≡ Ran.Refused 21 0) ×
-    ((run_shuffled 0 1 (two 1 0 (root (pos 128) 0) idle [] [])).answer ≡ Ran.Over 0) ×
-    ((run_shuffled 5 1 (two 1 0 (root (pos 128) 0) idle (Ack (only (pos 0)) ∷ []) [])).answer ≡ Ran.Over 0) ×
-    ((run_shuffled 0 1 (two 1 0 (root (pos 128) 1) idle [] [])).answer ≡ Ran.Spent 0) ×
-    ((run_shuffled 1 1 (two 1 0 (root (pos 128) 1) idle [] [])).answer ≡ Ran.Refused 24 0) ×
-    ((run_shuffled 5 1 (two 1 0 (root (pos 128) 1) idle (Ack (only (pos 0)) ∷ []) [])).answer ≡ Ran.Refused 22 0) ×
-    ((run_shuffled 1 1 (receiving idle Suc)).answer ≡ Ran.Spent 1) ×
-    ((run_shuffled 2 1 (receiving idle Suc)).answer ≡ Ran.Over 2) ×
-    ((run_shuffled 2048 4294967295 (receiving idle Suc)).answer ≡ Ran.Over 2)
+    ((run_shuffled 0 1 (two 1 0 (root (pos 129) 0) idle [] [])).answer ≡ halted 21 0) ×
+    ((run_shuffled 0 1 (two 1 0 (root (pos 128) 0) idle [] [])).answer ≡ Ok (Ran.Over 0)) ×
+    ((run_shuffled 5 1 (two 1 0 (root (pos 128) 0) idle (Ack (only (pos 0)) ∷ []) [])).answer ≡ Ok (Ran.Over 0)) ×
+    ((run_shuffled 0 1 (two 1 0 (root (pos 128) 1) idle [] [])).answer ≡ Ok (Ran.Spent 0)) ×
+    ((run_shuffled 1 1 (two 1 0 (root (pos 128) 1) idle [] [])).answer ≡ halted 24 0) ×
+    ((run_shuffled 5 1 (two 1 0 (root (pos 128) 1) idle (Ack (only (pos 0)) ∷ []) [])).answer ≡ halted 22 0) ×
+    ((run_shuffled 1 1 (receiving idle Suc)).answer ≡ Ok (Ran.Spent 1)) ×
+    ((run_shuffled 2 1 (receiving idle Suc)).answer ≡ Ok (Ran.Over 2)) ×
+    ((run_shuffled 2048 4294967295 (receiving idle Suc)).answer ≡ Ok (Ran.Over 2))
 unfolding computing
 shuffled_in_order = (refl, refl, refl, refl, refl, refl, refl, refl, refl, refl, refl, refl, refl, refl, refl, refl, refl, refl)
 
 -- 24 and 22 midway. With 22 two links have a message before the second delivery, the lower one from 2 to 1: from seed 1 the second state is odd
 -- and the other goes, from seed 2463534242 it is even
 shuffled_refused_midway :
-    ((run_shuffled 9 1 (two 1 0 (root (pos 0) 2) idle (Suc ∷ []) [])).answer ≡ Ran.Refused 24 2) ×
-    ((run_shuffled 9 1 (two 1 0 (root (pos 0) 2) idle (Suc ∷ Ack (only (pos 0)) ∷ []) [])).answer ≡ Ran.Refused 22 1) ×
-    ((run_shuffled 9 2463534242 (two 1 0 (root (pos 0) 2) idle (Suc ∷ Ack (only (pos 0)) ∷ []) [])).answer ≡ Ran.Refused 22 2) ×
-    ((run_shuffled 9 1 (two 1 2047 (root (pos 0) 1) idle (Suc ∷ []) [])).answer ≡ Ran.Refused 22 1) ×
+    ((run_shuffled 9 1 (two 1 0 (root (pos 0) 2) idle (Suc ∷ []) [])).answer ≡ halted 24 2) ×
+    ((run_shuffled 9 1 (two 1 0 (root (pos 0) 2) idle (Suc ∷ Ack (only (pos 0)) ∷ []) [])).answer ≡ halted 22 1) ×
+    ((run_shuffled 9 2463534242 (two 1 0 (root (pos 0) 2) idle (Suc ∷ Ack (only (pos 0)) ∷ []) [])).answer ≡ halted 22 2) ×
+    ((run_shuffled 9 1 (two 1 2047 (root (pos 0) 1) idle (Suc ∷ []) [])).answer ≡ halted 22 1) ×
     (shuffled_area 9 1 (area (two 1 0 (root (pos 0) 2) idle (Suc ∷ Ack (only (pos 0)) ∷ []) []))
     ≡ area (two 1 1 (root (pos 0) 2) (plain 1 0 1 (pos 0) 0 1) (Ack (only (pos 0)) ∷ []) (Ack (counted (pos 1) (pos 1)) ∷ [])))
 unfolding computing
@@ -489,14 +479,14 @@ shuffled_refused_midway = (refl, refl, refl, refl, refl)
 
 -- the same in words: with 21 and with 37 every word is kept
 shuffled_in_words :
-    (shuffled_answer 5 0 [] ≡ Ran.Refused 21 0) ×
-    (shuffled_answer 0 0 (area (two 1 0 (root (pos 129) 0) idle [] [])) ≡ Ran.Refused 21 0) ×
-    (shuffled_answer 0 0 (area (two 1 0 (root (pos 128) 0) idle [] [])) ≡ Ran.Refused 37 0) ×
-    (shuffled_answer 0 0 (area (two 1 0 (root (pos 128) 1) idle [] [])) ≡ Ran.Refused 37 0) ×
-    (shuffled_answer 0 1 (area (two 1 0 (root (pos 128) 0) idle [] [])) ≡ Ran.Over 0) ×
-    (shuffled_answer 0 1 (area (two 1 0 (root (pos 128) 1) idle [] [])) ≡ Ran.Spent 0) ×
-    (shuffled_answer 1 1 (area (two 1 0 (root (pos 128) 1) idle [] [])) ≡ Ran.Refused 24 0) ×
-    (shuffled_answer 9 1 (area (two 1 0 (root (pos 0) 2) idle (Suc ∷ Ack (only (pos 0)) ∷ []) [])) ≡ Ran.Refused 22 1) ×
+    (shuffled_answer 5 0 [] ≡ halted 21 0) ×
+    (shuffled_answer 0 0 (area (two 1 0 (root (pos 129) 0) idle [] [])) ≡ halted 21 0) ×
+    (shuffled_answer 0 0 (area (two 1 0 (root (pos 128) 0) idle [] [])) ≡ halted 37 0) ×
+    (shuffled_answer 0 0 (area (two 1 0 (root (pos 128) 1) idle [] [])) ≡ halted 37 0) ×
+    (shuffled_answer 0 1 (area (two 1 0 (root (pos 128) 0) idle [] [])) ≡ Ok (Ran.Over 0)) ×
+    (shuffled_answer 0 1 (area (two 1 0 (root (pos 128) 1) idle [] [])) ≡ Ok (Ran.Spent 0)) ×
+    (shuffled_answer 1 1 (area (two 1 0 (root (pos 128) 1) idle [] [])) ≡ halted 24 0) ×
+    (shuffled_answer 9 1 (area (two 1 0 (root (pos 0) 2) idle (Suc ∷ Ack (only (pos 0)) ∷ []) [])) ≡ halted 22 1) ×
     (shuffled_area 5 1 (area (two 1 0 (root (pos 129) 1) idle (Suc ∷ []) [])) ≡ area (two 1 0 (root (pos 129) 1) idle (Suc ∷ []) [])) ×
     (shuffled_area 5 0 (area (receiving idle Suc)) ≡ area (receiving idle Suc)) ×
     (shuffled_area 1 1 (area (receiving idle Suc)) ≡ pick_area (area (receiving idle Suc)) 1 2 1)
@@ -534,18 +524,18 @@ shuffled_order_is :
     (loads (run_shuffled 2 2463534242 everywhere).run ≡ 1 ∷ 0 ∷ 1 ∷ 0 ∷ []) ×
     (drawn 2064144800 (run_shuffled 2 2463534242 everywhere).run ≡ pair 2 1) ×  -- 0 of 2
     (loads (run_shuffled 3 2463534242 everywhere).run ≡ 0 ∷ 0 ∷ 1 ∷ 0 ∷ []) ×
-    ((run_shuffled 9 1 everywhere).answer ≡ Ran.Refused 24 4)
+    ((run_shuffled 9 1 everywhere).answer ≡ halted 24 4)
 unfolding computing
 shuffled_order_is = (refl, refl, refl, refl, refl, refl, refl, refl, refl, refl, refl, refl, refl, refl)
 
 -- ".. whose oldest message goes. Such a run ends as any other": the rows of marks and escape_lowest, with a seed
 shuffled_ends :
     ((run_shuffled 1 7 three).run.link 1 2 ≡ Pre ∷ Ack (only (pos 5)) ∷ []) ×
-    ((run_shuffled 4 1 (start_run (waits_of (field_of fork)) 1 1)).answer ≡ Ran.Over 4) ×
-    ((run_shuffled 3 1 (start_run (waits_of (field_of fork)) 1 1)).answer ≡ Ran.Spent 3) ×
-    (report (run_shuffled 8 1 (start_run (waits_of (field_of fork)) 1 1)).run ≡ Report.Over 4 Free (pos 2) 2 Held) ×
-    (report (run_shuffled 8 2463534242 (start_run (waits_of (field_of beside)) 1 1)).run ≡ Report.Over 6 Free (pos 2) 2 Returned) ×
-    (report (run_shuffled 10 1 (start_run (waits_of (field_of beside)) 2 1)).run ≡ Report.Over 10 Knot (pos 0) 0 Returned)
+    ((run_shuffled 4 1 (start_run (waits_of (field_of fork)) 1 1)).answer ≡ Ok (Ran.Over 4)) ×
+    ((run_shuffled 3 1 (start_run (waits_of (field_of fork)) 1 1)).answer ≡ Ok (Ran.Spent 3)) ×
+    (report (run_shuffled 8 1 (start_run (waits_of (field_of fork)) 1 1)).run ≡ told 4 Free (pos 2) 2 Held) ×
+    (report (run_shuffled 8 2463534242 (start_run (waits_of (field_of beside)) 1 1)).run ≡ told 6 Free (pos 2) 2 Returned) ×
+    (report (run_shuffled 10 1 (start_run (waits_of (field_of beside)) 2 1)).run ≡ told 10 Knot (pos 0) 0 Returned)
 unfolding computing
 shuffled_ends = (refl, refl, refl, refl, refl, refl)
 
@@ -553,41 +543,41 @@ shuffled_ends = (refl, refl, refl, refl, refl, refl)
 -- returned if the start's second sum is 0, else held" (02, N3)
 
 report_in_order :
-    (report (two 1 0 (root (pos 129) 1) idle [] []) ≡ Report.Refused 21) ×
-    (report (two 1 0 (root (pos 0) 1) idle [] []) ≡ Report.Refused 26) ×
-    (report (two 1 2 (root (pos 0) 0) idle [] []) ≡ Report.Over 2 Knot (pos 0) 0 Returned) ×
-    (report (two 1 2 (root_with (pos 1) (pos 1) 0) (plain 1 0 1 (pos 0) 0 1) [] []) ≡ Report.Over 2 Free (pos 1) 2 Held) ×
-    (report (two 1 2 (root (minus 1) 0) idle [] []) ≡ Report.Over 2 Free (minus 1) 0 Returned) ×
-    (report (two 1 2 (root_with (pos 0) (minus 1) 0) idle [] []) ≡ Report.Over 2 Knot (pos 0) 0 Held) ×
-    (report_answer [] ≡ Report.Refused 21) ×
-    (report_answer (area (two 1 0 (root (pos 129) 1) idle [] [])) ≡ Report.Refused 21) ×
-    (report_answer (area (two 1 0 (root (pos 0) 1) idle [] [])) ≡ Report.Refused 26) ×
-    (report_answer (area (two 1 2 (root (pos 0) 0) idle [] [])) ≡ Report.Over 2 Knot (pos 0) 0 Returned) ×
-    (report_answer (area (two 1 2 (root_with (pos 1) (pos 1) 0) (plain 1 0 1 (pos 0) 0 1) [] [])) ≡ Report.Over 2 Free (pos 1) 2 Held)
+    (report (two 1 0 (root (pos 129) 1) idle [] []) ≡ Err (numbered 21)) ×
+    (report (two 1 0 (root (pos 0) 1) idle [] []) ≡ Err (numbered 26)) ×
+    (report (two 1 2 (root (pos 0) 0) idle [] []) ≡ told 2 Knot (pos 0) 0 Returned) ×
+    (report (two 1 2 (root_with (pos 1) (pos 1) 0) (plain 1 0 1 (pos 0) 0 1) [] []) ≡ told 2 Free (pos 1) 2 Held) ×
+    (report (two 1 2 (root (minus 1) 0) idle [] []) ≡ told 2 Free (minus 1) 0 Returned) ×
+    (report (two 1 2 (root_with (pos 0) (minus 1) 0) idle [] []) ≡ told 2 Knot (pos 0) 0 Held) ×
+    (report_answer [] ≡ Err (numbered 21)) ×
+    (report_answer (area (two 1 0 (root (pos 129) 1) idle [] [])) ≡ Err (numbered 21)) ×
+    (report_answer (area (two 1 0 (root (pos 0) 1) idle [] [])) ≡ Err (numbered 26)) ×
+    (report_answer (area (two 1 2 (root (pos 0) 0) idle [] [])) ≡ told 2 Knot (pos 0) 0 Returned) ×
+    (report_answer (area (two 1 2 (root_with (pos 1) (pos 1) 0) (plain 1 0 1 (pos 0) 0 1) [] [])) ≡ told 2 Free (pos 1) 2 Held)
 unfolding computing
 report_in_order = (refl, refl, refl, refl, refl, refl, refl, refl, refl, refl, refl)
 
 -- 02, N4: "Verdicts are judged by the edition named at start": "Under 2 the rows "none" and "2-1" of 01 give verdict none with outside 0; the row
 -- "1-1" stays a knot." Row "2-1" is here 1-2 from process 2
 edition_verdicts :
-    (report (start_run (waits_of (field_of alone)) 1 1) ≡ Report.Over 0 Knot (pos 0) 0 Held) ×
-    (report (start_run (waits_of (field_of alone)) 1 2) ≡ Report.Over 0 Free (pos 0) 0 Held) ×
-    (report (run_on 8 (start_run (waits_of (field_of one)) 2 1)).run ≡ Report.Over 2 Knot (pos 0) 0 Held) ×
-    (report (run_on 8 (start_run (waits_of (field_of one)) 2 2)).run ≡ Report.Over 2 Free (pos 0) 0 Held) ×
-    (report (run_on 8 (start_run (waits_of (field_of loop)) 1 1)).run ≡ Report.Over 4 Knot (pos 0) 0 Returned) ×
-    (report (run_on 8 (start_run (waits_of (field_of loop)) 1 2)).run ≡ Report.Over 4 Knot (pos 0) 0 Returned) ×
-    (report (run_on 8 (start_run (waits_of (field_of fork)) 1 2)).run ≡ Report.Over 4 Free (pos 2) 2 Held) ×
-    (report_answer (set (area (two 2 2 idle (root (pos 0) 0) [] [])) 3 (pos 2)) ≡ Report.Over 2 Free (pos 0) 0 Returned) ×
-    (report_answer (set (area (two 1 2 (root (pos 0) 0) idle [] [])) 3 (pos 2)) ≡ Report.Over 2 Knot (pos 0) 0 Returned) ×
-    (report_answer (set (area (two 1 2 (root (pos 0) 0) idle [] [])) 3 (pos 3)) ≡ Report.Refused 21)
+    (report (start_run (waits_of (field_of alone)) 1 1) ≡ told 0 Knot (pos 0) 0 Held) ×
+    (report (start_run (waits_of (field_of alone)) 1 2) ≡ told 0 Free (pos 0) 0 Held) ×
+    (report (run_on 8 (start_run (waits_of (field_of one)) 2 1)).run ≡ told 2 Knot (pos 0) 0 Held) ×
+    (report (run_on 8 (start_run (waits_of (field_of one)) 2 2)).run ≡ told 2 Free (pos 0) 0 Held) ×
+    (report (run_on 8 (start_run (waits_of (field_of loop)) 1 1)).run ≡ told 4 Knot (pos 0) 0 Returned) ×
+    (report (run_on 8 (start_run (waits_of (field_of loop)) 1 2)).run ≡ told 4 Knot (pos 0) 0 Returned) ×
+    (report (run_on 8 (start_run (waits_of (field_of fork)) 1 2)).run ≡ told 4 Free (pos 2) 2 Held) ×
+    (report_answer (set (area (two 2 2 idle (root (pos 0) 0) [] [])) 3 (pos 2)) ≡ told 2 Free (pos 0) 0 Returned) ×
+    (report_answer (set (area (two 1 2 (root (pos 0) 0) idle [] [])) 3 (pos 2)) ≡ told 2 Knot (pos 0) 0 Returned) ×
+    (report_answer (set (area (two 1 2 (root (pos 0) 0) idle [] [])) 3 (pos 3)) ≡ Err (numbered 21))
 unfolding computing
 edition_verdicts = (refl, refl, refl, refl, refl, refl, refl, refl, refl, refl)
 
 -- 02, N3: "a payment is returned exactly if every process reachable from the start, itself included, waits for somebody": 1-2, 2-3, 3-2 from 1 is
 -- no knot and returned; the start has the number of those that wait for nobody, of 1-2, 1-3 it is 2
 marks :
-    (report (run_on 8 (start_run (waits_of (field_of beside)) 1 1)).run ≡ Report.Over 6 Free (pos 2) 2 Returned) ×
-    (report (run_on 10 (start_run (waits_of (field_of beside)) 2 1)).run ≡ Report.Over 10 Knot (pos 0) 0 Returned) ×
+    (report (run_on 8 (start_run (waits_of (field_of beside)) 1 1)).run ≡ told 6 Free (pos 2) 2 Returned) ×
+    (report (run_on 10 (start_run (waits_of (field_of beside)) 2 1)).run ≡ told 10 Knot (pos 0) 0 Returned) ×
     (all_wait (waits_of (field_of beside)) 1 ≡ true) × (sinks (waits_of (field_of beside)) 1 ≡ 0) ×
     (all_wait (waits_of (field_of fork)) 1 ≡ false) × (sinks (waits_of (field_of fork)) 1 ≡ 2) × (sinks (waits_of (field_of fork)) 3 ≡ 1) ×
     ((run_on 8 (start_run (waits_of (field_of fork)) 1 1)).run.process 1 ≡ root_with (pos 2) (pos 2) 0) ×
@@ -603,124 +593,124 @@ escape_lowest :
     (escape_of (two 1 2 (root (pos 0) 0) (plain 1 1 0 (pos 0) 0 1) [] []) ≡ 0) ×
     (lowest_outsider (waits_of (field_of fork)) 1 ≡ 2) ×  -- 1 waits for 2 and for 3
     (lowest_outsider (waits_of (field_of fork)) 2 ≡ 0) ×
-    (report (run_on 8 (start_run (waits_of (field_of fork)) 1 1)).run ≡ Report.Over 4 Free (pos 2) 2 Held)
+    (report (run_on 8 (start_run (waits_of (field_of fork)) 1 1)).run ≡ told 4 Free (pos 2) 2 Held)
 unfolding computing
 escape_lowest = (refl, refl, refl, refl, refl, refl, refl)
 
 -- ---- "reading one process's record checks 21, 25"
 
 record_in_order :
-    (read_record (two 1 0 (root (pos 129) 1) idle [] []) 0 ≡ Reading.Refused 21) ×
-    (read_record (two 1 0 (root (pos 128) 1) idle [] []) 0 ≡ Reading.Refused 25) ×
-    (read_record (two 1 0 (root (pos 128) 1) idle [] []) 3 ≡ Reading.Refused 25) ×
-    (read_record (two 1 0 (root (pos 128) 1) idle [] []) 1 ≡ Found (plain 1 1 0 (pos 128) 1 0)) ×
-    (read_record (two 1 0 (root (pos 128) 1) idle [] []) 2 ≡ Found (plain 0 0 0 (pos 0) 0 0)) ×
-    (read_answer [] 0 ≡ Reading.Refused 21) ×
-    (read_answer (area (two 1 0 (root (pos 129) 1) idle [] [])) 0 ≡ Reading.Refused 21) ×
-    (read_answer (area (two 1 0 (root (pos 128) 1) idle [] [])) 0 ≡ Reading.Refused 25) ×
-    (read_answer (area (two 1 0 (root (pos 128) 1) idle [] [])) 3 ≡ Reading.Refused 25) ×
-    (read_answer (area (two 1 0 (root (pos 128) 1) idle [] [])) 1 ≡ Found (plain 1 1 0 (pos 128) 1 0))
+    (read_record (two 1 0 (root (pos 129) 1) idle [] []) 0 ≡ Err (numbered 21)) ×
+    (read_record (two 1 0 (root (pos 128) 1) idle [] []) 0 ≡ Err (numbered 25)) ×
+    (read_record (two 1 0 (root (pos 128) 1) idle [] []) 3 ≡ Err (numbered 25)) ×
+    (read_record (two 1 0 (root (pos 128) 1) idle [] []) 1 ≡ Ok (plain 1 1 0 (pos 128) 1 0)) ×
+    (read_record (two 1 0 (root (pos 128) 1) idle [] []) 2 ≡ Ok (plain 0 0 0 (pos 0) 0 0)) ×
+    (read_answer [] 0 ≡ Err (numbered 21)) ×
+    (read_answer (area (two 1 0 (root (pos 129) 1) idle [] [])) 0 ≡ Err (numbered 21)) ×
+    (read_answer (area (two 1 0 (root (pos 128) 1) idle [] [])) 0 ≡ Err (numbered 25)) ×
+    (read_answer (area (two 1 0 (root (pos 128) 1) idle [] [])) 3 ≡ Err (numbered 25)) ×
+    (read_answer (area (two 1 0 (root (pos 128) 1) idle [] [])) 1 ≡ Ok (plain 1 1 0 (pos 128) 1 0))
 unfolding computing
 record_in_order = (refl, refl, refl, refl, refl, refl, refl, refl, refl, refl)
 
 -- ---- "One process's step checks 21, 25, 22": message, out-degree, in-degree, sender, record
 
 step_in_order :
-    (stepped (Ack (only (pos 0))) 0 0 0 (plain 0 0 0 (pos 129) 0 0) ≡ Stepped.Refused 21) ×
-    (stepped (Ack (only (pos 0))) 0 0 0 (plain 0 0 0 (pos 128) 0 0) ≡ Stepped.Refused 25) ×
-    (stepped (Ack (only (pos 0))) 0 0 129 (plain 0 0 0 (pos 128) 0 0) ≡ Stepped.Refused 25) ×
-    (stepped (Ack (only (pos 0))) 0 0 128 (plain 0 0 0 (pos 128) 0 0) ≡ Stepped.Refused 22) ×
-    (stepped (Ack (only (pos 0))) 0 0 1 (plain 0 0 0 (pos 128) 0 0) ≡ Stepped.Refused 22) ×
-    (stepped (Ack (only (pos 0))) 0 0 1 (plain 0 0 0 (pos 128) 1 3) ≡ Taken (plain 0 0 0 (pos 0) 0 3) Probes.Nothing (To 3 (only (pos 128))))
+    (stepped (Ack (only (pos 0))) 0 0 0 (plain 0 0 0 (pos 129) 0 0) ≡ Err (numbered 21)) ×
+    (stepped (Ack (only (pos 0))) 0 0 0 (plain 0 0 0 (pos 128) 0 0) ≡ Err (numbered 25)) ×
+    (stepped (Ack (only (pos 0))) 0 0 129 (plain 0 0 0 (pos 128) 0 0) ≡ Err (numbered 25)) ×
+    (stepped (Ack (only (pos 0))) 0 0 128 (plain 0 0 0 (pos 128) 0 0) ≡ Err (numbered 22)) ×
+    (stepped (Ack (only (pos 0))) 0 0 1 (plain 0 0 0 (pos 128) 0 0) ≡ Err (numbered 22)) ×
+    (stepped (Ack (only (pos 0))) 0 0 1 (plain 0 0 0 (pos 128) 1 3) ≡ taken (plain 0 0 0 (pos 0) 0 3) Probes.Nothing (acknowledgement 3 (only (pos 128))))
 unfolding computing
 step_in_order = (refl, refl, refl, refl, refl, refl)
 
 -- 21 "record or count out of range, father over 128 or a degree over 128": with sender 0 the last value in meets 25, the first value out 21
 step_ranges :
-    (stepped Suc 0 0 0 (plain 1 0 0 (pos 0) 0 0) ≡ Stepped.Refused 25) ×
-    (stepped Suc 0 0 0 (plain 2 0 0 (pos 0) 0 0) ≡ Stepped.Refused 21) ×
-    (stepped Suc 0 0 0 (plain 0 1 0 (pos 0) 0 0) ≡ Stepped.Refused 25) ×
-    (stepped Suc 0 0 0 (plain 0 2 0 (pos 0) 0 0) ≡ Stepped.Refused 21) ×
-    (stepped Suc 0 0 0 (plain 0 0 1 (pos 0) 0 0) ≡ Stepped.Refused 25) ×
-    (stepped Suc 0 0 0 (plain 0 0 2 (pos 0) 0 0) ≡ Stepped.Refused 21) ×
-    (stepped Suc 0 0 0 (plain 0 0 0 (pos 128) 0 0) ≡ Stepped.Refused 25) ×
-    (stepped Suc 0 0 0 (plain 0 0 0 (pos 129) 0 0) ≡ Stepped.Refused 21) ×
-    (stepped Suc 0 0 0 (plain 0 0 0 (minus 128) 0 0) ≡ Stepped.Refused 25) ×
-    (stepped Suc 0 0 0 (plain 0 0 0 (minus 129) 0 0) ≡ Stepped.Refused 21) ×
-    (stepped Suc 0 0 0 (plain 0 0 0 (pos 0) 256 0) ≡ Stepped.Refused 25) ×
-    (stepped Suc 0 0 0 (plain 0 0 0 (pos 0) 257 0) ≡ Stepped.Refused 21) ×
-    (stepped Suc 0 0 0 (plain 0 0 0 (pos 0) 0 128) ≡ Stepped.Refused 25) ×
-    (stepped Suc 0 0 0 (plain 0 0 0 (pos 0) 0 129) ≡ Stepped.Refused 21) ×
-    (stepped (Ack (only (pos 128))) 0 0 0 idle ≡ Stepped.Refused 25) ×
-    (stepped (Ack (only (pos 129))) 0 0 0 idle ≡ Stepped.Refused 21) ×
-    (stepped (Ack (only (minus 128))) 0 0 0 idle ≡ Stepped.Refused 25) ×
-    (stepped (Ack (only (minus 129))) 0 0 0 idle ≡ Stepped.Refused 21) ×
-    (stepped Suc 128 0 0 idle ≡ Stepped.Refused 25) ×
-    (stepped Suc 129 0 0 idle ≡ Stepped.Refused 21) ×
-    (stepped Suc 0 128 0 idle ≡ Stepped.Refused 25) ×
-    (stepped Suc 0 129 0 idle ≡ Stepped.Refused 21)
+    (stepped Suc 0 0 0 (plain 1 0 0 (pos 0) 0 0) ≡ Err (numbered 25)) ×
+    (stepped Suc 0 0 0 (plain 2 0 0 (pos 0) 0 0) ≡ Err (numbered 21)) ×
+    (stepped Suc 0 0 0 (plain 0 1 0 (pos 0) 0 0) ≡ Err (numbered 25)) ×
+    (stepped Suc 0 0 0 (plain 0 2 0 (pos 0) 0 0) ≡ Err (numbered 21)) ×
+    (stepped Suc 0 0 0 (plain 0 0 1 (pos 0) 0 0) ≡ Err (numbered 25)) ×
+    (stepped Suc 0 0 0 (plain 0 0 2 (pos 0) 0 0) ≡ Err (numbered 21)) ×
+    (stepped Suc 0 0 0 (plain 0 0 0 (pos 128) 0 0) ≡ Err (numbered 25)) ×
+    (stepped Suc 0 0 0 (plain 0 0 0 (pos 129) 0 0) ≡ Err (numbered 21)) ×
+    (stepped Suc 0 0 0 (plain 0 0 0 (minus 128) 0 0) ≡ Err (numbered 25)) ×
+    (stepped Suc 0 0 0 (plain 0 0 0 (minus 129) 0 0) ≡ Err (numbered 21)) ×
+    (stepped Suc 0 0 0 (plain 0 0 0 (pos 0) 256 0) ≡ Err (numbered 25)) ×
+    (stepped Suc 0 0 0 (plain 0 0 0 (pos 0) 257 0) ≡ Err (numbered 21)) ×
+    (stepped Suc 0 0 0 (plain 0 0 0 (pos 0) 0 128) ≡ Err (numbered 25)) ×
+    (stepped Suc 0 0 0 (plain 0 0 0 (pos 0) 0 129) ≡ Err (numbered 21)) ×
+    (stepped (Ack (only (pos 128))) 0 0 0 idle ≡ Err (numbered 25)) ×
+    (stepped (Ack (only (pos 129))) 0 0 0 idle ≡ Err (numbered 21)) ×
+    (stepped (Ack (only (minus 128))) 0 0 0 idle ≡ Err (numbered 25)) ×
+    (stepped (Ack (only (minus 129))) 0 0 0 idle ≡ Err (numbered 21)) ×
+    (stepped Suc 128 0 0 idle ≡ Err (numbered 25)) ×
+    (stepped Suc 129 0 0 idle ≡ Err (numbered 21)) ×
+    (stepped Suc 0 128 0 idle ≡ Err (numbered 25)) ×
+    (stepped Suc 0 129 0 idle ≡ Err (numbered 21))
 unfolding computing
 step_ranges = (refl, refl, refl, refl, refl, refl, refl, refl, refl, refl, refl, refl, refl, refl, refl, refl, refl, refl, refl, refl, refl, refl)
 
 -- 22 by each reason that a step has, after the last value in; "A probe kind is named whenever its flag is newly set, also at degree 0"
 steps_refused_by_22 :
-    (stepped Suc 0 0 1 idle ≡ Taken (plain 1 0 1 (pos 0) 0 1) Sucs (To 1 (counted (pos 1) (pos 1)))) ×
-    (stepped Pre 0 128 128 idle ≡ Taken (plain 0 1 0 (pos 0) 128 128) Pres Reply.Nothing) ×
-    (stepped Suc 1 0 2 (plain 0 0 0 (pos 5) 255 3) ≡ Taken (plain 1 0 1 (pos 1) 256 3) Sucs (To 2 (only (pos 5)))) ×
-    (stepped Suc 1 0 2 (plain 0 0 0 (pos 5) 256 3) ≡ Stepped.Refused 22) ×
-    (stepped (Ack (only (pos 1))) 0 0 2 (plain 0 0 0 (pos 127) 2 3) ≡ Taken (plain 0 0 0 (pos 128) 1 3) Probes.Nothing Reply.Nothing) ×
-    (stepped (Ack (only (pos 1))) 0 0 2 (plain 0 0 0 (pos 128) 2 3) ≡ Stepped.Refused 22) ×
-    (stepped (Ack (only (minus 1))) 0 0 2 (plain 0 0 0 (minus 127) 2 3) ≡ Taken (plain 0 0 0 (minus 128) 1 3) Probes.Nothing Reply.Nothing) ×
-    (stepped (Ack (only (minus 1))) 0 0 2 (plain 0 0 0 (minus 128) 2 3) ≡ Stepped.Refused 22) ×
-    (stepped (Ack (only (pos 1))) 0 0 2 (plain 0 0 0 (pos 127) 1 3) ≡ Taken (plain 0 0 0 (pos 0) 0 3) Probes.Nothing (To 3 (only (pos 128)))) ×
-    (stepped (Ack (only (pos 1))) 0 0 2 (plain 0 0 0 (pos 128) 1 3) ≡ Stepped.Refused 22) ×
-    (stepped (Ack (only (pos 1))) 0 0 2 (plain 0 0 0 (pos 0) 1 0) ≡ Stepped.Refused 22) ×
-    (stepped (Ack (only (pos 1))) 0 0 2 (plain 0 0 0 (pos 0) 0 3) ≡ Stepped.Refused 22)
+    (stepped Suc 0 0 1 idle ≡ taken (plain 1 0 1 (pos 0) 0 1) Sucs (acknowledgement 1 (counted (pos 1) (pos 1)))) ×
+    (stepped Pre 0 128 128 idle ≡ taken (plain 0 1 0 (pos 0) 128 128) Pres None) ×
+    (stepped Suc 1 0 2 (plain 0 0 0 (pos 5) 255 3) ≡ taken (plain 1 0 1 (pos 1) 256 3) Sucs (acknowledgement 2 (only (pos 5)))) ×
+    (stepped Suc 1 0 2 (plain 0 0 0 (pos 5) 256 3) ≡ Err (numbered 22)) ×
+    (stepped (Ack (only (pos 1))) 0 0 2 (plain 0 0 0 (pos 127) 2 3) ≡ taken (plain 0 0 0 (pos 128) 1 3) Probes.Nothing None) ×
+    (stepped (Ack (only (pos 1))) 0 0 2 (plain 0 0 0 (pos 128) 2 3) ≡ Err (numbered 22)) ×
+    (stepped (Ack (only (minus 1))) 0 0 2 (plain 0 0 0 (minus 127) 2 3) ≡ taken (plain 0 0 0 (minus 128) 1 3) Probes.Nothing None) ×
+    (stepped (Ack (only (minus 1))) 0 0 2 (plain 0 0 0 (minus 128) 2 3) ≡ Err (numbered 22)) ×
+    (stepped (Ack (only (pos 1))) 0 0 2 (plain 0 0 0 (pos 127) 1 3) ≡ taken (plain 0 0 0 (pos 0) 0 3) Probes.Nothing (acknowledgement 3 (only (pos 128)))) ×
+    (stepped (Ack (only (pos 1))) 0 0 2 (plain 0 0 0 (pos 128) 1 3) ≡ Err (numbered 22)) ×
+    (stepped (Ack (only (pos 1))) 0 0 2 (plain 0 0 0 (pos 0) 1 0) ≡ Err (numbered 22)) ×
+    (stepped (Ack (only (pos 1))) 0 0 2 (plain 0 0 0 (pos 0) 0 3) ≡ Err (numbered 22))
 unfolding computing
 steps_refused_by_22 = (refl, refl, refl, refl, refl, refl, refl, refl, refl, refl, refl, refl)
 
 -- 02, N3: "Such a process adds 1 when it first becomes succeeding", after rule 1; "passed on and zeroed with cs"; "it and the second count have cs's
 -- range": 21 and 22 cover them
 second_numbers :
-    (stepped Suc 1 0 1 idle ≡ Taken (plain 1 0 1 (pos 1) 1 1) Sucs Reply.Nothing) ×  -- a process that waits for somebody
-    (stepped Suc 0 0 2 (process_of 0 0 0 (pos 5) 1 3 (pos 7)) ≡ Taken (process_of 1 0 1 (pos 1) 1 3 (pos 1)) Sucs (To 2 (counted (pos 5) (pos 7)))) ×
-    (stepped Suc 0 0 2 (process_of 1 0 1 (pos 5) 1 3 (pos 7)) ≡ Taken (process_of 1 0 1 (pos 0) 1 3 (pos 0)) Probes.Nothing (To 2 (counted (pos 5) (pos 7)))) ×
-    (stepped Pre 0 0 2 (process_of 1 0 1 (pos 1) 0 3 (pos 1)) ≡ Taken (plain 1 1 0 (pos 0) 0 2) Pres (To 2 (counted (pos 0) (pos 1)))) ×
+    (stepped Suc 1 0 1 idle ≡ taken (plain 1 0 1 (pos 1) 1 1) Sucs None) ×  -- a process that waits for somebody
+    (stepped Suc 0 0 2 (process_of 0 0 0 (pos 5) 1 3 (pos 7)) ≡ taken (process_of 1 0 1 (pos 1) 1 3 (pos 1)) Sucs (acknowledgement 2 (counted (pos 5) (pos 7)))) ×
+    (stepped Suc 0 0 2 (process_of 1 0 1 (pos 5) 1 3 (pos 7)) ≡ taken (process_of 1 0 1 (pos 0) 1 3 (pos 0)) Probes.Nothing (acknowledgement 2 (counted (pos 5) (pos 7)))) ×
+    (stepped Pre 0 0 2 (process_of 1 0 1 (pos 1) 0 3 (pos 1)) ≡ taken (plain 1 1 0 (pos 0) 0 2) Pres (acknowledgement 2 (counted (pos 0) (pos 1)))) ×
     (stepped (Ack (counted (pos 1) (pos 2))) 0 0 2 (process_of 1 0 1 (pos 3) 2 3 (pos 4))
-    ≡ Taken (process_of 1 0 1 (pos 4) 1 3 (pos 6)) Probes.Nothing Reply.Nothing) ×
-    (start_stepped (Ack (counted (pos 1) (pos 2))) 2 (root_with (pos 3) (pos 4) 1) ≡ Taken (root_with (pos 4) (pos 6) 0) Probes.Nothing Reply.Nothing) ×
-    (start_stepped Pre 2 (root_with (pos 3) (pos 4) 1) ≡ Taken (root_with (pos 3) (pos 4) 1) Probes.Nothing (To 2 (only (pos 0)))) ×
-    (stepped Suc 0 0 0 (process_of 0 0 0 (pos 0) 0 0 (pos 128)) ≡ Stepped.Refused 25) ×
-    (stepped Suc 0 0 0 (process_of 0 0 0 (pos 0) 0 0 (pos 129)) ≡ Stepped.Refused 21) ×
-    (stepped Suc 0 0 0 (process_of 0 0 0 (pos 0) 0 0 (minus 128)) ≡ Stepped.Refused 25) ×
-    (stepped Suc 0 0 0 (process_of 0 0 0 (pos 0) 0 0 (minus 129)) ≡ Stepped.Refused 21) ×
-    (stepped (Ack (counted (pos 0) (pos 128))) 0 0 0 idle ≡ Stepped.Refused 25) ×
-    (stepped (Ack (counted (pos 0) (pos 129))) 0 0 0 idle ≡ Stepped.Refused 21) ×
-    (stepped (Ack (counted (pos 0) (minus 128))) 0 0 0 idle ≡ Stepped.Refused 25) ×
-    (stepped (Ack (counted (pos 0) (minus 129))) 0 0 0 idle ≡ Stepped.Refused 21) ×
-    (stepped Suc 0 0 1 (process_of 0 0 0 (pos 0) 0 0 (pos 127)) ≡ Taken (plain 1 0 1 (pos 0) 0 1) Sucs (To 1 (counted (pos 1) (pos 128)))) ×
-    (stepped Suc 0 0 1 (process_of 0 0 0 (pos 0) 0 0 (pos 128)) ≡ Stepped.Refused 22) ×
-    (stepped (Ack (counted (pos 0) (pos 1))) 0 0 1 (process_of 1 0 1 (pos 0) 2 1 (pos 128)) ≡ Stepped.Refused 22) ×
-    (stepped (Ack (counted (pos 0) (minus 1))) 0 0 1 (process_of 1 0 1 (pos 0) 2 1 (minus 128)) ≡ Stepped.Refused 22) ×
-    (start_stepped (Ack (counted (pos 0) (pos 1))) 2 (root_with (pos 0) (pos 128) 1) ≡ Stepped.Refused 22)
+    ≡ taken (process_of 1 0 1 (pos 4) 1 3 (pos 6)) Probes.Nothing None) ×
+    (start_stepped (Ack (counted (pos 1) (pos 2))) 2 (root_with (pos 3) (pos 4) 1) ≡ taken (root_with (pos 4) (pos 6) 0) Probes.Nothing None) ×
+    (start_stepped Pre 2 (root_with (pos 3) (pos 4) 1) ≡ taken (root_with (pos 3) (pos 4) 1) Probes.Nothing (acknowledgement 2 (only (pos 0)))) ×
+    (stepped Suc 0 0 0 (process_of 0 0 0 (pos 0) 0 0 (pos 128)) ≡ Err (numbered 25)) ×
+    (stepped Suc 0 0 0 (process_of 0 0 0 (pos 0) 0 0 (pos 129)) ≡ Err (numbered 21)) ×
+    (stepped Suc 0 0 0 (process_of 0 0 0 (pos 0) 0 0 (minus 128)) ≡ Err (numbered 25)) ×
+    (stepped Suc 0 0 0 (process_of 0 0 0 (pos 0) 0 0 (minus 129)) ≡ Err (numbered 21)) ×
+    (stepped (Ack (counted (pos 0) (pos 128))) 0 0 0 idle ≡ Err (numbered 25)) ×
+    (stepped (Ack (counted (pos 0) (pos 129))) 0 0 0 idle ≡ Err (numbered 21)) ×
+    (stepped (Ack (counted (pos 0) (minus 128))) 0 0 0 idle ≡ Err (numbered 25)) ×
+    (stepped (Ack (counted (pos 0) (minus 129))) 0 0 0 idle ≡ Err (numbered 21)) ×
+    (stepped Suc 0 0 1 (process_of 0 0 0 (pos 0) 0 0 (pos 127)) ≡ taken (plain 1 0 1 (pos 0) 0 1) Sucs (acknowledgement 1 (counted (pos 1) (pos 128)))) ×
+    (stepped Suc 0 0 1 (process_of 0 0 0 (pos 0) 0 0 (pos 128)) ≡ Err (numbered 22)) ×
+    (stepped (Ack (counted (pos 0) (pos 1))) 0 0 1 (process_of 1 0 1 (pos 0) 2 1 (pos 128)) ≡ Err (numbered 22)) ×
+    (stepped (Ack (counted (pos 0) (minus 1))) 0 0 1 (process_of 1 0 1 (pos 0) 2 1 (minus 128)) ≡ Err (numbered 22)) ×
+    (start_stepped (Ack (counted (pos 0) (pos 1))) 2 (root_with (pos 0) (pos 128) 1) ≡ Err (numbered 22))
 unfolding computing
 second_numbers = (refl, refl, refl, refl, refl, refl, refl, refl, refl, refl, refl, refl, refl, refl, refl, refl, refl, refl, refl, refl)
 
 -- the start's step, of which only 22 is asked: "it acknowledges with 0"; "cs gains c, num loses 1"
 start_steps :
-    (start_stepped Suc 2 (root (pos 0) 1) ≡ Taken (root (pos 0) 1) Probes.Nothing (To 2 (only (pos 0)))) ×
-    (start_stepped (Ack (only (pos 1))) 2 (root (pos 127) 1) ≡ Taken (root (pos 128) 0) Probes.Nothing Reply.Nothing) ×
-    (start_stepped (Ack (only (pos 1))) 2 (root (pos 128) 1) ≡ Stepped.Refused 22) ×
-    (start_stepped (Ack (only (minus 1))) 2 (root (minus 128) 1) ≡ Stepped.Refused 22) ×
-    (start_stepped (Ack (only (pos 0))) 2 (root (pos 0) 0) ≡ Stepped.Refused 22)
+    (start_stepped Suc 2 (root (pos 0) 1) ≡ taken (root (pos 0) 1) Probes.Nothing (acknowledgement 2 (only (pos 0)))) ×
+    (start_stepped (Ack (only (pos 1))) 2 (root (pos 127) 1) ≡ taken (root (pos 128) 0) Probes.Nothing None) ×
+    (start_stepped (Ack (only (pos 1))) 2 (root (pos 128) 1) ≡ Err (numbered 22)) ×
+    (start_stepped (Ack (only (minus 1))) 2 (root (minus 128) 1) ≡ Err (numbered 22)) ×
+    (start_stepped (Ack (only (pos 0))) 2 (root (pos 0) 0) ≡ Err (numbered 22))
 unfolding computing
 start_steps = (refl, refl, refl, refl, refl)
 
 -- "A host may lend one process record with one message and have it updated by the step"; a refusal changes nothing
 lent_records :
-    (lent_answer (stepped Suc 0 0 1 idle) ≡ Lent.Taken Sucs (To 1 (counted (pos 1) (pos 1)))) ×
+    (lent_answer (stepped Suc 0 0 1 idle) ≡ Ok (sending Sucs (acknowledgement 1 (counted (pos 1) (pos 1))))) ×
     (lent_record idle (stepped Suc 0 0 1 idle) ≡ plain 1 0 1 (pos 0) 0 1) ×
-    (lent_answer (stepped Suc 0 0 0 (plain 0 0 0 (pos 5) 7 0)) ≡ Lent.Refused 25) ×
+    (lent_answer (stepped Suc 0 0 0 (plain 0 0 0 (pos 5) 7 0)) ≡ Err (numbered 25)) ×
     (lent_record (plain 0 0 0 (pos 5) 7 0) (stepped Suc 0 0 0 (plain 0 0 0 (pos 5) 7 0)) ≡ plain 0 0 0 (pos 5) 7 0)
 unfolding computing
 lent_records = (refl, refl, refl, refl)
@@ -728,103 +718,103 @@ lent_records = (refl, refl, refl, refl)
 -- ---- 21 "run area not well formed": the ranges of "Run and links". Reading process 0 meets 25 where the run is well formed, 21 where it is not
 
 ranges :
-    (read_record (two 1 0 (root (pos 0) 1) (plain 1 0 0 (pos 0) 0 0) [] []) 0 ≡ Reading.Refused 25) ×
-    (read_record (two 1 0 (root (pos 0) 1) (plain 2 0 0 (pos 0) 0 0) [] []) 0 ≡ Reading.Refused 21) ×
-    (read_record (two 1 0 (root (pos 0) 1) (plain 0 1 0 (pos 0) 0 0) [] []) 0 ≡ Reading.Refused 25) ×
-    (read_record (two 1 0 (root (pos 0) 1) (plain 0 2 0 (pos 0) 0 0) [] []) 0 ≡ Reading.Refused 21) ×
-    (read_record (two 1 0 (root (pos 0) 1) (plain 0 0 1 (pos 0) 0 0) [] []) 0 ≡ Reading.Refused 25) ×
-    (read_record (two 1 0 (root (pos 0) 1) (plain 0 0 2 (pos 0) 0 0) [] []) 0 ≡ Reading.Refused 21) ×
-    (read_record (two 1 0 (root (pos 0) 1) (plain 0 0 0 (pos 128) 0 0) [] []) 0 ≡ Reading.Refused 25) ×
-    (read_record (two 1 0 (root (pos 0) 1) (plain 0 0 0 (pos 129) 0 0) [] []) 0 ≡ Reading.Refused 21) ×
-    (read_record (two 1 0 (root (pos 0) 1) (plain 0 0 0 (minus 128) 0 0) [] []) 0 ≡ Reading.Refused 25) ×
-    (read_record (two 1 0 (root (pos 0) 1) (plain 0 0 0 (minus 129) 0 0) [] []) 0 ≡ Reading.Refused 21) ×
-    (read_record (two 1 0 (root (pos 0) 1) (plain 0 0 0 (pos 0) 256 0) [] []) 0 ≡ Reading.Refused 25) ×
-    (read_record (two 1 0 (root (pos 0) 1) (plain 0 0 0 (pos 0) 257 0) [] []) 0 ≡ Reading.Refused 21) ×
+    (read_record (two 1 0 (root (pos 0) 1) (plain 1 0 0 (pos 0) 0 0) [] []) 0 ≡ Err (numbered 25)) ×
+    (read_record (two 1 0 (root (pos 0) 1) (plain 2 0 0 (pos 0) 0 0) [] []) 0 ≡ Err (numbered 21)) ×
+    (read_record (two 1 0 (root (pos 0) 1) (plain 0 1 0 (pos 0) 0 0) [] []) 0 ≡ Err (numbered 25)) ×
+    (read_record (two 1 0 (root (pos 0) 1) (plain 0 2 0 (pos 0) 0 0) [] []) 0 ≡ Err (numbered 21)) ×
+    (read_record (two 1 0 (root (pos 0) 1) (plain 0 0 1 (pos 0) 0 0) [] []) 0 ≡ Err (numbered 25)) ×
+    (read_record (two 1 0 (root (pos 0) 1) (plain 0 0 2 (pos 0) 0 0) [] []) 0 ≡ Err (numbered 21)) ×
+    (read_record (two 1 0 (root (pos 0) 1) (plain 0 0 0 (pos 128) 0 0) [] []) 0 ≡ Err (numbered 25)) ×
+    (read_record (two 1 0 (root (pos 0) 1) (plain 0 0 0 (pos 129) 0 0) [] []) 0 ≡ Err (numbered 21)) ×
+    (read_record (two 1 0 (root (pos 0) 1) (plain 0 0 0 (minus 128) 0 0) [] []) 0 ≡ Err (numbered 25)) ×
+    (read_record (two 1 0 (root (pos 0) 1) (plain 0 0 0 (minus 129) 0 0) [] []) 0 ≡ Err (numbered 21)) ×
+    (read_record (two 1 0 (root (pos 0) 1) (plain 0 0 0 (pos 0) 256 0) [] []) 0 ≡ Err (numbered 25)) ×
+    (read_record (two 1 0 (root (pos 0) 1) (plain 0 0 0 (pos 0) 257 0) [] []) 0 ≡ Err (numbered 21)) ×
     -- "every father is 0 or a neighbour": 1 is a neighbour of 2, 2 is not
-    (read_record (two 1 0 (root (pos 0) 1) (plain 0 0 0 (pos 0) 0 1) [] []) 0 ≡ Reading.Refused 25) ×
-    (read_record (two 1 0 (root (pos 0) 1) (plain 0 0 0 (pos 0) 0 2) [] []) 0 ≡ Reading.Refused 21) ×
+    (read_record (two 1 0 (root (pos 0) 1) (plain 0 0 0 (pos 0) 0 1) [] []) 0 ≡ Err (numbered 25)) ×
+    (read_record (two 1 0 (root (pos 0) 1) (plain 0 0 0 (pos 0) 0 2) [] []) 0 ≡ Err (numbered 21)) ×
     -- "the start is 1 to N"
-    (read_record (two 0 0 (root (pos 0) 1) idle [] []) 0 ≡ Reading.Refused 21) ×
-    (read_record (two 2 0 (root (pos 0) 1) idle [] []) 0 ≡ Reading.Refused 25) ×
-    (read_record (two 3 0 (root (pos 0) 1) idle [] []) 0 ≡ Reading.Refused 21) ×
+    (read_record (two 0 0 (root (pos 0) 1) idle [] []) 0 ≡ Err (numbered 21)) ×
+    (read_record (two 2 0 (root (pos 0) 1) idle [] []) 0 ≡ Err (numbered 25)) ×
+    (read_record (two 3 0 (root (pos 0) 1) idle [] []) 0 ≡ Err (numbered 21)) ×
     -- "counts accepted deliveries, 0 to 2048"
-    (read_record (two 1 2048 (root (pos 0) 1) idle [] []) 0 ≡ Reading.Refused 25) ×
-    (read_record (two 1 2049 (root (pos 0) 1) idle [] []) 0 ≡ Reading.Refused 21) ×
+    (read_record (two 1 2048 (root (pos 0) 1) idle [] []) 0 ≡ Err (numbered 25)) ×
+    (read_record (two 1 2049 (root (pos 0) 1) idle [] []) 0 ≡ Err (numbered 21)) ×
     -- "every link holds at most 4 messages of the three kinds with counts in range"
-    (read_record (two 1 0 (root (pos 0) 1) idle (replicate 4 Suc) (replicate 4 Pre)) 0 ≡ Reading.Refused 25) ×
-    (read_record (two 1 0 (root (pos 0) 1) idle (replicate 5 Suc) []) 0 ≡ Reading.Refused 21) ×
-    (read_record (two 1 0 (root (pos 0) 1) idle [] (replicate 5 Pre)) 0 ≡ Reading.Refused 21)
+    (read_record (two 1 0 (root (pos 0) 1) idle (replicate 4 Suc) (replicate 4 Pre)) 0 ≡ Err (numbered 25)) ×
+    (read_record (two 1 0 (root (pos 0) 1) idle (replicate 5 Suc) []) 0 ≡ Err (numbered 21)) ×
+    (read_record (two 1 0 (root (pos 0) 1) idle [] (replicate 5 Pre)) 0 ≡ Err (numbered 21))
 unfolding computing
 ranges = (refl, refl, refl, refl, refl, refl, refl, refl, refl, refl, refl, refl, refl, refl, refl, refl, refl, refl, refl, refl, refl, refl)
 
 -- "The count may be negative (−128 to 128)", in a waiting acknowledgement, and the second count too; the second sum of a process (02, N3)
 count_ranges :
-    (read_record (receiving idle (Ack (only (pos 128)))) 0 ≡ Reading.Refused 25) ×
-    (read_record (receiving idle (Ack (only (pos 129)))) 0 ≡ Reading.Refused 21) ×
-    (read_record (receiving idle (Ack (only (minus 128)))) 0 ≡ Reading.Refused 25) ×
-    (read_record (receiving idle (Ack (only (minus 129)))) 0 ≡ Reading.Refused 21) ×
-    (read_record (receiving idle (Ack (counted (pos 0) (pos 128)))) 0 ≡ Reading.Refused 25) ×
-    (read_record (receiving idle (Ack (counted (pos 0) (pos 129)))) 0 ≡ Reading.Refused 21) ×
-    (read_record (receiving idle (Ack (counted (pos 0) (minus 128)))) 0 ≡ Reading.Refused 25) ×
-    (read_record (receiving idle (Ack (counted (pos 0) (minus 129)))) 0 ≡ Reading.Refused 21) ×
-    (read_record (receiving (process_of 0 0 0 (pos 0) 0 0 (pos 128)) Suc) 0 ≡ Reading.Refused 25) ×
-    (read_record (receiving (process_of 0 0 0 (pos 0) 0 0 (pos 129)) Suc) 0 ≡ Reading.Refused 21) ×
-    (read_record (receiving (process_of 0 0 0 (pos 0) 0 0 (minus 128)) Suc) 0 ≡ Reading.Refused 25) ×
-    (read_record (receiving (process_of 0 0 0 (pos 0) 0 0 (minus 129)) Suc) 0 ≡ Reading.Refused 21)
+    (read_record (receiving idle (Ack (only (pos 128)))) 0 ≡ Err (numbered 25)) ×
+    (read_record (receiving idle (Ack (only (pos 129)))) 0 ≡ Err (numbered 21)) ×
+    (read_record (receiving idle (Ack (only (minus 128)))) 0 ≡ Err (numbered 25)) ×
+    (read_record (receiving idle (Ack (only (minus 129)))) 0 ≡ Err (numbered 21)) ×
+    (read_record (receiving idle (Ack (counted (pos 0) (pos 128)))) 0 ≡ Err (numbered 25)) ×
+    (read_record (receiving idle (Ack (counted (pos 0) (pos 129)))) 0 ≡ Err (numbered 21)) ×
+    (read_record (receiving idle (Ack (counted (pos 0) (minus 128)))) 0 ≡ Err (numbered 25)) ×
+    (read_record (receiving idle (Ack (counted (pos 0) (minus 129)))) 0 ≡ Err (numbered 21)) ×
+    (read_record (receiving (process_of 0 0 0 (pos 0) 0 0 (pos 128)) Suc) 0 ≡ Err (numbered 25)) ×
+    (read_record (receiving (process_of 0 0 0 (pos 0) 0 0 (pos 129)) Suc) 0 ≡ Err (numbered 21)) ×
+    (read_record (receiving (process_of 0 0 0 (pos 0) 0 0 (minus 128)) Suc) 0 ≡ Err (numbered 25)) ×
+    (read_record (receiving (process_of 0 0 0 (pos 0) 0 0 (minus 129)) Suc) 0 ≡ Err (numbered 21))
 unfolding computing
 count_ranges = (refl, refl, refl, refl, refl, refl, refl, refl, refl, refl, refl, refl)
 
 -- the same in words, of which one is set: the places are those of docs/LAYOUT.md with N 2 and M 1
 ranges_in_words :
-    (read_answer (take 51 (area (receiving idle Suc))) 0 ≡ Reading.Refused 21) ×
-    (read_answer (area (receiving idle Suc)) 0 ≡ Reading.Refused 25) ×
-    (read_answer (area (receiving idle Suc) ++ words 2) 0 ≡ Reading.Refused 25) ×
-    (read_answer (set (area (receiving idle Suc)) 1 (pos 0)) 0 ≡ Reading.Refused 21) ×  -- the start
-    (read_answer (set (area (receiving idle Suc)) 1 (pos 2)) 0 ≡ Reading.Refused 25) ×
-    (read_answer (set (area (receiving idle Suc)) 1 (pos 3)) 0 ≡ Reading.Refused 21) ×
-    (read_answer (set (area (receiving idle Suc)) 2 (pos 2048)) 0 ≡ Reading.Refused 25) ×  -- accepted deliveries
-    (read_answer (set (area (receiving idle Suc)) 2 (pos 2049)) 0 ≡ Reading.Refused 21) ×
-    (read_answer (set (area (receiving idle Suc)) 14 (pos 0)) 0 ≡ Reading.Refused 21) ×  -- N
-    (read_answer (set (area (receiving idle Suc)) 14 (pos 129)) 0 ≡ Reading.Refused 21) ×
-    (read_answer (set (area (receiving idle Suc)) 15 (pos 513)) 0 ≡ Reading.Refused 21) ×  -- M
-    (read_answer (set (area (receiving idle Suc)) 20 (pos 3)) 0 ≡ Reading.Refused 21) ×  -- a from over N
-    (read_answer (set (area (receiving idle Suc)) 31 (pos 128)) 0 ≡ Reading.Refused 25) ×  -- cs of 2
-    (read_answer (set (area (receiving idle Suc)) 31 (pos 129)) 0 ≡ Reading.Refused 21) ×
-    (read_answer (set (area (receiving idle Suc)) 31 (minus 128)) 0 ≡ Reading.Refused 25) ×
-    (read_answer (set (area (receiving idle Suc)) 31 (minus 129)) 0 ≡ Reading.Refused 21) ×
-    (read_answer (set (area (receiving idle Suc)) 32 (pos 256)) 0 ≡ Reading.Refused 25) ×  -- num of 2
-    (read_answer (set (area (receiving idle Suc)) 32 (pos 257)) 0 ≡ Reading.Refused 21) ×
-    (read_answer (set (area (receiving idle Suc)) 32 (minus 1)) 0 ≡ Reading.Refused 21) ×
-    (read_answer (set (area (receiving idle Suc)) 33 (pos 1)) 0 ≡ Reading.Refused 25) ×  -- father of 2
-    (read_answer (set (area (receiving idle Suc)) 33 (pos 2)) 0 ≡ Reading.Refused 21)
+    (read_answer (take 51 (area (receiving idle Suc))) 0 ≡ Err (numbered 21)) ×
+    (read_answer (area (receiving idle Suc)) 0 ≡ Err (numbered 25)) ×
+    (read_answer (area (receiving idle Suc) ++ words 2) 0 ≡ Err (numbered 25)) ×
+    (read_answer (set (area (receiving idle Suc)) 1 (pos 0)) 0 ≡ Err (numbered 21)) ×  -- the start
+    (read_answer (set (area (receiving idle Suc)) 1 (pos 2)) 0 ≡ Err (numbered 25)) ×
+    (read_answer (set (area (receiving idle Suc)) 1 (pos 3)) 0 ≡ Err (numbered 21)) ×
+    (read_answer (set (area (receiving idle Suc)) 2 (pos 2048)) 0 ≡ Err (numbered 25)) ×  -- accepted deliveries
+    (read_answer (set (area (receiving idle Suc)) 2 (pos 2049)) 0 ≡ Err (numbered 21)) ×
+    (read_answer (set (area (receiving idle Suc)) 14 (pos 0)) 0 ≡ Err (numbered 21)) ×  -- N
+    (read_answer (set (area (receiving idle Suc)) 14 (pos 129)) 0 ≡ Err (numbered 21)) ×
+    (read_answer (set (area (receiving idle Suc)) 15 (pos 513)) 0 ≡ Err (numbered 21)) ×  -- M
+    (read_answer (set (area (receiving idle Suc)) 20 (pos 3)) 0 ≡ Err (numbered 21)) ×  -- a from over N
+    (read_answer (set (area (receiving idle Suc)) 31 (pos 128)) 0 ≡ Err (numbered 25)) ×  -- cs of 2
+    (read_answer (set (area (receiving idle Suc)) 31 (pos 129)) 0 ≡ Err (numbered 21)) ×
+    (read_answer (set (area (receiving idle Suc)) 31 (minus 128)) 0 ≡ Err (numbered 25)) ×
+    (read_answer (set (area (receiving idle Suc)) 31 (minus 129)) 0 ≡ Err (numbered 21)) ×
+    (read_answer (set (area (receiving idle Suc)) 32 (pos 256)) 0 ≡ Err (numbered 25)) ×  -- num of 2
+    (read_answer (set (area (receiving idle Suc)) 32 (pos 257)) 0 ≡ Err (numbered 21)) ×
+    (read_answer (set (area (receiving idle Suc)) 32 (minus 1)) 0 ≡ Err (numbered 21)) ×
+    (read_answer (set (area (receiving idle Suc)) 33 (pos 1)) 0 ≡ Err (numbered 25)) ×  -- father of 2
+    (read_answer (set (area (receiving idle Suc)) 33 (pos 2)) 0 ≡ Err (numbered 21))
 unfolding computing
 ranges_in_words = (refl, refl, refl, refl, refl, refl, refl, refl, refl, refl, refl, refl, refl, refl, refl, refl, refl, refl, refl, refl, refl)
 
 -- 02, N3: the second sum of 2 in words; which check an area is of, where 1 was the knot check before second sums
 seconds_in_words :
-    (read_answer (set (area (receiving idle Suc)) 34 (pos 128)) 0 ≡ Reading.Refused 25) ×
-    (read_answer (set (area (receiving idle Suc)) 34 (pos 129)) 0 ≡ Reading.Refused 21) ×
-    (read_answer (set (area (receiving idle Suc)) 34 (minus 128)) 0 ≡ Reading.Refused 25) ×
-    (read_answer (set (area (receiving idle Suc)) 34 (minus 129)) 0 ≡ Reading.Refused 21) ×
-    (read_answer (set (area (receiving idle Suc)) 35 (pos 1)) 0 ≡ Reading.Refused 21) ×  -- a free word
-    (read_answer (set (area (receiving idle Suc)) 34 (minus 5)) 2 ≡ Found (process_of 0 0 0 (pos 0) 0 0 (minus 5))) ×
-    (read_answer (set (area (receiving idle Suc)) 0 (pos 1)) 0 ≡ Reading.Refused 21) ×
-    (read_answer (set (area (receiving idle Suc)) 0 (pos 2)) 0 ≡ Reading.Refused 25) ×
-    (read_answer (set (area (receiving idle Suc)) 0 (pos 3)) 0 ≡ Reading.Refused 21)
+    (read_answer (set (area (receiving idle Suc)) 34 (pos 128)) 0 ≡ Err (numbered 25)) ×
+    (read_answer (set (area (receiving idle Suc)) 34 (pos 129)) 0 ≡ Err (numbered 21)) ×
+    (read_answer (set (area (receiving idle Suc)) 34 (minus 128)) 0 ≡ Err (numbered 25)) ×
+    (read_answer (set (area (receiving idle Suc)) 34 (minus 129)) 0 ≡ Err (numbered 21)) ×
+    (read_answer (set (area (receiving idle Suc)) 35 (pos 1)) 0 ≡ Err (numbered 21)) ×  -- a free word
+    (read_answer (set (area (receiving idle Suc)) 34 (minus 5)) 2 ≡ Ok (process_of 0 0 0 (pos 0) 0 0 (minus 5))) ×
+    (read_answer (set (area (receiving idle Suc)) 0 (pos 1)) 0 ≡ Err (numbered 21)) ×
+    (read_answer (set (area (receiving idle Suc)) 0 (pos 2)) 0 ≡ Err (numbered 25)) ×
+    (read_answer (set (area (receiving idle Suc)) 0 (pos 3)) 0 ≡ Err (numbered 21))
 unfolding computing
 seconds_in_words = (refl, refl, refl, refl, refl, refl, refl, refl, refl)
 
 -- "the edition, 1 or 2": "In an area it gives 21" (02, N4); its word is the fourth
 edition_ranges :
-    (read_record (under 0 (receiving idle Suc)) 0 ≡ Reading.Refused 21) ×
-    (read_record (under 1 (receiving idle Suc)) 0 ≡ Reading.Refused 25) ×
-    (read_record (under 2 (receiving idle Suc)) 0 ≡ Reading.Refused 25) ×
-    (read_record (under 3 (receiving idle Suc)) 0 ≡ Reading.Refused 21) ×
-    (read_answer (set (area (receiving idle Suc)) 3 (pos 0)) 0 ≡ Reading.Refused 21) ×
-    (read_answer (set (area (receiving idle Suc)) 3 (pos 2)) 0 ≡ Reading.Refused 25) ×
-    (read_answer (set (area (receiving idle Suc)) 3 (pos 3)) 0 ≡ Reading.Refused 21) ×
-    (read_answer (set (area (receiving idle Suc)) 3 (minus 1)) 0 ≡ Reading.Refused 21) ×
-    (read_answer (set (area (receiving idle Suc)) 3 (pos 65535)) 0 ≡ Reading.Refused 21)
+    (read_record (under 0 (receiving idle Suc)) 0 ≡ Err (numbered 21)) ×
+    (read_record (under 1 (receiving idle Suc)) 0 ≡ Err (numbered 25)) ×
+    (read_record (under 2 (receiving idle Suc)) 0 ≡ Err (numbered 25)) ×
+    (read_record (under 3 (receiving idle Suc)) 0 ≡ Err (numbered 21)) ×
+    (read_answer (set (area (receiving idle Suc)) 3 (pos 0)) 0 ≡ Err (numbered 21)) ×
+    (read_answer (set (area (receiving idle Suc)) 3 (pos 2)) 0 ≡ Err (numbered 25)) ×
+    (read_answer (set (area (receiving idle Suc)) 3 (pos 3)) 0 ≡ Err (numbered 21)) ×
+    (read_answer (set (area (receiving idle Suc)) 3 (minus 1)) 0 ≡ Err (numbered 21)) ×
+    (read_answer (set (area (receiving idle Suc)) 3 (pos 65535)) 0 ≡ Err (numbered 21))
 unfolding computing
 edition_ranges = (refl, refl, refl, refl, refl, refl, refl, refl, refl)
 
@@ -835,49 +825,49 @@ messages_in_words :
     ((run_in (set (area (receiving idle Suc)) 36 (pos 131327))).link 1 2 ≡ Ack (only (minus 1)) ∷ []) ×
     ((run_in (set (area (receiving idle Suc)) 36 (pos 130818))).link 1 2 ≡ Ack (counted (pos 2) (minus 1)) ∷ []) ×
     (area (receiving idle (Ack (counted (pos 2) (minus 1)))) ≡ set (area (receiving idle Suc)) 36 (pos 130818)) ×
-    (read_answer (set (area (receiving idle Suc)) 36 (pos 2)) 0 ≡ Reading.Refused 25) ×
-    (read_answer (set (area (receiving idle Suc)) 36 (pos 3)) 0 ≡ Reading.Refused 21) ×
-    (read_answer (set (area (receiving idle Suc)) 36 (pos 256)) 0 ≡ Reading.Refused 21) ×  -- an acknowledgement as it was without second counts
-    (read_answer (set (area (receiving idle Suc)) 36 (pos 65664)) 0 ≡ Reading.Refused 25) ×  -- the least of both counts: 128 + 512 · 128
-    (read_answer (set (area (receiving idle Suc)) 36 (pos 65663)) 0 ≡ Reading.Refused 21) ×
-    (read_answer (set (area (receiving idle Suc)) 36 (pos 65152)) 0 ≡ Reading.Refused 21) ×
-    (read_answer (set (area (receiving idle Suc)) 36 (pos 196992)) 0 ≡ Reading.Refused 25) ×  -- the largest: 384 + 512 · 384
-    (read_answer (set (area (receiving idle Suc)) 36 (pos 196993)) 0 ≡ Reading.Refused 21) ×
-    (read_answer (set (area (receiving idle Suc)) 36 (pos 197504)) 0 ≡ Reading.Refused 21) ×
-    (read_answer (set (area (receiving idle Suc)) 36 (minus 131072)) 0 ≡ Reading.Refused 21)
+    (read_answer (set (area (receiving idle Suc)) 36 (pos 2)) 0 ≡ Err (numbered 25)) ×
+    (read_answer (set (area (receiving idle Suc)) 36 (pos 3)) 0 ≡ Err (numbered 21)) ×
+    (read_answer (set (area (receiving idle Suc)) 36 (pos 256)) 0 ≡ Err (numbered 21)) ×  -- an acknowledgement as it was without second counts
+    (read_answer (set (area (receiving idle Suc)) 36 (pos 65664)) 0 ≡ Err (numbered 25)) ×  -- the least of both counts: 128 + 512 · 128
+    (read_answer (set (area (receiving idle Suc)) 36 (pos 65663)) 0 ≡ Err (numbered 21)) ×
+    (read_answer (set (area (receiving idle Suc)) 36 (pos 65152)) 0 ≡ Err (numbered 21)) ×
+    (read_answer (set (area (receiving idle Suc)) 36 (pos 196992)) 0 ≡ Err (numbered 25)) ×  -- the largest: 384 + 512 · 384
+    (read_answer (set (area (receiving idle Suc)) 36 (pos 196993)) 0 ≡ Err (numbered 21)) ×
+    (read_answer (set (area (receiving idle Suc)) 36 (pos 197504)) 0 ≡ Err (numbered 21)) ×
+    (read_answer (set (area (receiving idle Suc)) 36 (minus 131072)) 0 ≡ Err (numbered 21))
 unfolding computing
 messages_in_words = (refl, refl, refl, refl, refl, refl, refl, refl, refl, refl, refl, refl, refl, refl, refl)
 
 -- ==== "A refusal returns its number, zeros elsewhere"
 
-table_zeros : (n : ℕ) →
-    (number_of (Read.Refused n) ≡ n) × (n_found (Read.Refused n) ≡ 0) × (m_found (Read.Refused n) ≡ 0) ×
-    (writing_number (Writing.Refused n) ≡ n) × (written_length (Writing.Refused n) ≡ 0) ×
-    (opened_number (Opened.Refused n) ≡ n) × (opened_arc (Opened.Refused n) ≡ 0) ×
-    (started_number (Started.Refused n) ≡ n)
+table_zeros : (e : Refusal) →
+    (number_of (Err e) ≡ number e) × (n_found (Err e) ≡ 0) × (m_found (Err e) ≡ 0) ×
+    (writing_number (Err e) ≡ number e) × (written_length (Err e) ≡ 0) ×
+    (opened_number (Err e) ≡ number e) × (opened_arc (Err e) ≡ 0) ×
+    (started_number (Err e) ≡ number e)
 unfolding computing
-table_zeros n = (refl, refl, refl, refl, refl, refl, refl, refl)
+table_zeros e = (refl, refl, refl, refl, refl, refl, refl, refl)
 
 -- a refused pick makes no delivery; running on gives "their number" (with 21 it is 0: running_in_order)
-call_zeros : (n made : ℕ) →
-    (delivery_number (Delivery.Refused n) ≡ n) × (delivery_made (Delivery.Refused n) ≡ 0) ×
-    (delivery_kind (Delivery.Refused n) ≡ 0) × (delivery_counts (Delivery.Refused n) ≡ only (pos 0)) ×
-    (ran_number (Ran.Refused n made) ≡ n) × (ran_over (Ran.Refused n made) ≡ 0) × (ran_made (Ran.Refused n made) ≡ made) ×
-    (reading_number (Reading.Refused n) ≡ n) × (reading_process (Reading.Refused n) ≡ plain 0 0 0 (pos 0) 0 0)
+call_zeros : (e : Refusal) (h : Halted) →
+    (delivery_number (Err e) ≡ number e) × (delivery_made (Err e) ≡ 0) ×
+    (delivery_kind (Err e) ≡ 0) × (delivery_counts (Err e) ≡ only (pos 0)) ×
+    (ran_number (Err h) ≡ number h.refusal) × (ran_over (Err h) ≡ 0) × (ran_made (Err h) ≡ h.made) ×
+    (reading_number (Err e) ≡ number e) × (reading_process (Err e) ≡ plain 0 0 0 (pos 0) 0 0)
 unfolding computing
-call_zeros n made = (refl, refl, refl, refl, refl, refl, refl, refl, refl)
+call_zeros e h = (refl, refl, refl, refl, refl, refl, refl, refl, refl)
 
-report_zeros : (n : ℕ) →
-    (report_number (Report.Refused n) ≡ n) × (report_count (Report.Refused n) ≡ 0) × (report_knot (Report.Refused n) ≡ 0) ×
-    (report_outside (Report.Refused n) ≡ pos 0) × (report_escape (Report.Refused n) ≡ 0) × (report_returned (Report.Refused n) ≡ 0)
+report_zeros : (e : Refusal) →
+    (report_number (Err e) ≡ number e) × (report_count (Err e) ≡ 0) × (report_knot (Err e) ≡ 0) ×
+    (report_outside (Err e) ≡ pos 0) × (report_escape (Err e) ≡ 0) × (report_returned (Err e) ≡ 0)
 unfolding computing
-report_zeros n = (refl, refl, refl, refl, refl, refl)
+report_zeros e = (refl, refl, refl, refl, refl, refl)
 
-step_zeros : (n : ℕ) →
-    (stepped_number (Stepped.Refused n) ≡ n) × (stepped_probes (Stepped.Refused n) ≡ Probes.Nothing) ×
-    (stepped_reply (Stepped.Refused n) ≡ Reply.Nothing) × (lent_answer (Stepped.Refused n) ≡ Lent.Refused n)
+step_zeros : (e : Refusal) →
+    (stepped_number (Err e) ≡ number e) × (stepped_probes (Err e) ≡ Probes.Nothing) ×
+    (stepped_reply (Err e) ≡ None) × (lent_answer (Err e) ≡ Err e)
 unfolding computing
-step_zeros n = (refl, refl, refl, refl)
+step_zeros e = (refl, refl, refl, refl)
 
 -- ==== the numbers of the C interface (include/pickledune.h)
 
@@ -889,24 +879,24 @@ unfolding computing
 versions = (refl, refl, refl, refl)
 
 accepted_numbers :
-    (number_of (Read.Accepted 5 6) ≡ 0) × (n_found (Read.Accepted 5 6) ≡ 5) × (m_found (Read.Accepted 5 6) ≡ 6) ×
-    (writing_number (Writing.Written 32) ≡ 0) × (written_length (Writing.Written 32) ≡ 32) ×
-    (opened_number (Opened.At 5) ≡ 0) × (opened_arc (Opened.At 5) ≡ 5) × (next_arc (Next.Arc 5) ≡ 5) × (next_arc Next.End ≡ 0) ×
-    (started_number Started.Ready ≡ 0) × (delivery_number (Delivered Suc) ≡ 0) × (delivery_made (Delivered Suc) ≡ 1) ×
-    (reading_number (Found idle) ≡ 0) × (reading_process (Found (root (pos 5) 6)) ≡ root (pos 5) 6) ×
-    (stepped_number (Taken idle Sucs (To 5 (only (pos 6)))) ≡ 0) × (stepped_probes (Taken idle Sucs (To 5 (only (pos 6)))) ≡ Sucs) ×
-    (stepped_reply (Taken idle Sucs (To 5 (only (pos 6)))) ≡ To 5 (only (pos 6)))
+    (number_of (Ok (record { n = 5; m = 6 })) ≡ 0) × (n_found (Ok (record { n = 5; m = 6 })) ≡ 5) × (m_found (Ok (record { n = 5; m = 6 })) ≡ 6) ×
+    (writing_number (Ok 32) ≡ 0) × (written_length (Ok 32) ≡ 32) ×
+    (opened_number (Ok 5) ≡ 0) × (opened_arc (Ok 5) ≡ 5) × (next_arc (Some 5) ≡ 5) × (next_arc None ≡ 0) ×
+    (started_number (Ok tt) ≡ 0) × (delivery_number (Ok Suc) ≡ 0) × (delivery_made (Ok Suc) ≡ 1) ×
+    (reading_number (Ok idle) ≡ 0) × (reading_process (Ok (root (pos 5) 6)) ≡ root (pos 5) 6) ×
+    (stepped_number (taken idle Sucs (acknowledgement 5 (only (pos 6)))) ≡ 0) × (stepped_probes (taken idle Sucs (acknowledgement 5 (only (pos 6)))) ≡ Sucs) ×
+    (stepped_reply (taken idle Sucs (acknowledgement 5 (only (pos 6)))) ≡ acknowledgement 5 (only (pos 6)))
 unfolding computing
 accepted_numbers = (refl, refl, refl, refl, refl, refl, refl, refl, refl, refl, refl, refl, refl, refl, refl, refl, refl)
 
 -- kinds: a suc probe 1, a pre probe 2, an acknowledgement 3 with its counts; any other kind is refused with 21, as a count out of range is
 kinds :
-    (delivery_kind (Delivered Suc) ≡ 1) × (delivery_counts (Delivered Suc) ≡ only (pos 0)) × (message_of 1 (counted (pos 5) (pos 6)) ≡ Suc) ×
-    (delivery_kind (Delivered Pre) ≡ 2) × (delivery_counts (Delivered Pre) ≡ only (pos 0)) × (message_of 2 (counted (pos 5) (pos 6)) ≡ Pre) ×
-    (delivery_kind (Delivered (Ack (counted (minus 5) (pos 6)))) ≡ 3) ×
-    (delivery_counts (Delivered (Ack (counted (minus 5) (pos 6)))) ≡ counted (minus 5) (pos 6)) ×
+    (delivery_kind (Ok Suc) ≡ 1) × (delivery_counts (Ok Suc) ≡ only (pos 0)) × (message_of 1 (counted (pos 5) (pos 6)) ≡ Suc) ×
+    (delivery_kind (Ok Pre) ≡ 2) × (delivery_counts (Ok Pre) ≡ only (pos 0)) × (message_of 2 (counted (pos 5) (pos 6)) ≡ Pre) ×
+    (delivery_kind (Ok (Ack (counted (minus 5) (pos 6)))) ≡ 3) ×
+    (delivery_counts (Ok (Ack (counted (minus 5) (pos 6)))) ≡ counted (minus 5) (pos 6)) ×
     (message_of 3 (counted (minus 5) (pos 6)) ≡ Ack (counted (minus 5) (pos 6))) ×
-    (stepped (message_of 0 (only (pos 0))) 0 0 1 idle ≡ Stepped.Refused 21) × (stepped (message_of 4 (only (pos 0))) 0 0 1 idle ≡ Stepped.Refused 21)
+    (stepped (message_of 0 (only (pos 0))) 0 0 1 idle ≡ Err (numbered 21)) × (stepped (message_of 4 (only (pos 0))) 0 0 1 idle ≡ Err (numbered 21))
 unfolding computing
 kinds = (refl, refl, refl, refl, refl, refl, refl, refl, refl, refl, refl)
 
@@ -914,8 +904,8 @@ kinds = (refl, refl, refl, refl, refl, refl, refl, refl, refl, refl, refl)
 chains_and_probes :
     (chain_of 0 ≡ Out) × (chain_of 1 ≡ In) × (chain_of 2 ≡ In) ×
     (probes_number Probes.Nothing ≡ 0) × (probes_number Sucs ≡ 1) × (probes_number Pres ≡ 2) ×
-    (reply_receiver Reply.Nothing ≡ 0) × (counts_replied Reply.Nothing ≡ only (pos 0)) × (reply_receiver (To 5 (only (minus 6))) ≡ 5) ×
-    (counts_replied (To 5 (counted (minus 6) (pos 7))) ≡ counted (minus 6) (pos 7))
+    (reply_receiver None ≡ 0) × (counts_replied None ≡ only (pos 0)) × (reply_receiver (acknowledgement 5 (only (minus 6))) ≡ 5) ×
+    (counts_replied (acknowledgement 5 (counted (minus 6) (pos 7))) ≡ counted (minus 6) (pos 7))
 unfolding computing
 chains_and_probes = (refl, refl, refl, refl, refl, refl, refl, refl, refl, refl)
 
@@ -930,12 +920,12 @@ seed_0_numbers = (refl, refl, refl, refl, refl, refl)
 
 -- over 1, spent 0, with the number made; knot 1, none 0; returned 1, held 0
 ends :
-    (ran_number (Ran.Over 5) ≡ 0) × (ran_over (Ran.Over 5) ≡ 1) × (ran_made (Ran.Over 5) ≡ 5) ×
-    (ran_number (Ran.Spent 5) ≡ 0) × (ran_over (Ran.Spent 5) ≡ 0) × (ran_made (Ran.Spent 5) ≡ 5) ×
-    (report_number (Report.Over 5 Free (minus 6) 7 Held) ≡ 0) × (report_count (Report.Over 5 Free (minus 6) 7 Held) ≡ 5) ×
-    (report_outside (Report.Over 5 Free (minus 6) 7 Held) ≡ minus 6) × (report_escape (Report.Over 5 Free (minus 6) 7 Held) ≡ 7) ×
-    (report_knot (Report.Over 5 Knot (pos 0) 0 Held) ≡ 1) × (report_knot (Report.Over 5 Free (pos 0) 0 Returned) ≡ 0) ×
-    (report_returned (Report.Over 5 Free (pos 0) 0 Returned) ≡ 1) × (report_returned (Report.Over 5 Knot (pos 0) 0 Held) ≡ 0)
+    (ran_number (Ok (Ran.Over 5)) ≡ 0) × (ran_over (Ok (Ran.Over 5)) ≡ 1) × (ran_made (Ok (Ran.Over 5)) ≡ 5) ×
+    (ran_number (Ok (Ran.Spent 5)) ≡ 0) × (ran_over (Ok (Ran.Spent 5)) ≡ 0) × (ran_made (Ok (Ran.Spent 5)) ≡ 5) ×
+    (report_number (told 5 Free (minus 6) 7 Held) ≡ 0) × (report_count (told 5 Free (minus 6) 7 Held) ≡ 5) ×
+    (report_outside (told 5 Free (minus 6) 7 Held) ≡ minus 6) × (report_escape (told 5 Free (minus 6) 7 Held) ≡ 7) ×
+    (report_knot (told 5 Knot (pos 0) 0 Held) ≡ 1) × (report_knot (told 5 Free (pos 0) 0 Returned) ≡ 0) ×
+    (report_returned (told 5 Free (pos 0) 0 Returned) ≡ 1) × (report_returned (told 5 Knot (pos 0) 0 Held) ≡ 0)
 unfolding computing
 ends = (refl, refl, refl, refl, refl, refl, refl, refl, refl, refl, refl, refl, refl, refl)
 
@@ -944,8 +934,8 @@ ends = (refl, refl, refl, refl, refl, refl, refl, refl, refl, refl, refl, refl, 
 -- "In 1-2, 2-1, when both probes reach 2 before its acknowledgements, 2 returns counts 1 and −1": the picks, and what each answers
 counts_1_and_minus_1 :
     answers (start_run (waits_of (field_of both)) 1 1) ((1, 2) ∷ (1, 2) ∷ (2, 1) ∷ (2, 1) ∷ (2, 1) ∷ (1, 2) ∷ (1, 2) ∷ (2, 1) ∷ (2, 1) ∷ [])
-    ≡ Delivered Suc ∷ Delivered Pre ∷ Delivered Suc ∷ Delivered (Ack (only (pos 1))) ∷ Delivered Pre ∷
-    Delivered (Ack (only (pos 0))) ∷ Delivered (Ack (only (pos 0))) ∷ Delivered (Ack (only (minus 1))) ∷ Delivery.Refused 23 ∷ []
+    ≡ Ok Suc ∷ Ok Pre ∷ Ok Suc ∷ Ok (Ack (only (pos 1))) ∷ Ok Pre ∷
+    Ok (Ack (only (pos 0))) ∷ Ok (Ack (only (pos 0))) ∷ Ok (Ack (only (minus 1))) ∷ Err (numbered 23) ∷ []
 unfolding computing
 counts_1_and_minus_1 = refl
 
@@ -968,7 +958,7 @@ never_22_is_met_by_no_list w s ed p h m = none (h.answers 22 m)
         Memᴰ.not-nil x
 
 -- "Each ordered pair of neighbours has one link": a message between others makes a run that is not well formed
-no_message_without_a_link : ((pick unlinked 2 1 1).answer ≡ Delivery.Refused 21) × ((run_on 1 unlinked).answer ≡ Ran.Refused 21 0)
+no_message_without_a_link : ((pick unlinked 2 1 1).answer ≡ Err (numbered 21)) × ((run_on 1 unlinked).answer ≡ halted 21 0)
 unfolding computing
 no_message_without_a_link = (refl, refl)
 

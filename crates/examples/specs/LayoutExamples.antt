@@ -3,12 +3,13 @@
 --   full, full_words     == a run with a value in every field, and its 52 words
 --   marked w i k        == the answers of k areas, each w with a 1 in one word, from word i on: 25 if it is well formed, and 21 if it is not
 -- The others are in States. Assumes nothing.
-use Rattle.std.specs.Prelude.{ℕ, zero, suc, List, [], ◌∷◌, ◌++◌, ◌≡◌, refl, ℤ, pos, drop, set, replicate}
+use Rattle.std.specs.Prelude.{ℕ, zero, suc, List, [], ◌∷◌, ◌++◌, ◌≡◌, refl, ℤ, pos, drop, set, replicate, Result, Ok, Err}
 use Rattle.std.proofs.Common.{get_or}
+use Rattle.refusals.specs.declared.Refusal.{Refusal}
+use Rattle.refusals.specs.Numbers.{numbered}
+use Rattle.steps.specs.declared.Process.{Process}
 use Rattle.steps.specs.declared.Message.TheVariants.{Suc, Pre, Ack}
 use Rattle.steps.specs.Step.{idle}
-use Rattle.checks.specs.declared.Reading.{Reading}
-use Rattle.checks.specs.declared.Reading.TheVariants.{Found}
 use Rattle.checks.specs.Run.{Run}
 use Rattle.areas.specs.Area.{run_in}
 use Rattle.starting.specs.StartCall.{start_area}
@@ -39,10 +40,10 @@ full_words =
 
 whole_area :
     (area full ≡ full_words) ×
-    (read_answer full_words 0 ≡ Reading.Refused 25) ×
+    (read_answer full_words 0 ≡ Err (numbered 25)) ×
     ((run_in full_words).start ≡ 1) × ((run_in full_words).count ≡ 7) × ((run_in full_words).edition ≡ 2) ×
-    (read_answer full_words 1 ≡ Found (process_of 1 1 0 (minus 5) 6 2 (pos 8))) ×
-    (read_answer full_words 2 ≡ Found (process_of 1 0 1 (pos 9) 10 1 (minus 11))) ×
+    (read_answer full_words 1 ≡ Ok (process_of 1 1 0 (minus 5) 6 2 (pos 8))) ×
+    (read_answer full_words 2 ≡ Ok (process_of 1 0 1 (pos 9) 10 1 (minus 11))) ×
     ((run_in full_words).link 1 2 ≡ Suc ∷ Pre ∷ Ack (counted (pos 2) (minus 1)) ∷ Pre ∷ []) ×
     ((run_in full_words).link 2 1 ≡ Pre ∷ Suc ∷ [])
 unfolding computing full full_words
@@ -60,29 +61,29 @@ unfolding computing
 flags_written = (refl, refl, refl, refl, refl)
 
 flags_read :
-    (read_answer (set (area (receiving idle Suc)) 30 (pos 1)) 2 ≡ Found (plain 1 0 0 (pos 0) 0 0)) ×
-    (read_answer (set (area (receiving idle Suc)) 30 (pos 2)) 2 ≡ Found (plain 0 1 0 (pos 0) 0 0)) ×
-    (read_answer (set (area (receiving idle Suc)) 30 (pos 4)) 2 ≡ Found (plain 0 0 1 (pos 0) 0 0)) ×
-    (read_answer (set (area (receiving idle Suc)) 30 (pos 7)) 2 ≡ Found (plain 1 1 1 (pos 0) 0 0)) ×
-    (read_answer (set (area (receiving idle Suc)) 30 (pos 8)) 2 ≡ Reading.Refused 21) ×
-    (read_answer (set (area (receiving idle Suc)) 30 (minus 1)) 2 ≡ Reading.Refused 21)
+    (read_answer (set (area (receiving idle Suc)) 30 (pos 1)) 2 ≡ Ok (plain 1 0 0 (pos 0) 0 0)) ×
+    (read_answer (set (area (receiving idle Suc)) 30 (pos 2)) 2 ≡ Ok (plain 0 1 0 (pos 0) 0 0)) ×
+    (read_answer (set (area (receiving idle Suc)) 30 (pos 4)) 2 ≡ Ok (plain 0 0 1 (pos 0) 0 0)) ×
+    (read_answer (set (area (receiving idle Suc)) 30 (pos 7)) 2 ≡ Ok (plain 1 1 1 (pos 0) 0 0)) ×
+    (read_answer (set (area (receiving idle Suc)) 30 (pos 8)) 2 ≡ Err (numbered 21)) ×
+    (read_answer (set (area (receiving idle Suc)) 30 (minus 1)) 2 ≡ Err (numbered 21))
 unfolding computing
 flags_read = (refl, refl, refl, refl, refl, refl)
 
 -- ---- "Free and unused words hold 0, and a well-formed area demands it"
 
-unfoldable marked : List ℤ → ℕ → ℕ → List Reading
+unfoldable marked : List ℤ → ℕ → ℕ → List (Result Process Refusal)
 marked w i zero = []
 marked w i (suc k) = read_answer (set w i (pos 1)) 0 ∷ marked w (suc i) k
 
 free_words :
-    (marked (area (receiving idle Suc)) 4 10 ≡ replicate 10 (Reading.Refused 21)) ×  -- the heading, behind the edition
-    (marked (area (receiving idle Suc)) 29 1 ≡ Reading.Refused 21 ∷ []) ×  -- the last word of a record
-    (marked (area (receiving idle Suc)) 37 1 ≡ Reading.Refused 25 ∷ []) ×  -- a second message from 1 to 2
-    (marked (area (receiving idle Suc)) 38 2 ≡ Reading.Refused 21 ∷ Reading.Refused 21 ∷ []) ×  -- a message behind none
-    (marked full_words 39 1 ≡ Reading.Refused 25 ∷ []) ×  -- the fourth message
-    (marked full_words 40 4 ≡ replicate 4 (Reading.Refused 21)) ×  -- behind the four
-    (marked full_words 48 4 ≡ replicate 4 (Reading.Refused 21))
+    (marked (area (receiving idle Suc)) 4 10 ≡ replicate 10 (Err (numbered 21))) ×  -- the heading, behind the edition
+    (marked (area (receiving idle Suc)) 29 1 ≡ Err (numbered 21) ∷ []) ×  -- the last word of a record
+    (marked (area (receiving idle Suc)) 37 1 ≡ Err (numbered 25) ∷ []) ×  -- a second message from 1 to 2
+    (marked (area (receiving idle Suc)) 38 2 ≡ Err (numbered 21) ∷ Err (numbered 21) ∷ []) ×  -- a message behind none
+    (marked full_words 39 1 ≡ Err (numbered 25) ∷ []) ×  -- the fourth message
+    (marked full_words 40 4 ≡ replicate 4 (Err (numbered 21))) ×  -- behind the four
+    (marked full_words 48 4 ≡ replicate 4 (Err (numbered 21)))
 unfolding computing full_words marked
 free_words = (refl, refl, refl, refl, refl, refl, refl)
 
@@ -100,9 +101,9 @@ link_back = (refl, refl, refl)
 links_both_ways :
     (drop 40 (start_area both 1 1 (words 72)) ≡ pos 1 ∷ pos 2 ∷ replicate 30 (pos 0)) ×
     ((run_in (set (start_area both 1 1 (words 72)) 56 (pos 2))).link 2 1 ≡ Pre ∷ []) ×
-    (marked (start_area both 1 1 (words 72)) 56 1 ≡ Reading.Refused 25 ∷ []) ×
-    (marked (start_area both 1 1 (words 72)) 48 8 ≡ replicate 8 (Reading.Refused 21)) ×
-    (marked (start_area both 1 1 (words 72)) 64 8 ≡ replicate 8 (Reading.Refused 21))
+    (marked (start_area both 1 1 (words 72)) 56 1 ≡ Err (numbered 25) ∷ []) ×
+    (marked (start_area both 1 1 (words 72)) 48 8 ≡ replicate 8 (Err (numbered 21))) ×
+    (marked (start_area both 1 1 (words 72)) 64 8 ≡ replicate 8 (Err (numbered 21)))
 unfolding computing marked
 links_both_ways = (refl, refl, refl, refl, refl)
 
@@ -110,7 +111,7 @@ links_both_ways = (refl, refl, refl, refl, refl)
 link_of_a_loop :
     (drop 28 (start_area loop 1 1 (words 44)) ≡ pos 1 ∷ pos 2 ∷ replicate 14 (pos 0)) ×
     ((run_in (start_area loop 1 1 (words 44))).link 1 1 ≡ Suc ∷ Pre ∷ []) ×
-    (marked (start_area loop 1 1 (words 44)) 30 1 ≡ Reading.Refused 25 ∷ []) ×
-    (marked (start_area loop 1 1 (words 44)) 36 8 ≡ replicate 8 (Reading.Refused 21))
+    (marked (start_area loop 1 1 (words 44)) 30 1 ≡ Err (numbered 25) ∷ []) ×
+    (marked (start_area loop 1 1 (words 44)) 36 8 ≡ replicate 8 (Err (numbered 21)))
 unfolding computing marked
 link_of_a_loop = (refl, refl, refl, refl)

@@ -11,6 +11,8 @@
 --   counted c d, only c == a count and a second count; a count alone, with 0 as second count
 --   plain s p b c n f   == a record with these values and second sum 0
 --   root c n, root_with c d n   == a start's record, with this cs and this num; with this second sum too
+--   sending p y, taken x p y   == what a step sends; the answer of a step that was taken, with the record that it leaves
+--   told d v o e m      == the answer of a report: deliveries, verdict, outside, escape and mark
 --   two s d x y forth back   == a run on the waits of one, with start s, edition 1 and d accepted deliveries: x and y are the records of 1 and
 --                          of 2, forth the messages from 1 to 2, back those from 2 to 1
 --   under ed r          == a run with another edition
@@ -22,16 +24,22 @@
 --   area r              == the 52 words that hold such a run
 --   answers r ps        == the answers of picks, each on the run that the last one left
 -- Assumes nothing.
-use Rattle.std.specs.Prelude.{ℕ, ◌/◌, ◌%◌, false, ◌&&◌, List, [], ◌∷◌, ◌++◌, eqb, length, take, replicate, ℤ, pos, neg_ℤ}
+use Rattle.std.specs.Prelude.{ℕ, ◌/◌, ◌%◌, false, ◌&&◌, List, [], ◌∷◌, ◌++◌, eqb, length, take, replicate, ℤ, pos, neg_ℤ, Option, Result, Ok}
 use Rattle.base.specs.Choice.{choose}
+use Rattle.refusals.specs.declared.Refusal.{Refusal}
 use Rattle.tables.specs.Table.{field_of}
 use Rattle.tables.specs.Waits.{waits_of, neighbours}
 use Rattle.steps.specs.declared.Message.{Message}
 use Rattle.steps.specs.declared.Message.TheVariants.{Suc, Pre, Ack}
 use Rattle.steps.specs.declared.Process.{Process}
 use Rattle.steps.specs.declared.TwoCounts.{TwoCounts}
-use Rattle.steps.specs.Step.{idle}
-use Rattle.checks.specs.declared.Delivery.{Delivery}
+use Rattle.steps.specs.declared.Probes.{Probes}
+use Rattle.steps.specs.declared.Reply.{Reply}
+use Rattle.steps.specs.declared.Sent.{Sent}
+use Rattle.steps.specs.Step.{Turn, idle}
+use Rattle.checks.specs.declared.Verdict.{Verdict}
+use Rattle.checks.specs.declared.Mark.{Mark}
+use Rattle.checks.specs.declared.Report.{Report}
 use Rattle.checks.specs.Run.{Run}
 use Rattle.checks.specs.Calls.{Picked, pick}
 use Rattle.areas.specs.Area.{stored}
@@ -135,6 +143,15 @@ root_with c d n = process_of 1 1 0 c n 0 d
 unfoldable pub root : ℤ → ℕ → Process
 root c n = root_with c (pos 0) n
 
+abbrev pub sending : Probes → Option Reply → Sent
+sending p y = record { probes = p; reply = y }
+
+abbrev pub taken : Process → Probes → Option Reply → Result Turn Refusal
+taken x p y = Ok (record { process = x; sent = sending p y })
+
+abbrev pub told : ℕ → Verdict → ℤ → ℕ → Mark → Result Report Refusal
+told d v o e m = Ok (record { deliveries = d; verdict = v; outside = o; escape = e; mark = m })
+
 unfoldable pub two : ℕ → ℕ → Process → Process → List Message → List Message → Run
 two s d x y forth back =
     record {
@@ -147,7 +164,7 @@ two s d x y forth back =
     }
 
 unfoldable pub under : ℕ → Run → Run
-under ed r = record { waits = r.waits; start = r.start; edition = ed; count = r.count; process = r.process; link = r.link }
+under ed r = record r { edition = ed }
 
 unfoldable pub receiving : Process → Message → Run
 receiving y m = two 1 0 (root (pos 0) 1) y (m ∷ []) []
@@ -187,6 +204,6 @@ unlinked =
 unfoldable pub area : Run → List ℤ
 area r = stored (field_of one) r []
 
-unfoldable pub answers : Run → List (ℕ × ℕ) → List Delivery
+unfoldable pub answers : Run → List (ℕ × ℕ) → List (Result Message Refusal)
 answers r [] = []
 answers r (p ∷ ps) = let q : Picked = pick r p.0 p.1 1 in q.answer ∷ answers q.run ps

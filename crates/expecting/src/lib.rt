@@ -1,6 +1,10 @@
 // What the plain search (the crate `searching`) expects of a run: the numbers of a case, the answers of the calls, the start of a run in
-// words that are watched, and the differences by number. For the crate `comparing`. It promises only that it is safe and ends.
+// words that are watched, and the differences. For the crate `comparing`. It promises only that it is safe and ends.
 #![tactic(auto)]
+
+ghost use Rattle.std.specs.Prelude.{◌≡◌, ◌+◌, ◌*◌, ◌^◌, ◌<◌};
+
+use searching::Edition;
 
 pub mod answers;
 pub mod faults;
@@ -12,15 +16,33 @@ pub mod words;
 // that its start names.
 #[derive(Clone, Copy)]
 pub struct Expected {
-    pub n: usize,
-    pub m: usize,
+    pub n: u16,
+    pub m: u16,
     pub start: usize,
-    pub sucs: u32,
-    pub pres: u32,
+    pub sucs: usize,
+    pub pres: usize,
     pub outside: i32,
     pub escape: u32,
     pub idlers: i32,
     pub first: bool,
     pub second: bool,
-    pub edition: usize,
+    pub edition: Edition,
+}
+
+impl Expected {
+    // "start needs 8N + 20M + 16"
+    pub fn needed(self) -> usize
+        ensures words { result ≡ 8 * self.n + 20 * self.m + 16 }
+        ensures bound { result < 2 ^ 24 }
+    {
+        8 * usize::from(self.n) + 20 * usize::from(self.m) + 16
+    }
+
+    // Whether the search finds a knot by the edition of the run.
+    fn is_knot(&self) -> bool {
+        match self.edition {
+            Edition::First => self.first,
+            Edition::Second => self.second,
+        }
+    }
 }

@@ -3,44 +3,25 @@
 // What every word holds before a start.
 const MARK: i32 = 20000003;
 
+// Digests are below 2 to the 48.
+const BOUND: u64 = 281474976710656;
+
 // Fills every word with it.
 pub fn fill(area: &mut [i32]) {
-    let mut k = 0;
-    while k < area.len() {
-        area[k] = MARK;
-        k += 1;
-    }
+    area.fill(MARK);
 }
 
 // Whether every word from that place on holds the mark.
 pub fn is_marked(area: &[i32], from: usize) -> bool {
-    for k in from..area.len() {
-        if area[k] != MARK {
-            return false;
-        }
-    }
-    true
+    area.iter().skip(from).all(|word| *word == MARK)
 }
 
-// A word as a number without sign, another for each word.
-fn unsigned(word: i32) -> u32 {
-    if word >= 0 {
-        word as u32
-    } else {
-        (-1 - word) as u32 + 2147483648
-    }
-}
-
-// A word mixed into a digest, modulo 2 to the 48. The factor is odd, so that a change of one word always shows.
-fn mix(digest: usize, word: u32) -> usize {
-    (digest % 281474976710656 * 31 + word as usize) % 281474976710656
+// A word mixed into a digest. The factor is odd, so that a change of one word always shows.
+fn mix(digest: u64, word: i32) -> u64 {
+    (digest % BOUND * 31 + u64::from(word.cast_unsigned())) % BOUND
 }
 
 // A digest of all words, in their order.
-pub fn digest(area: &[i32]) -> usize {
-    let mut d = 1;
-    for k in 0..area.len() {
-        d = mix(d, unsigned(area[k]));
-    }
-    d
+pub fn digest(area: &[i32]) -> u64 {
+    area.iter().fold(1, |digest, word| mix(digest, *word))
 }

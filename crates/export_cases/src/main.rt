@@ -12,14 +12,14 @@
 // `input ends early` is the last line.
 //
 // The program promises only that it is safe and ends: what it prints is held to the file stdout, which tools/export_cases.py makes with the file
-// stdin. It stands on `pickledune`, a function of `areas`, and on `streams`.
+// stdin. It stands on `pickledune` and on `streams`.
 #![tactic(auto)]
 
 ghost use Rattle.std.specs.Prelude.{◌≤◌};
 
-use areas::words;
 use std::io;
-use std::io::{Read, Write};
+use std::io::Write;
+use streams::word;
 
 // What every reference holds before a call that only stores through it, and what no call ever gives.
 const BEFORE: u32 = 4000000001;
@@ -28,247 +28,140 @@ const SIZE_BEFORE: usize = 4000000001;
 
 const SIGNED_BEFORE: i32 = 1000000001;
 
-fn print<W: Write>(to: &mut W, text: &[u8]) -> io::Result<()> {
-    streams::print(to, text)
+fn size(case: &[u8], k: usize) -> usize {
+    word(case, k) as usize
 }
 
-fn print_number<W: Write>(to: &mut W, n: u64) -> io::Result<()> {
-    streams::print_number(to, n)
-}
-
-fn print_size<W: Write>(to: &mut W, n: usize) -> io::Result<()> {
-    print(to, b" ")?;
-    print_number(to, n as u64)
-}
-
-fn print_field<W: Write>(to: &mut W, n: u32) -> io::Result<()> {
-    print(to, b" ")?;
-    print_number(to, n as u64)
-}
-
-// A negative number has a hyphen before it.
-fn print_digits<W: Write>(to: &mut W, z: i32) -> io::Result<()> {
-    if z < 0 {
-        print(to, b"-")?;
-    }
-    print_number(to, words::number(z) as u64)
-}
-
-fn print_signed<W: Write>(to: &mut W, z: i32) -> io::Result<()> {
-    print(to, b" ")?;
-    print_digits(to, z)
-}
-
-// The beginning of a line: the name of the call and what it returned.
-fn print_answer<W: Write>(to: &mut W, name: &[u8], number: u32) -> io::Result<()> {
-    print(to, name)?;
-    print_field(to, number)
-}
-
-// 32 bits, low byte first.
-fn joined(a: u8, b: u8, c: u8, d: u8) -> u32 {
-    a as u32 + 256 * (b as u32) + 65536 * (c as u32) + 16777216 * (d as u32)
-}
-
-// Number k of the call, counted from 0; 0 if it has none.
-fn word(s: &[u8], k: usize) -> u32 {
-    if s.len() / 4 <= k {
-        return 0;
-    }
-    joined(s[4 * k], s[4 * k + 1], s[4 * k + 2], s[4 * k + 3])
-}
-
-fn size(s: &[u8], k: usize) -> usize {
-    word(s, k) as usize
-}
-
-// The same as a signed number, which is not below 0.
-fn signed(s: &[u8], k: usize) -> i32 {
-    (word(s, k) % 2147483648) as i32
+// A number as a signed one, which is not below 0.
+fn signed(case: &[u8], k: usize) -> i32 {
+    (word(case, k) % 2147483648) as i32
 }
 
 // As many elements as the call wants to lend, or all if there are fewer.
-fn lent(s: &[u8], k: usize, all: usize) -> usize
+fn lent(case: &[u8], k: usize, all: usize) -> usize
     ensures { result ≤ all }
 {
-    let wanted = size(s, k);
-    if all < wanted {
-        return all;
-    }
-    wanted
+    size(case, k).min(all)
 }
 
-fn entry(s: &[u8], k: usize) -> u16 {
-    (word(s, k) % 65536) as u16
-}
-
-// The entries of a list, from number 4 of the call on.
-fn fill(s: &[u8], list: &mut [u16]) {
-    let mut k: usize = 0;
-    while k < list.len() {
-        list[k] = entry(s, 4 + k);
-        k += 1;
-    }
-}
-
-fn call_version<W: Write>(to: &mut W) -> io::Result<()> {
-    print_answer(to, b"version", pickledune::pickledune_version())
-}
-
-fn call_layout<W: Write>(to: &mut W) -> io::Result<()> {
-    print_answer(to, b"layout", pickledune::pickledune_layout())
-}
-
-fn call_read_table<W: Write>(to: &mut W, s: &[u8], table: &[u8]) -> io::Result<()> {
-    let end = lent(s, 1, table.len());
+fn call_read_table<W: Write>(to: &mut W, case: &[u8], table: &[u8]) -> io::Result<()> {
+    let end = lent(case, 1, table.len());
     let mut n = SIZE_BEFORE;
     let mut m = SIZE_BEFORE;
-    let number = pickledune::pickledune_read_table(&table[0..end], &mut n, &mut m);
-    print_answer(to, b"read_table", number)?;
-    print_size(to, n)?;
-    print_size(to, m)
+    let number = pickledune::pickledune_read_table(&table[..end], &mut n, &mut m);
+    write!(to, "read_table {number} {n} {m}")
 }
 
-fn write_list<W: Write>(to: &mut W, s: &[u8], list: &[u16], out: &mut [u8]) -> io::Result<()> {
-    let mut length = SIZE_BEFORE;
-    let number = pickledune::pickledune_write_table(size(s, 1), list, out, &mut length);
-    print_answer(to, b"write_table", number)?;
-    print_size(to, length)
-}
-
-fn call_write_table<W: Write>(to: &mut W, s: &[u8], table: &mut [u8]) -> io::Result<()> {
+fn call_write_table<W: Write>(to: &mut W, case: &[u8], table: &mut [u8]) -> io::Result<()> {
     let mut list = [0u16; 14];
-    fill(s, &mut list);
-    let entries = lent(s, 2, 14);
-    let end = lent(s, 3, table.len());
-    write_list(to, s, &list[0..entries], &mut table[0..end])
-}
-
-fn call_open<W: Write>(to: &mut W, s: &[u8], table: &[u8]) -> io::Result<()> {
-    let end = lent(s, 1, table.len());
-    let mut arc = SIZE_BEFORE;
-    let number = pickledune::pickledune_open(&table[0..end], word(s, 2), size(s, 3), &mut arc);
-    print_answer(to, b"open", number)?;
-    print_size(to, arc)
-}
-
-fn call_next<W: Write>(to: &mut W, s: &[u8], table: &[u8]) -> io::Result<()> {
-    let end = lent(s, 1, table.len());
-    print(to, b"next")?;
-    print_size(
-        to,
-        pickledune::pickledune_next(&table[0..end], word(s, 2), size(s, 3)),
-    )
-}
-
-fn call_start<W: Write>(to: &mut W, s: &[u8], table: &[u8], area: &mut [i32]) -> io::Result<()> {
-    let end = lent(s, 1, table.len());
-    let words = lent(s, 4, area.len());
-    let number = pickledune::pickledune_start(
-        &table[0..end],
-        size(s, 2),
-        size(s, 3),
-        &mut area[0..words],
+    for (k, entry) in list.iter_mut().enumerate() {
+        *entry = (word(case, 4 + k) % 65536) as u16;
+    }
+    let entries = lent(case, 2, 14);
+    let end = lent(case, 3, table.len());
+    let mut length = SIZE_BEFORE;
+    let number = pickledune::pickledune_write_table(
+        size(case, 1),
+        &list[..entries],
+        &mut table[..end],
+        &mut length,
     );
-    print_answer(to, b"start", number)
+    write!(to, "write_table {number} {length}")
 }
 
-fn call_pick<W: Write>(to: &mut W, s: &[u8], area: &mut [i32]) -> io::Result<()> {
-    let words = lent(s, 1, area.len());
+fn call_open<W: Write>(to: &mut W, case: &[u8], table: &[u8]) -> io::Result<()> {
+    let end = lent(case, 1, table.len());
+    let mut arc = SIZE_BEFORE;
+    let number = pickledune::pickledune_open(&table[..end], word(case, 2), size(case, 3), &mut arc);
+    write!(to, "open {number} {arc}")
+}
+
+fn call_next<W: Write>(to: &mut W, case: &[u8], table: &[u8]) -> io::Result<()> {
+    let end = lent(case, 1, table.len());
+    let next = pickledune::pickledune_next(&table[..end], word(case, 2), size(case, 3));
+    write!(to, "next {next}")
+}
+
+fn call_start<W: Write>(to: &mut W, case: &[u8], table: &[u8], area: &mut [i32]) -> io::Result<()> {
+    let end = lent(case, 1, table.len());
+    let words = lent(case, 4, area.len());
+    let number = pickledune::pickledune_start(
+        &table[..end],
+        size(case, 2),
+        size(case, 3),
+        &mut area[..words],
+    );
+    write!(to, "start {number}")
+}
+
+fn call_pick<W: Write>(to: &mut W, case: &[u8], area: &mut [i32]) -> io::Result<()> {
+    let words = lent(case, 1, area.len());
     let mut kind = BEFORE;
     let mut count = SIGNED_BEFORE;
     let mut second = SIGNED_BEFORE;
     let number = pickledune::pickledune_pick(
-        &mut area[0..words],
-        size(s, 2),
-        size(s, 3),
-        size(s, 4),
+        &mut area[..words],
+        size(case, 2),
+        size(case, 3),
+        size(case, 4),
         &mut kind,
         &mut count,
         &mut second,
     );
-    print_answer(to, b"pick", number)?;
-    print_field(to, kind)?;
-    print_signed(to, count)?;
-    print_signed(to, second)
+    write!(to, "pick {number} {kind} {count} {second}")
 }
 
-fn call_run_on<W: Write>(to: &mut W, s: &[u8], area: &mut [i32]) -> io::Result<()> {
-    let words = lent(s, 1, area.len());
+fn call_run_on<W: Write>(to: &mut W, case: &[u8], area: &mut [i32]) -> io::Result<()> {
+    let words = lent(case, 1, area.len());
     let mut over = BEFORE;
     let mut made = BEFORE;
     let number = pickledune::pickledune_run_on(
-        &mut area[0..words],
-        word(s, 2),
+        &mut area[..words],
+        word(case, 2),
         &mut over,
         &mut made,
     );
-    print_answer(to, b"run_on", number)?;
-    print_field(to, over)?;
-    print_field(to, made)
+    write!(to, "run_on {number} {over} {made}")
 }
 
-fn call_run_shuffled<W: Write>(to: &mut W, s: &[u8], area: &mut [i32]) -> io::Result<()> {
-    let words = lent(s, 1, area.len());
+fn call_run_shuffled<W: Write>(to: &mut W, case: &[u8], area: &mut [i32]) -> io::Result<()> {
+    let words = lent(case, 1, area.len());
     let mut over = BEFORE;
     let mut made = BEFORE;
     let number = pickledune::pickledune_run_shuffled(
-        &mut area[0..words],
-        word(s, 2),
-        word(s, 3),
+        &mut area[..words],
+        word(case, 2),
+        word(case, 3),
         &mut over,
         &mut made,
     );
-    print_answer(to, b"run_shuffled", number)?;
-    print_field(to, over)?;
-    print_field(to, made)
+    write!(to, "run_shuffled {number} {over} {made}")
 }
 
-fn call_report<W: Write>(to: &mut W, s: &[u8], area: &[i32]) -> io::Result<()> {
-    let words = lent(s, 1, area.len());
+fn call_report<W: Write>(to: &mut W, case: &[u8], area: &[i32]) -> io::Result<()> {
+    let words = lent(case, 1, area.len());
     let mut deliveries = BEFORE;
     let mut knot = BEFORE;
     let mut outside = SIGNED_BEFORE;
     let mut escape = BEFORE;
     let mut returned = BEFORE;
     let number = pickledune::pickledune_report(
-        &area[0..words],
+        &area[..words],
         &mut deliveries,
         &mut knot,
         &mut outside,
         &mut escape,
         &mut returned,
     );
-    print_answer(to, b"report", number)?;
-    print_field(to, deliveries)?;
-    print_field(to, knot)?;
-    print_signed(to, outside)?;
-    print_field(to, escape)?;
-    print_field(to, returned)
+    write!(
+        to,
+        "report {number} {deliveries} {knot} {outside} {escape} {returned}"
+    )
 }
 
-// The seven values of a record.
-fn print_record<W: Write>(
-    to: &mut W,
-    succeeding: u32,
-    preceding: u32,
-    subordinate: u32,
-    cs: i32,
-    num: u32,
-    father: u32,
-    second: i32,
-) -> io::Result<()> {
-    print_field(to, succeeding)?;
-    print_field(to, preceding)?;
-    print_field(to, subordinate)?;
-    print_signed(to, cs)?;
-    print_field(to, num)?;
-    print_field(to, father)?;
-    print_signed(to, second)
-}
-
-fn call_read_record<W: Write>(to: &mut W, s: &[u8], area: &[i32]) -> io::Result<()> {
-    let words = lent(s, 1, area.len());
+// Stays: the C interface stores each value through a reference of its own, so what goes together is printed value by value.
+fn call_read_record<W: Write>(to: &mut W, case: &[u8], area: &[i32]) -> io::Result<()> {
+    let words = lent(case, 1, area.len());
     let mut succeeding = BEFORE;
     let mut preceding = BEFORE;
     let mut subordinate = BEFORE;
@@ -277,8 +170,8 @@ fn call_read_record<W: Write>(to: &mut W, s: &[u8], area: &[i32]) -> io::Result<
     let mut father = BEFORE;
     let mut second = SIGNED_BEFORE;
     let number = pickledune::pickledune_read_record(
-        &area[0..words],
-        size(s, 2),
+        &area[..words],
+        size(case, 2),
         &mut succeeding,
         &mut preceding,
         &mut subordinate,
@@ -287,41 +180,20 @@ fn call_read_record<W: Write>(to: &mut W, s: &[u8], area: &[i32]) -> io::Result<
         &mut father,
         &mut second,
     );
-    print_answer(to, b"read_record", number)?;
-    print_record(
+    write!(
         to,
-        succeeding,
-        preceding,
-        subordinate,
-        cs,
-        num,
-        father,
-        second,
+        "read_record {number} {succeeding} {preceding} {subordinate} {cs} {num} {father} {second}"
     )
 }
 
-// What a step sends.
-fn print_sent<W: Write>(
-    to: &mut W,
-    probes: u32,
-    reply_to: u32,
-    reply_count: i32,
-    reply_second: i32,
-) -> io::Result<()> {
-    print_field(to, probes)?;
-    print_field(to, reply_to)?;
-    print_signed(to, reply_count)?;
-    print_signed(to, reply_second)
-}
-
-fn call_step<W: Write>(to: &mut W, s: &[u8]) -> io::Result<()> {
-    let mut succeeding = word(s, 1);
-    let mut preceding = word(s, 2);
-    let mut subordinate = word(s, 3);
-    let mut cs = signed(s, 4);
-    let mut num = word(s, 5);
-    let mut father = word(s, 6);
-    let mut second = signed(s, 7);
+fn call_step<W: Write>(to: &mut W, case: &[u8]) -> io::Result<()> {
+    let mut succeeding = word(case, 1);
+    let mut preceding = word(case, 2);
+    let mut subordinate = word(case, 3);
+    let mut cs = signed(case, 4);
+    let mut num = word(case, 5);
+    let mut father = word(case, 6);
+    let mut second = signed(case, 7);
     let mut probes = BEFORE;
     let mut reply_to = BEFORE;
     let mut reply_count = SIGNED_BEFORE;
@@ -334,107 +206,60 @@ fn call_step<W: Write>(to: &mut W, s: &[u8]) -> io::Result<()> {
         &mut num,
         &mut father,
         &mut second,
-        word(s, 8),
-        signed(s, 9),
-        signed(s, 10),
-        word(s, 11),
-        word(s, 12),
-        word(s, 13),
+        word(case, 8),
+        signed(case, 9),
+        signed(case, 10),
+        word(case, 11),
+        word(case, 12),
+        word(case, 13),
         &mut probes,
         &mut reply_to,
         &mut reply_count,
         &mut reply_second,
     );
-    print_answer(to, b"step", number)?;
-    print_record(
+    write!(
         to,
-        succeeding,
-        preceding,
-        subordinate,
-        cs,
-        num,
-        father,
-        second,
+        "step {number} {succeeding} {preceding} {subordinate} {cs} {num} {father} {second}"
     )?;
-    print_sent(to, probes, reply_to, reply_count, reply_second)
-}
-
-fn print_word<W: Write>(to: &mut W, place: usize, word: i32) -> io::Result<()> {
-    if word == 0 {
-        return Ok(());
-    }
-    print_size(to, place)?;
-    print(to, b":")?;
-    print_digits(to, word)
+    write!(to, " {probes} {reply_to} {reply_count} {reply_second}")
 }
 
 // The words of the area that are not 0.
-fn print_words<W: Write>(to: &mut W, area: &[i32]) -> io::Result<()> {
-    print(to, b"words")?;
-    for k in 0..area.len() {
-        print_word(to, k, area[k])?;
+fn call_words<W: Write>(to: &mut W, case: &[u8], area: &[i32]) -> io::Result<()> {
+    let words = lent(case, 1, area.len());
+    write!(to, "words")?;
+    for (place, word) in area[..words].iter().enumerate() {
+        if *word != 0 {
+            write!(to, " {place}:{word}")?;
+        }
     }
     Ok(())
 }
 
-fn call_words<W: Write>(to: &mut W, s: &[u8], area: &[i32]) -> io::Result<()> {
-    let words = lent(s, 1, area.len());
-    print_words(to, &area[0..words])
-}
-
-// The calls on a table.
-fn call_on_table<W: Write>(to: &mut W, s: &[u8], table: &mut [u8]) -> io::Result<()> {
-    match word(s, 0) {
-        1 => call_version(to),
-        2 => call_layout(to),
-        3 => call_read_table(to, s, table),
-        4 => call_write_table(to, s, table),
-        5 => call_open(to, s, table),
-        _ => call_next(to, s, table),
-    }
-}
-
-// The calls on an area that was started, and those that need none.
-fn call_on_area<W: Write>(to: &mut W, s: &[u8], area: &mut [i32]) -> io::Result<()> {
-    match word(s, 0) {
-        8 => call_pick(to, s, area),
-        9 => call_run_on(to, s, area),
-        10 => call_run_shuffled(to, s, area),
-        11 => call_report(to, s, area),
-        12 => call_read_record(to, s, area),
-        13 => call_step(to, s),
-        14 => call_words(to, s, area),
-        _ => print(to, b"no such call"),
-    }
-}
-
-fn make_call<W: Write>(to: &mut W, s: &[u8], table: &mut [u8], area: &mut [i32]) -> io::Result<()> {
-    match word(s, 0) {
-        1..=6 => call_on_table(to, s, table),
-        7 => call_start(to, s, table, area),
-        _ => call_on_area(to, s, area),
-    }
-}
-
-// One call; gives whether to go on.
-fn next_call<R: Read, W: Write>(
-    from: &mut R,
+fn make_call<W: Write>(
     to: &mut W,
+    case: &[u8],
     table: &mut [u8],
     area: &mut [i32],
-) -> io::Result<bool> {
-    let mut bytes = [0u8; 72];
-    let got = streams::read_full(from, &mut bytes)?;
-    if got == 0 {
-        return Ok(false);
-    }
-    if got < 72 {
-        print(to, b"input ends early\n")?;
-        return Ok(false);
-    }
-    make_call(to, &bytes, table, area)?;
-    print(to, b"\n")?;
-    Ok(true)
+) -> io::Result<()> {
+    match word(case, 0) {
+        1 => write!(to, "version {}", pickledune::pickledune_version()),
+        2 => write!(to, "layout {}", pickledune::pickledune_layout()),
+        3 => call_read_table(to, case, table),
+        4 => call_write_table(to, case, table),
+        5 => call_open(to, case, table),
+        6 => call_next(to, case, table),
+        7 => call_start(to, case, table, area),
+        8 => call_pick(to, case, area),
+        9 => call_run_on(to, case, area),
+        10 => call_run_shuffled(to, case, area),
+        11 => call_report(to, case, area),
+        12 => call_read_record(to, case, area),
+        13 => call_step(to, case),
+        14 => call_words(to, case, area),
+        _ => write!(to, "no such call"),
+    }?;
+    writeln!(to)
 }
 
 // Makes all calls. Nothing says that the input ends, so the loop counts its turns, up to a number that no run uses up.
@@ -443,10 +268,12 @@ fn main(rt: HostRuntime) -> io::Result<()> {
     let mut to = io::writer(&rt);
     let mut table = [0u8; 96];
     let mut area = [0i32; 256];
+    let mut case = [0u8; 72];
     for _ in 0..u64::MAX {
-        if !next_call(&mut from, &mut to, &mut table, &mut area)? {
+        if !streams::next_case(&mut from, &mut to, &mut case)? {
             break;
         }
+        make_call(&mut to, &case, &mut table, &mut area)?;
     }
     Ok(())
 }

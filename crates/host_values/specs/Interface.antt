@@ -5,7 +5,7 @@
 --   probes_number, reply_receiver   == what a step sends, as numbers, zeros where it sends nothing; the counts are counts_replied (steps, Effect)
 --   StepTold m o i p x y ..   == the step of the record x on message m, with degrees o and i, from p, has left the record y and given these values
 -- The laws stand in InterfaceLaws. Assumes nothing.
-use Rattle.std.specs.Prelude.{ℕ, ◌+◌, ◌≡◌, eqb, ℤ, pos}
+use Rattle.std.specs.Prelude.{ℕ, ◌+◌, ◌≡◌, eqb, ℤ, pos, Option}
 use Rattle.base.specs.Choice.{choose}
 use Rattle.tables.specs.declared.Chain.{Chain}
 use Rattle.tables.specs.declared.Chain.TheVariants.{Out, In}
@@ -15,10 +15,9 @@ use Rattle.steps.specs.declared.Process.{Process}
 use Rattle.steps.specs.declared.Probes.{Probes}
 use Rattle.steps.specs.declared.Probes.TheVariants.{Sucs, Pres}
 use Rattle.steps.specs.declared.Reply.{Reply}
-use Rattle.steps.specs.declared.Reply.TheVariants.{To}
 use Rattle.steps.specs.declared.TwoCounts.{TwoCounts}
 use Rattle.steps.specs.Step.{most_count, stepped}
-use Rattle.steps.specs.Effect.{counts_replied}
+use Rattle.steps.specs.Effect.{counts_replied, receiver}
 use Rattle.host_values.specs.Values.{stepped_number, stepped_probes, stepped_reply}
 use Rattle.lending.specs.Lent.{lent_record}
 
@@ -42,9 +41,8 @@ probes_number Sucs = 1
 probes_number Pres = 2
 
 -- "the one acknowledgement to send, if there is one": to whom, 0 if there is none
-abbrev pub reply_receiver : Reply → ℕ
-reply_receiver Reply.Nothing = 0
-reply_receiver (To p c) = p
+abbrev pub reply_receiver : Option Reply → ℕ
+reply_receiver y = receiver y
 
 pub record StepTold (m : Message) (o i p : ℕ) (x y : Process) (r b t : ℕ) (z : TwoCounts) : Type 0 where
   pub number : r ≡ stepped_number (stepped m o i p x)

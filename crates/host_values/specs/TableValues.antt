@@ -3,34 +3,28 @@
 --   writing_number, written_length   == writing one: its number, and the bytes written
 --   started_number       == start: its number
 -- Assumes nothing.
-use Rattle.std.specs.Prelude.{ℕ}
-use Rattle.tables.specs.declared.Reading.{Reading}
-use Rattle.tables.specs.declared.Reading.TheVariants.{Accepted}
-use Rattle.table_writer.specs.declared.Writing.{Writing}
-use Rattle.table_writer.specs.declared.Writing.TheVariants.{Written}
-use Rattle.starting.specs.declared.Started.{Started}
-use Rattle.starting.specs.declared.Started.TheVariants.{Ready}
+use Rattle.std.specs.Prelude.{ℕ, Result, Ok, Err}
+use Rattle.refusals.specs.declared.Refusal.{Refusal}
+use Rattle.refusals.specs.Numbers as Numbers
+use Rattle.tables.specs.declared.Sizes.{Sizes}
 
-abbrev pub number_of : Reading → ℕ
-number_of (Accepted n m) = 0
-number_of (Reading.Refused r) = r
+abbrev pub number_of : Result Sizes Refusal → ℕ
+number_of a = Numbers.number_of a
 
-abbrev pub n_found : Reading → ℕ
-n_found (Accepted n m) = n
-n_found (Reading.Refused r) = 0
+abbrev pub n_found : Result Sizes Refusal → ℕ
+n_found (Ok s) = s.n
+n_found (Err e) = 0
 
-abbrev pub m_found : Reading → ℕ
-m_found (Accepted n m) = m
-m_found (Reading.Refused r) = 0
+abbrev pub m_found : Result Sizes Refusal → ℕ
+m_found (Ok s) = s.m
+m_found (Err e) = 0
 
-abbrev pub writing_number : Writing → ℕ
-writing_number (Written l) = 0
-writing_number (Writing.Refused r) = r
+abbrev pub writing_number : Result ℕ Refusal → ℕ
+writing_number a = Numbers.number_of a
 
-abbrev pub written_length : Writing → ℕ
-written_length (Written l) = l
-written_length (Writing.Refused r) = 0
+abbrev pub written_length : Result ℕ Refusal → ℕ
+written_length (Ok l) = l
+written_length (Err e) = 0
 
-abbrev pub started_number : Started → ℕ
-started_number Ready = 0
-started_number (Started.Refused n) = n
+abbrev pub started_number : Result (Unit {0}) Refusal → ℕ
+started_number a = Numbers.number_of a

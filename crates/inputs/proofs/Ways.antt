@@ -8,9 +8,9 @@
 --   begin_inside      == the table of a split input lies inside it
 --   begin_unstarted, begin_started   == the start refused, or accepted
 -- Assumes nothing.
-use Prim.Native.Nat.{ℕ, zero, suc, ◌+◌, ◌-◌, ◌*◌, ◌/◌, ◌%◌, ◌≤◌, ◌<◌}
+use Prim.Native.Nat.{ℕ, suc, ◌+◌, ◌-◌, ◌*◌, ◌/◌, ◌%◌, ◌≤◌, ◌<◌}
 use mathlib.Core.List.{List}
-use mathlib.Core.Path.{◌≡◌, refl, sym, ap, ◌∙◌}
+use mathlib.Core.Path.{◌≡◌, sym, ap, ◌∙◌}
 use native.Mathlib.Omega.{arith}
 use borrow.Author.Tests.{ne_eqb}
 use lib.IntN.{ℤ}
@@ -19,29 +19,32 @@ use lib.Seq.{take_all, get_or-drop}
 use Rattle.tables.specs.TableLaws.{field_of_small}
 use Rattle.tables.specs.Table.{field_of, most_processes, most_arcs}
 use Rattle.tables.specs.Layout.{Sizes}
-use Rattle.starting.specs.declared.Started.{Started}
-use Rattle.starting.specs.StartCall.{start_number, started_by, start_answer, start_area}
-use Rattle.inputs.specs.declared.Splitting.{Splitting}
+use Rattle.std.specs.Prelude.{Result, Ok, Err}
+use Rattle.refusals.specs.declared.Refusal.{Refusal}
+use Rattle.refusals.specs.Numbers.{numbered}
+use Rattle.refusals.specs.NumberLaws.{answered_ok, answered_err, passed_on}
+use Rattle.starting.specs.StartCall.{start_number, start_answer, start_area}
+use Rattle.inputs.specs.declared.Parts.{Parts}
 use Rattle.inputs.specs.declared.Pick.{Pick}
 use Rattle.inputs.specs.declared.Begun.{Begun}
-use Rattle.inputs.specs.Input.{start_in, edition_in, before_table, table_fields, table_end, table_in, picks_in, input_number, split_by, split_of}
-use Rattle.inputs.specs.Input.{pick_from, pick_to, pick_in, begun_number, begun_by, begun_of, begun_area, FirstMet, row_13, row_1, row_2, row_3, row_12, no_row}
+use Rattle.inputs.specs.Input.{start_in, edition_in, before_table, table_fields, table_end, table_in, picks_in, input_number, parts_of, split_of}
+use Rattle.inputs.specs.Input.{pick_from, pick_to, pick_in, begun_number, begun_of, begun_area, FirstMet, row_13, row_1, row_2, row_3, row_12, no_row}
 use Rattle.inputs.specs.InputLaws.{field_of_after, none_rest, some_rest, end_least, first_number, parts_fill}
-use Rattle.inputs.proofs.Told.{Parted, split_parted, split_refused}
+use Rattle.inputs.proofs.Told.{Parted, split_parted}
 
 module _ (bs : List ℕ) where
-  refused : (r : ℕ) → FirstMet bs (suc r) → Splitting.Refused (suc r) ≡ split_of bs
-  unfolding split_of split_by
+  refused : (r : ℕ) → FirstMet bs (suc r) → Err (numbered (suc r)) ≡ split_of bs
+  unfolding split_of
   refused r m = rw (first_number bs (suc r) m)
 
-  parted : FirstMet bs 0 → Splitting.Parts (start_in bs) (edition_in bs) (table_end bs) (picks_in bs) ≡ split_of bs
-  unfolding split_of split_by
+  parted : FirstMet bs 0 → Ok (parts_of bs) ≡ split_of bs
+  unfolding split_of
   parted m = rw (first_number bs 0 m)
 
-  pub split_13 : 20480 < length bs → Splitting.Refused 13 ≡ split_of bs
+  pub split_13 : 20480 < length bs → Err (numbered 13) ≡ split_of bs
   split_13 h = refused 12 (row_13 h)
 
-  pub split_1 : length bs ≤ 20480 → length bs < 8 → Splitting.Refused 1 ≡ split_of bs
+  pub split_1 : length bs ≤ 20480 → length bs < 8 → Err (numbered 1) ≡ split_of bs
   split_1 l h = refused 0 (row_1 l h)
 
   module _ (l : length bs ≤ 20480) (u : 8 ≤ length bs) (n m : ℕ) (en : n ≡ field_of bs 2) (em : m ≡ field_of bs 3) where
@@ -57,34 +60,34 @@ module _ (bs : List ℕ) where
     unfolding table_end
     end_is = omega (arith, n_is, m_is)
 
-    pub split_2_none : n ≡ 0 → Splitting.Refused 2 ≡ split_of bs
+    pub split_2_none : n ≡ 0 → Err (numbered 2) ≡ split_of bs
     split_2_none h = refused 1 (row_2 l u (λ s. omega (arith, n_is)))
 
-    pub split_2_many : most_processes < n → Splitting.Refused 2 ≡ split_of bs
+    pub split_2_many : most_processes < n → Err (numbered 2) ≡ split_of bs
     split_2_many h = refused 1 (row_2 l u (λ s. omega (arith, n_is)))
 
-    pub split_2_arcs : most_arcs < m → Splitting.Refused 2 ≡ split_of bs
+    pub split_2_arcs : most_arcs < m → Err (numbered 2) ≡ split_of bs
     split_2_arcs h = refused 1 (row_2 l u (λ s. omega (arith, m_is)))
 
     module _ (d : n ≡ 0 → ⊥) (h : n ≤ most_processes) (k : m ≤ most_arcs) where
       sizes : Sizes (table_fields bs)
       sizes = (omega (arith, n_is), omega (arith, n_is), omega (arith, m_is))
 
-      pub split_3 : length bs < 8 + 4 * n + 8 * m → Splitting.Refused 3 ≡ split_of bs
+      pub split_3 : length bs < 8 + 4 * n + 8 * m → Err (numbered 3) ≡ split_of bs
       split_3 f = refused 2 (row_3 l u sizes (omega (arith, end_is)))
 
       module _ (i : 8 + 4 * n + 8 * m ≤ length bs) where
         inside : table_end bs ≤ length bs
         inside = omega (arith, end_is)
 
-        pub split_12 : ((length bs - (8 + 4 * n + 8 * m)) % 4 ≡ 0 → ⊥) → Splitting.Refused 12 ≡ split_of bs
+        pub split_12 : ((length bs - (8 + 4 * n + 8 * m)) % 4 ≡ 0 → ⊥) → Err (numbered 12) ≡ split_of bs
         unfolding picks_in
         split_12 f =
             let b = some_rest (length bs) (table_end bs) inside (λ z. f (rw end_is z)) in
             refused 11 (row_12 l sizes b.0 b.1)
 
         pub split_0 : (s v : ℕ) → s ≡ field_of bs 0 → v ≡ field_of bs 1 → (length bs - (8 + 4 * n + 8 * m)) % 4 ≡ 0
-            → Splitting.Parts s v (8 + 4 * n + 8 * m) ((length bs - (8 + 4 * n + 8 * m)) / 4) ≡ split_of bs
+            → Ok (record { start = s; edition = v; end = 8 + 4 * n + 8 * m; picks = (length bs - (8 + 4 * n + 8 * m)) / 4 }) ≡ split_of bs
         unfolding picks_in start_in edition_in
         split_0 s v es ev z =
             rw (es, ev, end_is)
@@ -114,62 +117,50 @@ module _ (bs : List ℕ) (end j : ℕ) (e : end ≡ table_end bs) where
       λ i. record { from = from i; to = to i }
 
 -- the answer a and the area l are those of beginning
-abbrev pub Begins : List ℕ → List ℤ → Begun → List ℤ → Type 0
-Begins bs w a l = (a ≡ begun_of bs w) × (l ≡ begun_area bs w)
+pub record Begins (bs : List ℕ) (w : List ℤ) (a : Result Begun Refusal) (l : List ℤ) : Type 0 where
+  pub answer : a ≡ begun_of bs w
+  pub area : l ≡ begun_area bs w
 
-started_refused : (n r : ℕ) → started_by n ≡ Started.Refused r → (n ≡ r) × (r ≡ 0 → ⊥)
-started_refused zero r q = absurd (let z : ◌≡◌ {A = ℕ} 0 1 = cc in omega arith)
-started_refused (suc n) r q = let here : suc n ≡ r = cc in (here, λ z. omega arith)
+module _ (bs : List ℕ) (w : List ℤ) {x : Result Parts Refusal} (ex : x ≡ split_of bs) where
+  pub begin_split : {e : Refusal} → x ≡ Err e → Begins bs w (Err e) w
+  unfolding begun_of begun_number begun_area split_of
+  begin_split q =
+      let z = ne_eqb (input_number bs) 0 (answered_err (input_number bs) _ (sym ex ∙ q)) in
+      record { answer = rw z (passed_on (input_number bs) _ _ (sym ex ∙ q)); area = rw z }
 
-started_ready : (n : ℕ) → started_by n ≡ Started.Ready → n ≡ 0
-started_ready zero q = refl
-started_ready (suc n) q = absurd (let z : ◌≡◌ {A = ℕ} 0 1 = cc in omega arith)
+  module _ {p : Parts} (q : x ≡ Ok p) where
+    told : Parted bs p
+    told = split_parted bs (sym ex ∙ q)
 
-begun_by_some : (n : ℕ) (bs : List ℕ) (r : ℕ) → n ≡ r → (r ≡ 0 → ⊥) → Begun.Refused r ≡ begun_by n bs
-unfolding begun_by
-begun_by_some zero bs r e d = absurd (d (sym e))
-begun_by_some (suc n) bs r e d = ap Begun.Refused (sym e)
-
-module _ (bs : List ℕ) (w : List ℤ) (x : Splitting) (ex : x ≡ split_of bs) where
-  pub begin_split : (r : ℕ) → x ≡ Splitting.Refused r → Begins bs w (Begun.Refused r) w
-  unfolding begun_of begun_number begun_area
-  begin_split r q =
-      let told = split_refused bs x ex r q in
-      let z = ne_eqb (input_number bs) 0 (λ e. told.1 (sym told.0 ∙ e)) in
-      (begun_by_some (begun_number bs w) bs r (rw z told.0) told.1, rw z)
-
-  module _ (s v e k : ℕ) (q : x ≡ Splitting.Parts s v e k) where
-    told : Parted bs s v e k
-    told = split_parted bs x ex s v e k q
-
-    pub begin_inside : (before_table ≤ e) × (e ≤ length bs)
+    pub begin_inside : (before_table ≤ p.end) × (p.end ≤ length bs)
     begin_inside =
         let f = parts_fill bs told.number in
-        (omega (arith, told.end_is, end_least bs), omega (arith, told.end_is))
+        let e : p.end ≡ table_end bs = ap (λ (p : Parts). p.end) told.is in
+        (omega (arith, e, end_least bs), omega (arith, e))
 
-    module _ (a : Started) (l : List ℤ)
-        (both : (a ≡ start_answer (take (e - before_table) (drop before_table bs)) s v w) × (l ≡ start_area (take (e - before_table) (drop before_table bs)) s v w))
-      where
-        number : begun_number bs w ≡ start_number (table_in bs) (start_in bs) (edition_in bs) w
-        unfolding begun_number
-        number = rw told.number
+    abbrev table : List ℕ
+    table = take (p.end - before_table) (drop before_table bs)
 
-        answer : a ≡ started_by (start_number (table_in bs) (start_in bs) (edition_in bs) w)
-        unfolding start_answer table_in
-        answer = rw (told.end_is, told.start_is, told.edition_is) at both.0
+    module _ {a : Result (Unit {0}) Refusal} {l : List ℤ} (ea : a ≡ start_answer table p.start p.edition w) (el : l ≡ start_area table p.start p.edition w) where
+      number : begun_number bs w ≡ start_number (table_in bs) (start_in bs) (edition_in bs) w
+      unfolding begun_number
+      number = rw told.number
 
-        area : l ≡ begun_area bs w
-        unfolding begun_area table_in
-        area = rw told.number (rw (told.end_is, told.start_is, told.edition_is) at both.1)
+      answer : a ≡ start_answer (table_in bs) (start_in bs) (edition_in bs) w
+      unfolding table_in
+      answer = rw told.is at ea
 
-        pub begin_unstarted : (r : ℕ) → a ≡ Started.Refused r → Begins bs w (Begun.Refused r) l
-        unfolding begun_of
-        begin_unstarted r c =
-            let n = started_refused (start_number (table_in bs) (start_in bs) (edition_in bs) w) r (sym answer ∙ c) in
-            (begun_by_some (begun_number bs w) bs r (number ∙ n.0) n.1, area)
+      area : l ≡ begun_area bs w
+      unfolding begun_area table_in
+      area = rw told.number (rw told.is at el)
 
-        pub begin_started : a ≡ Started.Ready → Begins bs w (Begun.Ready e k) l
-        unfolding begun_of begun_by
-        begin_started c =
-            let n = started_ready (start_number (table_in bs) (start_in bs) (edition_in bs) w) (sym answer ∙ c) in
-            (rw (number ∙ n, told.end_is, told.picks_is), area)
+      pub begin_unstarted : {e : Refusal} → a ≡ Err e → Begins bs w (Err e) l
+      unfolding begun_of start_answer
+      begin_unstarted c =
+          record { answer = rw number (passed_on (start_number (table_in bs) (start_in bs) (edition_in bs) w) _ _ (sym answer ∙ c)); area = area }
+
+      pub begin_started : {u : Unit {0}} → a ≡ Ok u → Begins bs w (Ok (record { end = p.end; picks = p.picks })) l
+      unfolding begun_of start_answer
+      begin_started c =
+          let n = (answered_ok (start_number (table_in bs) (start_in bs) (edition_in bs) w) _ (sym answer ∙ c)).0 in
+          record { answer = rw (number ∙ n, told.is); area = area }

@@ -9,21 +9,24 @@
 --   longest             == the most bytes that are read
 --   input_number bs      == "The program checks 13, 1, 2, 3, 12": the first that is met, 0 if none is
 --   FirstMet bs r       == r is the first row that the input meets, in the same order, each row in 01's words; 0 if it meets none
---   split_of bs          == the answer of splitting the input: its parts, or refused with the number
+--   parts_of bs          == its parts: the start process, the edition, where the table ends, and the number of picks
+--   split_of bs          == the answer of splitting the input: its parts, or the refusal with the number
 --   pick_from bs j, pick_to bs j   == the two ends that pick j names, counted from 0
 --   pick_in bs j         == that pick
 --   begun_number bs w    == the same checks, "then 4 to 8", then 30: start on the input's table (its 9 if the words are too few)
---   begun_of bs w        == the answer: ready, with where the picks begin and how many there are, or refused with the number
+--   begun_of bs w        == the answer: where the picks begin and how many there are, or the refusal with the number
 --   begun_area bs w      == the area that this leaves
 --   ZeroOr a h n, ThenMet n   == n is 0, or a to h; n is 0, 4 to 8, or 30
 -- Assumes nothing.
-use Rattle.std.specs.Prelude.{ℕ, zero, suc, ◌+◌, ◌-◌, ◌*◌, ◌/◌, ◌%◌, ◌≤◌, ◌<◌, not, List, ◌⊎◌, ◌≡◌, eqb, ltb, ℤ, length, take, drop}
+use Rattle.std.specs.Prelude.{ℕ, ◌+◌, ◌-◌, ◌*◌, ◌/◌, ◌%◌, ◌≤◌, ◌<◌, not, List, ◌⊎◌, ◌≡◌, Result, eqb, ltb, ℤ, length, take, drop}
 use Rattle.base.specs.Choice.{choose}
+use Rattle.refusals.specs.declared.Refusal.{Refusal}
+use Rattle.refusals.specs.Numbers.{answered}
 use Rattle.tables.specs.Table.{Fields, field_of, n_of, m_of, table_length}
 use Rattle.tables.specs.Layout.{Sizes}
 use Rattle.tables.specs.Reading.{sizes_right}
 use Rattle.starting.specs.StartCall.{start_number, start_area}
-use Rattle.inputs.specs.declared.Splitting.{Splitting}
+use Rattle.inputs.specs.declared.Parts.{Parts}
 use Rattle.inputs.specs.declared.Pick.{Pick}
 use Rattle.inputs.specs.declared.Begun.{Begun}
 
@@ -80,13 +83,15 @@ pub data FirstMet (bs : List ℕ) : ℕ → Type 0 where
       FirstMet bs 12
   no_row : length bs ≤ 20480 → Sizes (table_fields bs) → table_end bs + 4 * picks_in bs ≡ length bs → FirstMet bs 0
 
--- 01's number and the values for each case of the answer: 0 with the start process, the edition, where the table ends, and the number of
--- picks
-unfoldable pub split_by : ℕ → List ℕ → Splitting
-split_by zero bs = Splitting.Parts (start_in bs) (edition_in bs) (table_end bs) (picks_in bs)
-split_by (suc n) bs = Splitting.Refused (suc n)
+-- the start process, the edition, where the table ends, and the number of picks
+abbrev pub parts_of : List ℕ → Parts
+parts_of bs = record { start = start_in bs; edition = edition_in bs; end = table_end bs; picks = picks_in bs }
 
-unfoldable pub split_of : List ℕ → Splitting
+-- the answer by 01's number
+abbrev pub split_by : ℕ → List ℕ → Result Parts Refusal
+split_by n bs = answered n (parts_of bs)
+
+unfoldable pub split_of : List ℕ → Result Parts Refusal
 split_of bs = split_by (input_number bs) bs
 
 -- pick j, counted from 0: its sender and its receiver
@@ -103,12 +108,11 @@ pick_in bs j = record { from = pick_from bs j; to = pick_to bs j }
 unfoldable pub begun_number : List ℕ → List ℤ → ℕ
 begun_number bs w = choose (eqb (input_number bs) 0) (start_number (table_in bs) (start_in bs) (edition_in bs) w) (input_number bs)
 
--- 01's number and the values for each case of the answer: 0 with where the picks begin, and how many there are
-unfoldable pub begun_by : ℕ → List ℕ → Begun
-begun_by zero bs = Begun.Ready (table_end bs) (picks_in bs)
-begun_by (suc n) bs = Begun.Refused (suc n)
+-- the answer by 01's number: where the picks begin, and how many there are
+abbrev pub begun_by : ℕ → List ℕ → Result Begun Refusal
+begun_by n bs = answered n (record { end = table_end bs; picks = picks_in bs })
 
-unfoldable pub begun_of : List ℕ → List ℤ → Begun
+unfoldable pub begun_of : List ℕ → List ℤ → Result Begun Refusal
 begun_of bs w = begun_by (begun_number bs w) bs
 
 -- the area that a begun program leaves; a refusal changes no word

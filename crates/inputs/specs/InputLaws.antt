@@ -9,11 +9,12 @@
 --   table_length_is      == its table has exactly the length that its own N and M ask
 --   table_read        == so reading the table checks 4 to 7 only
 --   then_4_to_8_30    == "then 4 to 8", then 30: what start says of that table, in words enough for any table
+--   begun_said        == the number of beginning is that of its answer
 --   begun_started     == a begun input is not refused, its start is accepted, and the area is the one that its start leaves
 --   begun_kept        == a refused input changes no word
 --   example_split, example_pick   == 01's own input
 -- Assumes nothing.
-use Rattle.std.specs.Prelude.{ℕ, suc, ◌+◌, ◌-◌, ◌*◌, ◌/◌, ◌%◌, ◌≤◌, ◌<◌, Bool, true, false, not, ◌&&◌, List, [], ◌∷◌, ◌↔◌, ◌≡◌, refl, eqb, leb, ltb, ℤ, get_or, take, drop}
+use Rattle.std.specs.Prelude.{ℕ, suc, ◌+◌, ◌-◌, ◌*◌, ◌/◌, ◌%◌, ◌≤◌, ◌<◌, Bool, true, false, not, ◌&&◌, List, [], ◌∷◌, ◌↔◌, ◌⊎◌, ◌≡◌, refl, Ok, eqb, leb, ltb, ℤ, get_or, take, drop}
 use Rattle.std.proofs.Common.{inl, inr, ⊎_elim, ap, ◌∙◌, get_or-drop, get_or-take}
 use native.Mathlib.Omega.{arith}
 use borrow.Author.Tests.{lt-ltb, le-ltb, eq-eqb, ne_eqb}
@@ -28,13 +29,16 @@ use Rattle.base.specs.Sums.{all_to}
 use Rattle.tables.specs.declared.Chain.TheVariants.{Out, In}
 use Rattle.tables.specs.Table.{Fields, field_of, n_of, m_of, most_processes, most_arcs, table_length, is_process}
 use Rattle.tables.specs.Layout.{Sizes}
+use Rattle.refusals.specs.Numbers.{answered, number_of}
+use Rattle.refusals.specs.NumberLaws.{number_of_low}
 use Rattle.tables.specs.Reading.{chains_right, sizes_right, ends_right, firsts_right, nexts_right, unlike_before, fields_number, read_number}
+use Rattle.tables.specs.ReadingLaws.{read_number_low}
 use Rattle.checks.specs.Run.{is_edition}
 use Rattle.areas.specs.Places.{area_length}
 use Rattle.starting.specs.StartCall.{start_number, start_area}
-use Rattle.inputs.specs.declared.Splitting.{Splitting}
+use Rattle.inputs.specs.declared.Begun.{Begun}
 use Rattle.inputs.specs.Input.{start_in, edition_in, before_table, table_fields, table_end, table_in, picks_in, input_number, FirstMet, row_13, row_1}
-use Rattle.inputs.specs.Input.{row_2, row_3, row_12, no_row, split_by, split_of, pick_from, pick_to, pick_in, begun_number, begun_area, ZeroOr, ThenMet}
+use Rattle.inputs.specs.Input.{row_2, row_3, row_12, no_row, split_of, pick_from, pick_to, pick_in, begun_number, begun_of, begun_area, ZeroOr, ThenMet}
 
 -- ---- fields
 
@@ -250,6 +254,39 @@ module _ (bs : List ℕ) (e : input_number bs ≡ 0) (s ed : ℕ) (w : List ℤ)
 
 -- ---- beginning
 
+-- the numbers of the rows that beginning checks
+abbrev Low : ℕ → Type 0
+Low k = (k ≤ 13) ⊎ (k ≡ 30)
+
+choose_low : (b : Bool) (m n : ℕ) → Low m → Low n → Low (choose b m n)
+choose_low true m n p q = p
+choose_low false m n p q = q
+
+input_low : (bs : List ℕ) → Low (input_number bs)
+unfolding input_number
+input_low bs =
+    choose_low (ltb 20480 (length bs)) _ _ (inl (omega arith))
+    (choose_low (ltb (length bs) (before_table + 4)) _ _ (inl (omega arith))
+    (choose_low (not (sizes_right (table_fields bs))) _ _ (inl (omega arith))
+    (choose_low (ltb (length bs) (table_end bs)) _ _ (inl (omega arith))
+    (choose_low (not (eqb ((length bs - table_end bs) % 4) 0)) _ _ (inl (omega arith)) (inl (omega arith))))))
+
+start_low : (bs : List ℕ) (s ed : ℕ) (w : List ℤ) → Low (start_number bs s ed w)
+unfolding start_number
+start_low bs s ed w =
+    choose_low (not (eqb (read_number bs) 0)) _ _ (inl (omega (arith, read_number_low bs)))
+    (choose_low (not (is_process (n_of (field_of bs)) s)) _ _ (inl (omega arith))
+    (choose_low (not (is_edition ed)) _ _ (inr refl)
+    (choose_low (ltb (length w) (area_length (n_of (field_of bs)) (m_of (field_of bs)))) _ _ (inl (omega arith)) (inl (omega arith)))))
+
+pub begun_said : (bs : List ℕ) (w : List ℤ) → number_of (begun_of bs w) ≡ begun_number bs w
+unfolding begun_of begun_number
+begun_said bs w = at _ _ (choose_low (eqb (input_number bs) 0) _ _ (start_low (table_in bs) (start_in bs) (edition_in bs) w) (input_low bs))
+  where
+    at : (k : ℕ) (b : Begun) → Low k → number_of (answered k b) ≡ k
+    at k b (inl h) = number_of_low k b h
+    at k b (inr e) = rw e
+
 module _ (bs : List ℕ) (w : List ℤ) where
   pub begun_started : begun_number bs w ≡ 0
       → (input_number bs ≡ 0) × (start_number (table_in bs) (start_in bs) (edition_in bs) w ≡ 0)
@@ -276,8 +313,8 @@ module _ (bs : List ℕ) (w : List ℤ) where
 bytes : List ℕ
 bytes = 1 ∷ 0 ∷ 1 ∷ 0 ∷ 2 ∷ 0 ∷ 1 ∷ 0 ∷ 1 ∷ 0 ∷ 0 ∷ 0 ∷ 0 ∷ 0 ∷ 1 ∷ 0 ∷ 1 ∷ 0 ∷ 2 ∷ 0 ∷ 0 ∷ 0 ∷ 0 ∷ 0 ∷ 1 ∷ 0 ∷ 2 ∷ 0 ∷ []
 
-example_split : split_of bytes ≡ Splitting.Parts 1 1 24 1
-unfolding bytes split_of split_by input_number start_in edition_in table_fields table_end picks_in field_of sizes_right
+example_split : split_of bytes ≡ Ok (record { start = 1; edition = 1; end = 24; picks = 1 })
+unfolding bytes split_of input_number start_in edition_in table_fields table_end picks_in field_of sizes_right
 example_split = refl
 
 example_pick : pick_in bytes 0 ≡ record { from = 1; to = 2 }

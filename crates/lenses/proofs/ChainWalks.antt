@@ -43,6 +43,7 @@ use Rattle.areas.specs.Places.{field_place}
 use Rattle.areas.specs.Area.{fields_in}
 use Rattle.areas.specs.RunInLaws.{fields_in_at}
 use Rattle.areas.specs.AreaLaws.{area_right_table}
+use Rattle.tables.specs.declared.Sizes.{Sizes}
 use Rattle.lenses.specs.Ready.{Ready}
 
 -- how many of the arcs ks have q as their far end
@@ -136,22 +137,22 @@ next_is c t k e f = f ∙ ap (next c) e
 
 -- ---- a tested area
 
-module _ {w : List ℤ} {n m : ℕ} (y : Ready w n m) where
+module _ {w : List ℤ} {s : Sizes} (y : Ready w s) where
   pub ready_right : Right (fields_in w)
   ready_right = (area_right_table w y.right).right
 
-  pub ready_process : {b : ℕ} → (1 ≤ b) × (b ≤ n) → IsProcess (n_of (fields_in w)) b
+  pub ready_process : {b : ℕ} → (1 ≤ b) × (b ≤ s.n) → IsProcess (n_of (fields_in w)) b
   ready_process h = (h.0, omega (arith, h.1, y.n_is))
 
   -- an arc that is met, as code knows it
-  pub ahead_arc : {c : Chain} {b k : ℕ} → Ahead c (fields_in w) b k → (1 ≤ k) × (k ≤ m)
+  pub ahead_arc : {c : Chain} {b k : ℕ} → Ahead c (fields_in w) b k → (1 ≤ k) × (k ≤ s.m)
   ahead_arc a = (a.arc.0, omega (arith, a.arc.1, y.m_is))
 
-  pub ahead_far : {c : Chain} {b k : ℕ} → Ahead c (fields_in w) b k → (1 ≤ far c (arc_at (fields_in w) k)) × (far c (arc_at (fields_in w) k) ≤ n)
+  pub ahead_far : {c : Chain} {b k : ℕ} → Ahead c (fields_in w) b k → (1 ≤ far c (arc_at (fields_in w) k)) × (far c (arc_at (fields_in w) k) ≤ s.n)
   ahead_far a = (a.process.0, omega (arith, a.process.1, y.n_is))
 
   -- a field's word
-  pub field_is : {j : ℕ} → j < field_total n m → {k : ℕ} → k ≡ field_place j → {r : ℕ} → mag (get_or w k (pos 0)) < 2 ^ 31
+  pub field_is : {j : ℕ} → j < field_total s.n s.m → {k : ℕ} → k ≡ field_place j → {r : ℕ} → mag (get_or w k (pos 0)) < 2 ^ 31
       → r ≡ nat_abs (to_z w32 (of_z w32 (get_or w k (pos 0)))) → r ≡ fields_in w j
   field_is {j} h {k} p l e = rw (signed_back (get_or w k (pos 0)) l, p) at e ∙ sym (fields_in_at w j (omega (arith, y.n_is, y.m_is)))
 

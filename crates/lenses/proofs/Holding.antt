@@ -4,7 +4,6 @@
 --   holding_run, holding_ready, holding_length   == what is read from it, what code may go on with, and its length
 --   holding_next      == the next change
 -- Assumes nothing.
-use Prim.Native.Nat.{ℕ}
 use mathlib.Core.List.{List}
 use mathlib.Core.Path.{◌≡◌, sym, ap, ◌∙◌}
 use lib.IntN.{ℤ}
@@ -12,6 +11,7 @@ use lib.ListN.{length}
 use Rattle.checks.specs.Run.{Run}
 use Rattle.areas.specs.Area.{fields_in, run_in, keeping}
 use Rattle.areas.specs.AreaLaws.{stored_same}
+use Rattle.tables.specs.declared.Sizes.{Sizes}
 use Rattle.lenses.specs.Ready.{Ready}
 use Rattle.lenses.specs.Storable.{Storable}
 use Rattle.lenses.specs.ReadyLaws.{right_storable, keeping_run, keeping_again, keeping_length, ready_kept}
@@ -20,7 +20,7 @@ pub record Holding (w v : List ℤ) (r : Run) : Type 0 where
   pub is : v ≡ keeping w r
   pub fit : Storable (fields_in w) r
 
-module _ {w : List ℤ} {n m : ℕ} (y : Ready w n m) where
+module _ {w : List ℤ} {s : Sizes} (y : Ready w s) where
   pub holding_first : Holding w w (run_in w)
   holding_first = record { is = sym (stored_same w y.right); fit = right_storable w y.right }
 
@@ -28,8 +28,8 @@ module _ {w : List ℤ} {n m : ℕ} (y : Ready w n m) where
     pub holding_run : run_in v ≡ r
     holding_run = ap run_in h.is ∙ keeping_run w y.right r h.fit
 
-    pub holding_ready : Ready v n m
-    holding_ready = rw h.is (ready_kept w y.right r h.fit n m y)
+    pub holding_ready : Ready v s
+    holding_ready = rw h.is (ready_kept w y.right r h.fit y)
 
     pub holding_length : length v ≡ length w
     holding_length = ap (λ (l : List ℤ). length l) h.is ∙ keeping_length w y.right r h.fit

@@ -27,14 +27,15 @@ use Rattle.areas.specs.StoredLaws.{stored_start_word, stored_edition_word, store
 use Rattle.areas.specs.WriteLaws.{stored_count, stored_record}
 use Rattle.areas.specs.RunInLaws.{run_in_process}
 use Rattle.areas.specs.AreaLaws.{stored_same}
+use Rattle.tables.specs.declared.Sizes.{Sizes}
 use Rattle.lenses.specs.Ready.{Ready}
 use Rattle.lenses.specs.ReadyLaws.{right_long, ready_sizes}
 
-pub ready_own : (w : List ℤ) → area_right w ≡ true → Ready w (n_of (fields_in w)) (m_of (fields_in w))
+pub ready_own : (w : List ℤ) → area_right w ≡ true → Ready w (record { n = n_of (fields_in w); m = m_of (fields_in w) })
 ready_own w e = record { right = e; n_is = refl; m_is = refl }
 
-module _ {w : List ℤ} {n m : ℕ} (y : Ready w n m) where
-  pub long : area_length n m ≤ length w
+module _ {w : List ℤ} {s : Sizes} (y : Ready w s) where
+  pub long : area_length s.n s.m ≤ length w
   long = omega (arith, y.n_is, y.m_is, right_long w y.right)
 
   -- ---- words of 0 or more
@@ -52,16 +53,16 @@ module _ {w : List ℤ} {n m : ℕ} (y : Ready w n m) where
   pub count_counts : Counts (get_or w count_place (pos 0))
   count_counts = word_counts count_place (run_in w).count (stored_count_word (fields_in w) (run_in w) w (pos 0))
 
-  pub field_counts : {j : ℕ} → j < field_total n m → Counts (get_or w (field_place j) (pos 0))
+  pub field_counts : {j : ℕ} → j < field_total s.n s.m → Counts (get_or w (field_place j) (pos 0))
   field_counts {j} h = word_counts (field_place j) (fields_in w j) (stored_field_word (fields_in w) (run_in w) w j (pos 0) (omega (arith, y.n_is, y.m_is)))
 
   -- ---- records
 
-  module _ {p : ℕ} (l : (1 ≤ p) × (p ≤ n)) where
-    pub record_asks : ((n ≤ most_processes) × (m ≤ most_arcs)) × ((1 ≤ p) × (p ≤ most_processes))
+  module _ {p : ℕ} (l : (1 ≤ p) × (p ≤ s.n)) where
+    pub record_asks : ((s.n ≤ most_processes) × (s.m ≤ most_arcs)) × ((1 ≤ p) × (p ≤ most_processes))
     record_asks = (ready_sizes y, omega (arith, ready_sizes y))
 
-    module _ {k : ℕ} (e : k ≡ record_start n m p) where
+    module _ {k : ℕ} (e : k ≡ record_start s.n s.m p) where
       in_record_place : k ≡ record_place (fields_in w) p
       unfolding record_place
       in_record_place = omega (arith, y.n_is, y.m_is)

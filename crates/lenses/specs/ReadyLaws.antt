@@ -19,6 +19,7 @@ use Rattle.areas.specs.ReadLaws.{fields_in_stored, run_in_stored}
 use Rattle.areas.specs.RunInLaws.{fields_in_shut, run_in_n, run_in_link, run_in_contained}
 use Rattle.areas.specs.AreaLaws.{area_right_P, area_right_table, area_right_stored}
 use Rattle.areas.specs.LinkLaws.{messages_at_length}
+use Rattle.tables.specs.declared.Sizes.{Sizes}
 use Rattle.lenses.specs.Ready.{Ready}
 use Rattle.lenses.specs.Storable.{Storable}
 use Rattle.base.specs.ChoiceLaws.{tested}
@@ -49,8 +50,8 @@ module _ (w : List ℤ) (e : area_right w ≡ true) (r : Run) (f : Storable (fie
   pub keeping_length : length (keeping w r) ≡ length w
   keeping_length = stored_length (fields_in w) r w (right_long w e)
 
-  pub ready_kept : (n m : ℕ) → Ready w n m → Ready (keeping w r) n m
-  ready_kept n m y =
+  pub ready_kept : {s : Sizes} → Ready w s → Ready (keeping w r) s
+  ready_kept y =
       record {
         right = keeping_right;
         n_is = y.n_is ∙ sym (ap n_of keeping_fields);
@@ -66,11 +67,11 @@ run_in_few w a b = at (tested (neighbours (waits_of (fields_in w)) a b))
     at (passed e) = rw (run_in_link w a b e) (messages_at_length w (link_of (fields_in w) a b) link_slots)
     at (failed e) = rw ((run_in_contained w).links a b e) (omega arith)
 
-module _ {w : List ℤ} {n m : ℕ} (y : Ready w n m) where
-  pub ready_n : (run_in w).waits.n ≡ n
+module _ {w : List ℤ} {s : Sizes} (y : Ready w s) where
+  pub ready_n : (run_in w).waits.n ≡ s.n
   ready_n = run_in_n w ∙ sym y.n_is
 
-  pub ready_sizes : (n ≤ most_processes) × (m ≤ most_arcs)
+  pub ready_sizes : (s.n ≤ most_processes) × (s.m ≤ most_arcs)
   ready_sizes = omega (arith, (area_right_table w y.right).right.sizes.1, (area_right_table w y.right).right.sizes.2)
 
 pub ready_near : (w : List ℤ) (a b : ℕ) → neighbours (waits_of (fields_in w)) a b ≡ true → neighbours (run_in w).waits a b ≡ true

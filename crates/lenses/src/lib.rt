@@ -5,3 +5,4 @@
 pub mod chains;
 pub mod heading;
 pub mod records;
+pub mod tested;

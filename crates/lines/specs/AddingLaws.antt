@@ -4,12 +4,16 @@
 --   put_before                   == a piece is put, and then a byte just before it
 --   put_inside                   == a piece that begins within the bytes ends within them
 --   room_first, room_then        == room for two pieces is room for the first, and then for the second
+--   adds_none                    == no byte is put on a page
+--   x adds-then y                == one piece after another on a page
+--   adds_room                    == room for two pieces is room for the second, once the first is put
 -- Assumes nothing.
 use Rattle.std.specs.Prelude.{ℕ, ◌+◌, ◌<◌, ◌≤◌, List, [], ◌∷◌, ◌++◌, ◌≡◌, refl, length, take, drop, set}
 use Rattle.std.proofs.Common.{append_assoc, append-nil, sym, ap, ◌∙◌, add-one, arith, length-append, length-take, length-set, take-suc-set, drop-set-lt, drop-drop}
 use Rattle.std.proofs.Math.Seq.{take-set-lt, append_snoc}
 use Rattle.std.proofs.lemmas.List.{set-append_left}
-use Rattle.lines.specs.Adding.{Put}
+use Rattle.lines.specs.declared.Page.{Page}
+use Rattle.lines.specs.Adding.{Put, HasRoom, Adds}
 
 pub put_none : {a : List ℕ} {m : ℕ} → Put a m [] a m
 put_none {a} {m} = record { grows = omega arith; text = sym (append-nil (take m a)); rest = refl; kept = refl }
@@ -59,3 +63,13 @@ room_first m k p q h = omega (arith, length-append p q)
 
 pub room_then : {a b : List ℕ} {m n : ℕ} {p : List ℕ} (q : List ℕ) → Put a m p b n → m + length (p ++ q) ≤ length a → n + length q ≤ length b
 room_then {p = p} q x h = omega (arith, length-append p q, x.grows, x.kept)
+
+pub adds_none : {p : Page} → Adds p [] p
+adds_none = record { same = refl; put = put_none }
+
+infixl 60 ◌adds-then◌
+pub ◌adds-then◌ : {p q r : Page} {x y : List ℕ} → Adds p x q → Adds q y r → Adds p (x ++ y) r
+◌adds-then◌ x y = record { same = y.same ∙ x.same; put = x.put put-then y.put }
+
+pub adds_room : {p q : Page} {x : List ℕ} (y : List ℕ) → Adds p x q → HasRoom p (x ++ y) → HasRoom q y
+adds_room y x h = room_then y x.put h

@@ -16,6 +16,7 @@
 --   sums_text x          == "cs, num", and at the end the second sum (02, N3)
 --   process_line p x     == "process, succeeding, preceding, subordinate, cs, num", and at the end the second sum (02, N3)
 --   report_text d v o e m   == "deliveries; the report": the five lines over_line, verdict_line, outside_line, escape_line and mark_line
+--   text_of report       == the same, of a report
 -- Assumes nothing.
 use Rattle.std.specs.Prelude.{ℕ, zero, suc, ◌+◌, ◌/◌, ◌%◌, Bool, true, false, List, [], ◌∷◌, ◌++◌, ltb, ℤ, pos, negsuc}
 use Prim.Native.Char.{code}
@@ -27,6 +28,7 @@ use Rattle.steps.specs.declared.Process.{Process}
 use Rattle.checks.specs.declared.Verdict.{Verdict}
 use Rattle.checks.specs.declared.Verdict.TheVariants.{Knot, Free}
 use Rattle.checks.specs.declared.Mark.{Mark}
+use Rattle.checks.specs.declared.Report.{Report}
 use Rattle.checks.specs.declared.Mark.TheVariants.{Returned, Held}
 
 abbrev pub bytes : String → List ℕ
@@ -130,3 +132,6 @@ mark_line Held = bytes "mark held\n"
 -- the report's lines, in 01's order
 unfoldable pub report_text : ℕ → Verdict → ℤ → ℕ → Mark → List ℕ
 report_text d v o e m = over_line d ++ verdict_line v ++ outside_line o ++ escape_line e ++ mark_line m
+
+abbrev pub text_of : Report → List ℕ
+text_of x = report_text x.deliveries x.verdict x.outside x.escape x.mark

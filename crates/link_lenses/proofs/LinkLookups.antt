@@ -23,9 +23,10 @@ use Rattle.areas.specs.Used.{link_slots, Counts}
 use Rattle.areas.specs.Area.{code_of, fields_in, message_of, run_in}
 use Rattle.areas.specs.CodeLaws.{message_of_code_of}
 use Rattle.areas.specs.Squares.{Linked}
+use Rattle.tables.specs.declared.Sizes.{Sizes}
 use Rattle.lenses.specs.Ready.{Ready}
-use Rattle.link_lenses.specs.declared.links.AtPlace.{AtPlace}
-use Rattle.link_lenses.specs.declared.links.AtPlace.TheVariants.{Beyond}
+use Rattle.std.specs.Prelude.{Ok, Err}
+use Rattle.refusals.specs.declared.Refusal.TheVariants.{NoMessage, Place}
 use Rattle.link_lenses.specs.Standing.{standing}
 use Rattle.lenses.specs.ReadyLaws.{right_storable, run_in_few}
 use Rattle.lenses.specs.ChangeLaws.{link_message}
@@ -47,14 +48,14 @@ nothing_waits : (ms : List Message) → length ms ≡ 0 → waiting ms ≡ false
 nothing_waits [] h = refl
 nothing_waits (m ∷ ms) h = absurd (omega arith)
 
-module _ {w : List ℤ} {n m : ℕ} (y : Ready w n m) where
+module _ {w : List ℤ} {z : Sizes} (y : Ready w z) where
   module _ {a b i : ℕ} (k : Linked (fields_in w) a b i) where
     -- the first word
     word_first : get_or w (i + 0) (pos 0) ≡ get_or w i (pos 0)
     word_first = let e : i + 0 ≡ i = omega arith in ap (λ (j : ℕ). get_or w j (pos 0)) e
 
     -- what waits at a place, by the words of the link
-    pub none_here : (p : ℕ) → get_or w i (pos 0) ≡ pos 0 → AtPlace.Nothing ≡ standing p ((run_in w).link a b)
+    pub none_here : (p : ℕ) → get_or w i (pos 0) ≡ pos 0 → Err NoMessage ≡ standing p ((run_in w).link a b)
     none_here p z = sym (standing_none p ((run_in w).link a b) (at (below? 0 (length ((run_in w).link a b)))))
       where
         at : Below 0 (length ((run_in w).link a b)) → length ((run_in w).link a b) ≡ 0
@@ -69,14 +70,14 @@ module _ {w : List ℤ} {n m : ℕ} (y : Ready w n m) where
         at (beyond q _) = absurd (h (sym word_first ∙ slot_none y k (omega arith) q))
 
     module _ (some : get_or w i (pos 0) ≡ pos 0 → ⊥) (p : ℕ) where
-      pub beyond_here : (p ≡ 0) ⊎ (link_slots < p) → Beyond ≡ standing p ((run_in w).link a b)
+      pub beyond_here : (p ≡ 0) ⊎ (link_slots < p) → Err Place ≡ standing p ((run_in w).link a b)
       beyond_here h =
           sym
           (standing_beyond p ((run_in w).link a b) (some_here some)
           (⊎_elim (λ z. inl z) (λ z. inr (omega (arith, run_in_few w a b))) h))
 
       module _ (lo : p ≡ 0 → ⊥) (hi : p ≤ link_slots) where
-        pub empty_here : get_or w (i + (p - 1)) (pos 0) ≡ pos 0 → Beyond ≡ standing p ((run_in w).link a b)
+        pub empty_here : get_or w (i + (p - 1)) (pos 0) ≡ pos 0 → Err Place ≡ standing p ((run_in w).link a b)
         empty_here z = sym (standing_beyond p ((run_in w).link a b) (some_here some) (inr (at (below? (p - 1) (length ((run_in w).link a b))))))
           where
             at : Below (p - 1) (length ((run_in w).link a b)) → length ((run_in w).link a b) < p
@@ -103,11 +104,11 @@ module _ {w : List ℤ} {n m : ℕ} (y : Ready w n m) where
           pub word_counts : Counts (get_or w (i + (p - 1)) (pos 0))
           word_counts = rw word_is (code_of_counts here.message message_small)
 
-          pub message_here : AtPlace.Message (message_of (get_or w (i + (p - 1)) (pos 0))) ≡ standing p ((run_in w).link a b)
+          pub message_here : Ok (message_of (get_or w (i + (p - 1)) (pos 0))) ≡ standing p ((run_in w).link a b)
           message_here =
-              ap (λ (z : ℤ). AtPlace.Message (message_of z))
+              ap (λ (z : ℤ). Ok (message_of z))
               word_is
-              ∙ ap AtPlace.Message
+              ∙ ap Ok
               (message_of_code_of here.message message_small)
               ∙ sym (standing_cut p ((run_in w).link a b) here.is)
 

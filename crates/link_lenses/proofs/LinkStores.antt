@@ -27,6 +27,7 @@ use Rattle.areas.specs.StoredLaws.{link_of_fits, stored_link_word}
 use Rattle.areas.specs.WriteLaws.{stored_taken, stored_push}
 use Rattle.areas.specs.RunInLaws.{run_in_link}
 use Rattle.areas.specs.AreaLaws.{stored_same, area_right_table}
+use Rattle.tables.specs.declared.Sizes.{Sizes}
 use Rattle.lenses.specs.Ready.{Ready}
 use Rattle.machine.specs.Calls.{Cut, nowhere, cut, past, behind, at_place}
 use Rattle.link_lenses.specs.Changes.{stays, off}
@@ -57,7 +58,7 @@ slot_behind (suc k) (m ∷ ms) (suc j) h = rw (stays_past m ms (behind k ms)) (s
 
 -- ---- the words of a link
 
-module _ {w : List ℤ} {n m : ℕ} (y : Ready w n m) where
+module _ {w : List ℤ} {z : Sizes} (y : Ready w z) where
   module _ {a b i : ℕ} (k : Linked (fields_in w) a b i) where
     pub link_is : (run_in w).link a b ≡ messages_at w i link_slots
     link_is = rw k.at (run_in_link w a b k.joined)

@@ -35,6 +35,7 @@ use Rattle.areas.specs.Replaced.{with_links, put_link}
 use Rattle.areas.specs.RunInLaws.{run_in_contained}
 use Rattle.areas.specs.Squares.{place_in, Linked, Row}
 use Rattle.areas.specs.SquareLaws.{row_linked}
+use Rattle.tables.specs.declared.Sizes.{Sizes}
 use Rattle.lenses.specs.Ready.{Ready}
 use Rattle.link_lenses.specs.Changes.{probe_of, spread_to, spread, HasSlot}
 use Rattle.lenses.specs.Storable.{Storable}
@@ -101,7 +102,7 @@ pub record Sending (w v : List ℤ) (c : Chain) (b k : ℕ) : Type 0 where
   pub here : ArcsLeft c (fields_in w) b k
   pub holds : Holding w v (spread_but c (run_in w) b (ends c (fields_in w) (to_go c (fields_in w) k)))
 
-module _ {w : List ℤ} {n m : ℕ} (y : Ready w n m) (c : Chain) (b : ℕ) (own : (1 ≤ b) × (b ≤ n)) where
+module _ {w : List ℤ} {z : Sizes} (y : Ready w z) (c : Chain) (b : ℕ) (own : (1 ≤ b) × (b ≤ z.n)) where
   -- the run's waits are the table's
   by_table : (q : ℕ) → joins c (run_in w).waits b q ≡ joins c (waits_of (fields_in w)) b q
   by_table q = ap (λ (v : Waits). joins c v b q) (run_in_contained w).waits
@@ -132,7 +133,7 @@ module _ {w : List ℤ} {n m : ℕ} (y : Ready w n m) (c : Chain) (b : ℕ) (own
       (but_none c (run_in w) b _ (right_storable w y.right).sound
       (λ q. ap {A = List ℕ} (λ ks. ends c (fields_in w) ks q) (left_end (ready_right y) h.here e)))
 
-  module _ (room : Room w n c b) {v : List ℤ} {k : ℕ} (h : Sending w v c b k) (going : k ≡ 0 → ⊥) where
+  module _ (room : Room w z.n c b) {v : List ℤ} {k : ℕ} (h : Sending w v c b k) (going : k ≡ 0 → ⊥) where
     ahead : Ahead c (fields_in w) b k
     ahead = left_on (ready_right y) k h.here going
 
@@ -201,5 +202,5 @@ module _ {w : List ℤ} {n m : ℕ} (y : Ready w n m) (c : Chain) (b : ℕ) (own
     pub sending_less : {k' : ℕ} → k' ≡ next c (arc_at (fields_in w) k) → length (to_go c (fields_in w) k') < length (to_go c (fields_in w) k)
     sending_less f = rw f (omega (arith, ahead.less))
 
-    pub sending_at : (1 ≤ k) × (k ≤ m)
+    pub sending_at : (1 ≤ k) × (k ≤ z.m)
     sending_at = ahead_arc y ahead

@@ -9,7 +9,7 @@
 --   HasSlot r a b        == the link from a to b has a word left for one message more
 --   Spreadable c r n b, Answerable r n b y   == so has each link on which b broadcasts along a chain, and that on which it acknowledges
 -- Assumes nothing.
-use Rattle.std.specs.Prelude.{ℕ, ◌-◌, ◌≤◌, true, ◌&&◌, List, [], ◌∷◌, ◌++◌, ◌≡◌, eqb, leb, length}
+use Rattle.std.specs.Prelude.{ℕ, ◌-◌, ◌≤◌, true, ◌&&◌, List, [], ◌∷◌, ◌++◌, ◌≡◌, eqb, leb, length, Option, Some, None}
 use Rattle.base.specs.Choice.{choose}
 use Rattle.tables.specs.declared.Chain.{Chain}
 use Rattle.tables.specs.declared.Chain.TheVariants.{Out, In}
@@ -17,9 +17,7 @@ use Rattle.tables.specs.Waits.{neighbours}
 use Rattle.tables.specs.Chains.{joins}
 use Rattle.steps.specs.declared.Message.{Message}
 use Rattle.steps.specs.declared.Message.TheVariants.{Suc, Pre, Ack}
-use Rattle.steps.specs.declared.TwoCounts.{TwoCounts}
 use Rattle.steps.specs.declared.Reply.{Reply}
-use Rattle.steps.specs.declared.Reply.TheVariants.{To}
 use Rattle.machine.specs.Calls.{Cut, nowhere, cut, at_place}
 use Rattle.checks.specs.Run.{Run, one}
 use Rattle.areas.specs.Used.{link_slots}
@@ -32,9 +30,9 @@ probe_of In = Pre
 unfoldable pub spread_to : Chain → Run → ℕ → ℕ → Run
 spread_to c r b k = with_links r (λ x y. choose (eqb x b && leb y k) (r.link x y ++ one (joins c r.waits b y) (probe_of c)) (r.link x y))
 
-unfoldable pub answered : Run → ℕ → Reply → Run
-answered r b Reply.Nothing = r
-answered r b (To p c) = put_link r b p (r.link b p ++ (Ack c ∷ []))
+unfoldable pub answered : Run → ℕ → Option Reply → Run
+answered r b None = r
+answered r b (Some y) = put_link r b y.to (r.link b y.to ++ (Ack y.counts ∷ []))
 
 unfoldable pub spread : Chain → Run → ℕ → Run
 spread c r b = spread_to c r b r.waits.n
@@ -63,5 +61,5 @@ HasSlot r a b = length (r.link a b) ≤ link_slots - 1
 abbrev pub Spreadable : Chain → Run → ℕ → ℕ → Type 0
 Spreadable c r n b = (q : ℕ) → 1 ≤ q → q ≤ n → joins c r.waits b q ≡ true → HasSlot r b q
 
-abbrev pub Answerable : Run → ℕ → ℕ → Reply → Type 0
-Answerable r n b y = (p : ℕ) (c : TwoCounts) → y ≡ To p c → (p ≤ n) × (neighbours r.waits b p ≡ true) × HasSlot r b p
+abbrev pub Answerable : Run → ℕ → ℕ → Option Reply → Type 0
+Answerable r n b y = (x : Reply) → y ≡ Some x → (x.to ≤ n) × (neighbours r.waits b x.to ≡ true) × HasSlot r b x.to

@@ -8,7 +8,7 @@
 --   spread_to_link        == the links to those further on are as they were
 -- Assumes nothing.
 use Prim.Native.Nat.{ℕ, zero, suc, ◌+◌, ◌-◌, ◌≤◌, ◌<◌}
-use Rattle.std.specs.Prelude.{Bool, false, ◌&&◌, List, [], ◌∷◌, ◌++◌, ◌≡◌}
+use Rattle.std.specs.Prelude.{Bool, false, ◌&&◌, List, [], ◌∷◌, ◌++◌, ◌≡◌, Option, Some, None}
 use Rattle.std.proofs.Math.Bool.{true}
 use Rattle.std.proofs.Common.{append-nil, sym, ◌∙◌, arith, length-append}
 use Rattle.std.proofs.Math.Path.{refl, subst, fun_ext}
@@ -27,9 +27,7 @@ use Rattle.tables.specs.Sound.{Sound}
 use Rattle.tables.specs.Chains.{joins}
 use Rattle.steps.specs.declared.Message.{Message}
 use Rattle.steps.specs.declared.Message.TheVariants.{Ack}
-use Rattle.steps.specs.declared.TwoCounts.{TwoCounts}
 use Rattle.steps.specs.declared.Reply.{Reply}
-use Rattle.steps.specs.declared.Reply.TheVariants.{To}
 use Rattle.steps.specs.Step.{both_small, count_small, reply_fits}
 use Rattle.machine.specs.Calls.{Cut, behind, at_place}
 use Rattle.machine.specs.FormedLaws.{well_formed_P, all_right_append}
@@ -117,11 +115,11 @@ module _ (t : Fields) (r : Run) (f : Storable t r) where
       let h = without_right k (r.link a b) (link_right_parts t r f a b).0 (link_right_parts t r f a b).1 in
       storable_link a b (without k (r.link a b)) j h.0 h.1
 
-  pub storable_answered : (b : ℕ) (y : Reply) → reply_fits y ≡ true
-      → ((p : ℕ) (c : TwoCounts) → y ≡ To p c → (neighbours r.waits b p ≡ true) × (length (r.link b p) ≤ link_slots - 1)) → Storable t (answered r b y)
+  pub storable_answered : (b : ℕ) (y : Option Reply) → reply_fits y ≡ true
+      → ((x : Reply) → y ≡ Some x → (neighbours r.waits b x.to ≡ true) × (length (r.link b x.to) ≤ link_slots - 1)) → Storable t (answered r b y)
   unfolding answered reply_fits count_small
-  storable_answered b Reply.Nothing k h = f
-  storable_answered b (To p c) k h = storable_push b p (Ack c) (h p c refl).0 (and_right (leb 1 p) (both_small c) k) (h p c refl).1
+  storable_answered b None k h = f
+  storable_answered b (Some y) k h = storable_push b y.to (Ack y.counts) (h y refl).0 (and_right (leb 1 y.to) (both_small y.counts) k) (h y refl).1
 
 -- ---- the probes of a broadcast, one by one
 

@@ -1,20 +1,20 @@
 -- What waits at a place of a link, as code says it.
---   found_at c            == what was found at a place of a link on which something waits
---   standing k ms        == what waits at place k: nothing on the whole link, none at that place, or a message
+--   found_at c            == what was found at a place of a link on which something waits: 31, or a message
+--   standing k ms        == what waits at place k: 24 if nothing waits on the whole link, 31 if none at that place, or a message
 --   OneAt k ms x         == x is at that place
 -- Assumes nothing.
-use Rattle.std.specs.Prelude.{ℕ, List, [], ◌∷◌, ◌≡◌}
+use Rattle.std.specs.Prelude.{ℕ, List, [], ◌∷◌, ◌≡◌, Result, Ok, Err}
 use Rattle.machine.specs.Calls.{Cut, nowhere, cut, at_place}
 use Rattle.steps.specs.declared.Message.{Message}
-use Rattle.link_lenses.specs.declared.links.AtPlace.{AtPlace}
-use Rattle.link_lenses.specs.declared.links.AtPlace.TheVariants.{Beyond}
+use Rattle.refusals.specs.declared.Refusal.{Refusal}
+use Rattle.refusals.specs.Numbers.{numbered}
 
-abbrev pub found_at : Cut Message → AtPlace
-found_at nowhere = Beyond
-found_at (cut m rest) = AtPlace.Message m
+abbrev pub found_at : Cut Message → Result Message Refusal
+found_at nowhere = Err (numbered 31)
+found_at (cut m rest) = Ok m
 
-unfoldable pub standing : ℕ → List Message → AtPlace
-standing k [] = AtPlace.Nothing
+unfoldable pub standing : ℕ → List Message → Result Message Refusal
+standing k [] = Err (numbered 24)
 standing k (m ∷ ms) = found_at (at_place k (m ∷ ms))
 
 -- what stays beside a message at that place

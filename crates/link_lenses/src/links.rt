@@ -11,106 +11,92 @@ ghost use Rattle.link_lenses.specs.Standing.{standing};
 ghost use Rattle.link_lenses.specs.Changes.{pushed_on, HasSlot, off};
 
 use areas::{places, squares, words};
+use lenses::tested::Tested;
+use refusals::Refusal;
 use steps::Message;
+use tables::Sizes;
 
 // The place of the oldest message on a link.
 pub const OLDEST: usize = 1;
 
-// What waits at a place of a link: nothing on the whole link, no message at that place, or a message.
-#[derive(Clone, Copy)]
-pub enum AtPlace {
-    Nothing,
-    Beyond,
-    Message(Message),
+// A link: who sends, who receives, and the word at which it begins.
+#[derive(Clone, Copy, PartialEq, Eq, Default)]
+pub struct LinkAt {
+    pub from: usize,
+    pub to: usize,
+    pub at: usize,
 }
 
-// Whether a message waits on the link from a to b.
-pub fn is_waiting(area: &[i32], n: usize, m: usize, a: usize, b: usize, i: usize) -> bool
-    requires ready { Ready area.now n m }
-    requires linked { Linked (fields_in area.now) a b i }
-    ensures { result ≡ waiting ((run_in area.now).link a b) }
+// Whether a message waits on the link.
+pub fn is_waiting(area: Tested, link: LinkAt) -> bool
+    requires { Linked (fields_in area.words.now) link.from link.to link.at }
+    ensures { result ≡ waiting ((run_in area.entry.words.now).link link.from link.to) }
 {
-    area[i] != 0
+    area.words[link.at] != 0
 }
 
 // The same by the square, for any two processes: nothing waits between those who are no neighbours.
-pub fn is_waiting_at(
-    area: &[i32],
-    square: &[u16; tables::SQUARE_SIZE],
-    n: usize,
-    m: usize,
-    a: usize,
-    b: usize,
-) -> bool
-    requires ready { Ready area.now n m }
-    requires square { Square (fields_in area.now) square.now }
-    requires a_le_n { (a ≤ n) × (b ≤ n) }
-    ensures { result ≡ waiting ((run_in area.now).link a b) }
+pub fn is_waiting_at(area: Tested, square: &[u16; tables::SQUARE_SIZE], a: usize, b: usize) -> bool
+    requires square { Square (fields_in area.words.now) square.now }
+    requires numbers { (a ≤ area.sizes.n) × (b ≤ area.sizes.n) }
+    ensures { result ≡ waiting ((run_in area.entry.words.now).link a b) }
 {
     let cell = squares::cell_at(square, a, b);
-    if cell == 0 {
-        return false;
-    }
-    is_waiting(area, n, m, a, b, squares::place(cell))
+    cell != 0
+        && is_waiting(
+            area,
+            LinkAt {
+                from: a,
+                to: b,
+                at: squares::place(cell),
+            },
+        )
 }
 
-// Whether so many more messages find room on the link from a to b.
-pub fn has_free(area: &[i32], n: usize, m: usize, a: usize, b: usize, i: usize, free: usize) -> bool
-    requires ready { Ready area.now n m }
-    requires linked { Linked (fields_in area.now) a b i }
-    requires le_free { (1 ≤ free) × (free ≤ link_slots) }
-    ensures { result ≡ leb (length ((run_in area.now).link a b) + free) link_slots }
+// Whether so many more messages find room on the link.
+pub fn has_free(area: Tested, link: LinkAt, free: usize) -> bool
+    requires linked { Linked (fields_in area.words.now) link.from link.to link.at }
+    requires some_slots { (1 ≤ free) × (free ≤ link_slots) }
+    ensures { result ≡ leb (length ((run_in area.entry.words.now).link link.from link.to) + free) link_slots }
 {
-    area[i + (places::LINK_SLOTS - free)] == 0
+    area.words[link.at + (places::LINK_SLOTS - free)] == 0
 }
 
-// What waits at a place of the link from a to b, 1 for the oldest message.
-pub fn at_place(
-    area: &[i32],
-    n: usize,
-    m: usize,
-    a: usize,
-    b: usize,
-    i: usize,
-    place: usize,
-) -> AtPlace
-    requires ready { Ready area.now n m }
-    requires linked { Linked (fields_in area.now) a b i }
-    ensures { result ≡ standing place ((run_in area.now).link a b) }
+// What waits at a place of the link, 1 for the oldest message: 24 if nothing waits on the link, then 31 if no message is at that place.
+pub fn at_place(area: Tested, link: LinkAt, place: usize) -> Result<Message, Refusal>
+    requires { Linked (fields_in area.words.now) link.from link.to link.at }
+    ensures { result ≡ standing place ((run_in area.entry.words.now).link link.from link.to) }
 {
-    if area[i] == 0 {
-        return AtPlace::Nothing;
+    if area.words[link.at] == 0 {
+        return Err(Refusal::NoMessage);
     }
-    if place == 0 {
-        return AtPlace::Beyond;
+    if place == 0 || place > places::LINK_SLOTS {
+        return Err(Refusal::Place);
     }
-    if place > places::LINK_SLOTS {
-        return AtPlace::Beyond;
-    }
-    let word = area[i + (place - 1)];
+    let word = area.words[link.at + (place - 1)];
     if word == 0 {
-        return AtPlace::Beyond;
+        return Err(Refusal::Place);
     }
-    AtPlace::Message(words::message_of(word))
+    Ok(words::message_of(word))
 }
 
-// Takes the message at a place off the link from a to b; those behind it move up.
-pub fn take(area: &mut [i32], n: usize, m: usize, a: usize, b: usize, i: usize, place: usize)
-    requires ready { Ready area.old n m }
-    requires linked { Linked (fields_in area.old) a b i }
-    requires le_place { (1 ≤ place) × (place ≤ link_slots) }
-    ensures { area.new ≡ keeping area.old (off (run_in area.old) a b place) }
+// Takes the message at a place off the link; those behind it move up.
+pub fn take(area: &mut [i32], sizes: Sizes, link: LinkAt, place: usize)
+    requires ready { Ready area.old sizes }
+    requires linked { Linked (fields_in area.old) link.from link.to link.at }
+    requires is_slot { (1 ≤ place) × (place ≤ link_slots) }
+    ensures { area.new ≡ keeping area.old (off (run_in area.old) link.from link.to place) }
 {
-    words::take_off(area, i + place - 1, i + places::LINK_SLOTS);
+    words::take_off(area, link.at + place - 1, link.at + places::LINK_SLOTS);
 }
 
-// Puts a message on the link from a to b, behind those that wait there.
-pub fn push(area: &mut [i32], n: usize, m: usize, a: usize, b: usize, i: usize, message: Message)
-    requires ready { Ready area.old n m }
-    requires linked { Linked (fields_in area.old) a b i }
-    requires message_value { count_small message ≡ true }
-    requires has_slot { HasSlot (run_in area.old) a b }
-    ensures { area.new ≡ keeping area.old (pushed_on (run_in area.old) a b message) }
+// Puts a message on the link, behind those that wait there.
+pub fn push(area: &mut [i32], sizes: Sizes, link: LinkAt, message: Message)
+    requires ready { Ready area.old sizes }
+    requires linked { Linked (fields_in area.old) link.from link.to link.at }
+    requires small_counts { count_small message ≡ true }
+    requires has_slot { HasSlot (run_in area.old) link.from link.to }
+    ensures { area.new ≡ keeping area.old (pushed_on (run_in area.old) link.from link.to message) }
 {
-    words::put_on(area, i, places::LINK_SLOTS, words::code_of(message));
+    words::put_on(area, link.at, places::LINK_SLOTS, words::code_of(message));
 }

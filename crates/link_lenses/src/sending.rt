@@ -8,12 +8,15 @@ ghost use Rattle.link_lenses.specs.Changes.{probe_of, answered, spread, Answerab
 ghost use Rattle.tables.specs.declared.Chain.{Chain};
 
 use crate::links;
+use crate::links::LinkAt;
 use areas::squares;
 use lenses::chains;
+use lenses::tested::Tested;
 use steps::{Message, Reply};
-use tables::Chain;
+use tables::{Chain, Sizes};
 
 // The probe that goes along a chain.
+// Stays: no From, since neither type is of this crate.
 fn probe(c: Chain) -> Message
     ensures { result ≡ probe_of c }
 {
@@ -24,38 +27,41 @@ fn probe(c: Chain) -> Message
 }
 
 // b sends suc to all successors, or pre to all predecessors: those at the far ends of its chain's arcs.
-pub fn broadcast(area: &mut [i32], row: &[u16], n: usize, m: usize, c: Chain, b: usize)
-    requires ready { Ready area.old n m }
-    requires le_b { (1 ≤ b) × (b ≤ n) }
+pub fn broadcast(area: &mut [i32], row: &[u16], sizes: Sizes, c: Chain, b: usize)
+    requires ready { Ready area.old sizes }
+    requires is_process { (1 ≤ b) × (b ≤ sizes.n) }
     requires row { Row (fields_in area.old) b row.now }
-    requires spreadable { Spreadable c (run_in area.old) n b }
+    requires spreadable { Spreadable c (run_in area.old) sizes.n b }
     ensures { area.new ≡ keeping area.old (spread c (run_in area.old) b) }
 {
-    let mut k = chains::first_in(area, n, m, c, b);
+    let mut k = Tested { words: area, sizes }.first(c, b);
+    // Stays: an iterator over the arcs would hold the area, which changes between two of them.
     while k != 0 {
-        let arc = chains::arc_in(area, n, m, k);
+        let arc = Tested { words: area, sizes }.arc(k);
         let q = chains::far_of(c, arc);
-        let i = squares::place(squares::cell_of(row, q));
-        links::push(area, n, m, b, q, i, probe(c));
+        let at = squares::place(squares::cell_of(row, q));
+        links::push(area, sizes, LinkAt { from: b, to: q, at }, probe(c));
         k = table_reader::next_of(c, arc);
     }
 }
 
 // b sends the acknowledgement of its step, if there is one.
-pub fn acknowledge(area: &mut [i32], row: &[u16], n: usize, m: usize, b: usize, reply: Reply)
-    requires ready { Ready area.old n m }
-    requires le_b { (1 ≤ b) × (b ≤ n) }
+pub fn acknowledge(area: &mut [i32], row: &[u16], sizes: Sizes, b: usize, reply: Option<Reply>)
+    requires ready { Ready area.old sizes }
+    requires is_process { (1 ≤ b) × (b ≤ sizes.n) }
     requires row { Row (fields_in area.old) b row.now }
-    requires reply_value { reply_fits reply ≡ true }
-    requires answerable { Answerable (run_in area.old) n b reply }
+    requires fits { reply_fits reply ≡ true }
+    requires answerable { Answerable (run_in area.old) sizes.n b reply }
     ensures { area.new ≡ keeping area.old (answered (run_in area.old) b reply) }
 {
-    match reply {
-        Reply::Nothing => {}
-        Reply::To { process, counts } => {
-            let q = process as usize;
-            let i = squares::place(squares::cell_of(row, q));
-            links::push(area, n, m, b, q, i, Message::Ack(counts));
-        }
+    if let Some(reply) = reply {
+        let to = reply.to as usize;
+        let at = squares::place(squares::cell_of(row, to));
+        links::push(
+            area,
+            sizes,
+            LinkAt { from: b, to, at },
+            Message::Ack(reply.counts),
+        );
     }
 }

@@ -9,7 +9,7 @@
 -- Assumes nothing.
 use Prim.Native.Nat.{ℕ, zero, suc, ◌+◌}
 use Rattle.std.proofs.Math.Bool.{true, false}
-use Rattle.std.specs.Prelude.{not, ◌≡◌, eqb}
+use Rattle.std.specs.Prelude.{not, ◌≡◌, eqb, Result, Ok}
 use Rattle.std.proofs.lemmas.Bool.{false≢true}
 use mathlib.Core.List.Memᴰ
 use mathlib.Core.List.{List, [], ◌∷◌, Memᴰ}
@@ -20,12 +20,15 @@ use native.Mathlib.Omega.{arith}
 use Rattle.base.specs.Choice.{choose}
 use Rattle.base.specs.ChoiceLaws.{tested}
 use Rattle.base.specs.Checks.{Tested, passed, failed}
+use Rattle.refusals.specs.NumberLaws.{listed_back}
 use Rattle.tables.specs.Waits.{neighbours}
 use Rattle.tables.specs.Sound.{Sound}
 use Rattle.tables.specs.Table.{IsProcess}
 use Rattle.tables.specs.WaitsLaws.{neighbours_ends}
 use Rattle.machine.specs.declared.Ran.{Ran}
 use Rattle.machine.specs.declared.Ran.TheVariants.{Spent}
+use Rattle.machine.specs.declared.Halted.{Halted}
+use Rattle.machine.specs.ListedLaws.{deliver_on_listed}
 use Rattle.machine.specs.Machine.{Machine, Rules, over, well_formed, after, accepts}
 use Rattle.machine.specs.Calls.{Answer, given, refusal, Picked, refused, Cut, cut, behind, at_place, delivered, deliver, pick}
 use Rattle.machine.specs.Calls.{Selection, nobody, pair, Chooser, RanOn, not_run, go_on, deliver_on, run_from, run_on, ran_number, ran_made}
@@ -34,7 +37,7 @@ use Rattle.machine.specs.Lists.{Call, picking, running_on, running_shuffled, rep
 use Rattle.machine.specs.Lists.{accepted_pick, answer_number, in_turn, passed_by}
 use Rattle.machine.specs.Made.{Made, none, more, Stopped, went, nothing, no_place, full}
 use Rattle.machine.specs.Made.{Answered, none_refused, was_over, none_waits, no_link, not_over, beyond, no_seed}
-use Rattle.machine.specs.Made.{Finds, PickMade, RunMade, Sure, PassMade}
+use Rattle.machine.specs.Made.{Finds, AnswerListed, PickMade, RunMade, Sure, PassMade}
 use Rattle.machine.proofs.ChooserLaws.{shuffled_order_chooses}
 use Rattle.machine.specs.Among.{Among, Placed, there, not_there}
 use Rattle.machine.specs.AmongLaws.{between_among}
@@ -150,15 +153,16 @@ module _ {P M : Type 0} (ρ : Rules P M) (r : Machine P M) where
 
 -- after a delivery it goes on; a refusal ends it at the run that it refused
 go_on_made :
-    {P M : Type 0} (ρ : Rules P M) (r : Machine P M) (before : ℕ) (p : Picked P M) (rest : Machine P M → RanOn P M) → PickMade ρ r p →
+    {P M : Type 0} (ρ : Rules P M) (r : Machine P M) (before : ℕ) (p : Picked P M) (rest : Machine P M → RanOn P M) → PickMade ρ r p → AnswerListed p.answer →
     ((q : Machine P M) → RunMade ρ q (suc before) (rest q)) → RunMade ρ r before (go_on before p rest)
-go_on_made {P} {M} ρ r before p rest pm go = at p.answer refl
+go_on_made {P} {M} ρ r before p rest pm named go = at p.answer refl
   where
     at : (x : Answer M) → p.answer ≡ x → RunMade ρ r before (go_on before p rest)
     at (refusal n) e =
         let d : Made ρ r 0 p.run = subst (λ (y : Answer M). Made ρ r (accepted_pick y) p.run) e pm.made in
         let s : Stopped ρ r n = subst (λ (y : Answer M). Stopped ρ r (answer_number y)) e pm.stopped in
-        rw e (record { k = 0; all = omega arith; made = d; stopped = subst (λ (q : Machine P M). Stopped ρ q n) (same_run d) s })
+        let back = listed_back (subst (λ (y : Answer M). AnswerListed y) e named) in
+        rw e (record { k = 0; all = omega arith; made = d; stopped = rw back (subst (λ (q : Machine P M). Stopped ρ q n) (same_run d) s) })
       where
         same_run : {q : Machine P M} → Made ρ r 0 q → r ≡ q
         same_run none = refl
@@ -168,7 +172,7 @@ go_on_made {P} {M} ρ r before p rest pm go = at p.answer refl
         rw e (record { k = 1 + g.k; all = omega (arith, g.all); made = made_then d g.made; stopped = g.stopped })
 
 module _ {P M : Type 0} (ρ : Rules P M) (next : Chooser P M) (finds : Finds next) where
-  ended_run : (r : Machine P M) (before : ℕ) (x : Ran) → ran_made x ≡ before → ran_number x ≡ 0 → RunMade ρ r before (record { answer = x; run = r })
+  ended_run : (r : Machine P M) (before : ℕ) (x : Result Ran Halted) → ran_made x ≡ before → ran_number x ≡ 0 → RunMade ρ r before (record { answer = x; run = r })
   ended_run r before x e z = record { k = 0; all = omega (arith, e); made = none; stopped = rw z went }
 
   pub run_from_made : (k before s : ℕ) (r : Machine P M) → RunMade ρ r before (run_from ρ next k before s r)
@@ -176,21 +180,21 @@ module _ {P M : Type 0} (ρ : Rules P M) (next : Chooser P M) (finds : Finds nex
   run_from_made zero before s r = at (tested (over ρ r))
     where
       at : Tested (over ρ r)
-          → RunMade ρ r before (choose (over ρ r) (record { answer = Ran.Over before; run = r }) (record { answer = Spent before; run = r }))
-      at (passed e) = rw e (ended_run r before (Ran.Over before) refl refl)
-      at (failed e) = rw e (ended_run r before (Spent before) refl refl)
+          → RunMade ρ r before (choose (over ρ r) (record { answer = Ok (Ran.Over before); run = r }) (record { answer = Ok (Spent before); run = r }))
+      at (passed e) = rw e (ended_run r before (Ok (Ran.Over before)) refl refl)
+      at (failed e) = rw e (ended_run r before (Ok (Spent before)) refl refl)
   run_from_made (suc k) before s r = at (tested (over ρ r)) (λ q. run_from_made k (suc before) (next s r).1 q)
     where
       at : Tested (over ρ r) → ((q : Machine P M) → RunMade ρ q (suc before) (run_from ρ next k (suc before) (next s r).1 q))
           → RunMade ρ r before (elim (over ρ r) [
-            | true ↦ record { answer = Ran.Over before; run = r }
+            | true ↦ record { answer = Ok (Ran.Over before); run = r }
             | false ↦ go_on before
                 (deliver_on ρ r (next s r).0) (λ q. run_from ρ next k (suc before) (next s r).1 q)
           ])
-      at (passed e) go = rw e (ended_run r before (Ran.Over before) refl refl)
+      at (passed e) go = rw e (ended_run r before (Ok (Ran.Over before)) refl refl)
       at (failed e) go =
           rw e (go_on_made ρ r before (deliver_on ρ r (next s r).0) (λ q. run_from ρ next k (suc before) (next s r).1 q)
-          (deliver_on_made ρ r (next s r).0 (finds s r)) go)
+          (deliver_on_made ρ r (next s r).0 (finds s r)) (deliver_on_listed ρ r (next s r).0) go)
 
   -- so many deliveries as it says
   from_made : (k s : ℕ) (r : Machine P M) → Made ρ r (ran_made (run_from ρ next k 0 s r).answer) (run_from ρ next k 0 s r).run

@@ -7,7 +7,7 @@
 --   upheld_spent        == .. with fewer it makes them all and is spent
 --   upheld_list         == after every list of calls: what the list came to, and the invariants
 -- Assumes nothing.
-use Rattle.std.specs.Prelude.{ℕ, zero, suc, ◌+◌, ◌≤◌, ◌<◌, false, List, [], ◌∷◌, ◌≡◌, length}
+use Rattle.std.specs.Prelude.{ℕ, zero, suc, ◌+◌, ◌≤◌, ◌<◌, false, List, [], ◌∷◌, ◌≡◌, length, Ok}
 use Rattle.std.proofs.Math.Bool.{true}
 use Rattle.std.proofs.lemmas.Bool.{false≢true}
 use Rattle.std.proofs.Math.Path.{refl}
@@ -85,8 +85,8 @@ module _ {P M : Type 0} {ρ : Rules P M} {quota : Quota P} {asked : Reads P M} {
 
 -- over after at most k deliveries, or spent after all k, where so many were made before
 data Ends {P M : Type 0} (ρ : Rules P M) (k made : ℕ) (x : RanOn P M) : Type 0 where
-  ends_over : (j : ℕ) → j ≤ k → x.answer ≡ Ran.Over (made + j) → over ρ x.run ≡ true → Ends ρ k made x
-  ends_spent : x.answer ≡ Spent (made + k) → over ρ x.run ≡ false → Ends ρ k made x
+  ends_over : (j : ℕ) → j ≤ k → x.answer ≡ Ok (Ran.Over (made + j)) → over ρ x.run ≡ true → Ends ρ k made x
+  ends_spent : x.answer ≡ Ok (Spent (made + k)) → over ρ x.run ≡ false → Ends ρ k made x
 
 module _ {P M : Type 0} {ρ : Rules P M} {quota : Quota P} {asked : Reads P M} {I : Machine P M → Type 0} (up : Upheld ρ quota asked I)
     {next : Chooser P M} (chooses : Chooses next) where
@@ -118,19 +118,19 @@ module _ {P M : Type 0} {ρ : Rules P M} {quota : Quota P} {asked : Reads P M} {
   upheld_ends zero made s r i = at (tested (over ρ r))
     where
       at : Tested (over ρ r) → Ends ρ zero made (run_from ρ next zero made s r)
-      at (passed o) = rw (from_over ρ next s r zero made o) (ends_over 0 (omega arith) (ap Ran.Over (omega arith)) o)
-      at (failed o) = rw (from_spent ρ next s r made o) (ends_spent (ap Spent (omega arith)) o)
+      at (passed o) = rw (from_over ρ next s r zero made o) (ends_over 0 (omega arith) (ap (λ n. Ok (Ran.Over n)) (omega arith)) o)
+      at (failed o) = rw (from_spent ρ next s r made o) (ends_spent (ap (λ n. Ok (Spent n)) (omega arith)) o)
   upheld_ends (suc k) made s r i = at (tested (over ρ r)) (λ q. upheld_ends k (suc made) (next s r).1 q)
     where
       rest : Machine P M → RanOn P M
       rest q = run_from ρ next k (suc made) (next s r).1 q
 
       one_more : {x : RanOn P M} → Ends ρ k (suc made) x → Ends ρ (suc k) made x
-      one_more (ends_over j u e o) = ends_over (suc j) (omega arith) (e ∙ ap Ran.Over (omega arith)) o
-      one_more (ends_spent e o) = ends_spent (e ∙ ap Spent (omega arith)) o
+      one_more (ends_over j u e o) = ends_over (suc j) (omega arith) (e ∙ ap (λ n. Ok (Ran.Over n)) (omega arith)) o
+      one_more (ends_spent e o) = ends_spent (e ∙ ap (λ n. Ok (Spent n)) (omega arith)) o
 
       at : Tested (over ρ r) → ((q : Machine P M) → I q → Ends ρ k (suc made) (rest q)) → Ends ρ (suc k) made (run_from ρ next (suc k) made s r)
-      at (passed o) go = rw (from_over ρ next s r (suc k) made o) (ends_over 0 (omega arith) (ap Ran.Over (omega arith)) o)
+      at (passed o) go = rw (from_over ρ next s r (suc k) made o) (ends_over 0 (omega arith) (ap (λ n. Ok (Ran.Over n)) (omega arith)) o)
       at (failed o) go =
           let t : Turned I (deliver_on ρ r (next s r).0) = upheld_turn s r i o in
           rw (from_more ρ next s r k made o, go_on_by made (deliver_on ρ r (next s r).0) rest (given t.message) t.gives)

@@ -6,6 +6,7 @@
 --   pick ρ r a b k     == a pick of place k checks 21, 25, 23, 24, 31, 22
 --   Selection          == a link with a message, or nobody
 --   Chooser P M        == an order of running on: from its own state and the run, the link whose oldest message goes, and its next state
+--   halted n k         == the answer of a running on that the refusal with number n ended, after k deliveries
 --   deliver_on, go_on, run_from, run_on   == "Running on checks 21 first, then over, then spent, then 24, 22.", over any chooser
 --   in_row n c          == the lists c 1 to c n, one behind the other
 --   link_at k l         == the link at place k of a list of links, "counted from 0"
@@ -16,13 +17,15 @@
 --   run_shuffled k seed r     == running on with a seed checks 21, 37, then as running on
 --   ran_number, ran_made == for each case of running on's answer 01's number, and the number made
 -- Assumes nothing.
-use Rattle.std.specs.Prelude.{ℕ, zero, suc, ◌%◌, Bool, true, false, not, List, [], ◌∷◌, ◌++◌}
+use Rattle.std.specs.Prelude.{ℕ, zero, suc, ◌%◌, Bool, true, false, not, List, [], ◌∷◌, ◌++◌, Result, Ok, Err}
 use lib.{Dec.eqb, ListN.length}
 use Rattle.base.specs.Choice.{choose}
 use Rattle.shuffling.specs.Shuffle.{moved_on}
+use Rattle.refusals.specs.Numbers.{number, numbered}
 use Rattle.tables.specs.Waits.{neighbours}
 use Rattle.machine.specs.declared.Ran.{Ran}
 use Rattle.machine.specs.declared.Ran.TheVariants.{Spent}
+use Rattle.machine.specs.declared.Halted.{Halted}
 use Rattle.machine.specs.Machine.{Machine, Rules, over, well_formed, after, accepts}
 
 -- ---- a pick
@@ -94,17 +97,21 @@ abbrev pub Chooser : Type 0 → Type 0 → Type 0
 Chooser P M = ℕ → Machine P M → Selection × ℕ
 
 pub record RanOn (P M : Type 0) : Type 0 where
-  pub answer : Ran
+  pub answer : Result Ran Halted
   pub run : Machine P M
+
+-- the answer of a running on that a refusal ends, by its number
+abbrev pub halted : ℕ → ℕ → Result Ran Halted
+halted n made = Err (record { refusal = numbered n; made = made })
 
 module _ {P M : Type 0} where
   -- refused before its first delivery
   abbrev pub not_run : ℕ → Machine P M → RanOn P M
-  not_run n r = record { answer = Ran.Refused n 0; run = r }
+  not_run n r = record { answer = halted n 0; run = r }
 
   -- a refusal ends it and "keeps its deliveries and gives their number"; after a delivery it goes on
   abbrev pub go_on : ℕ → Picked P M → (Machine P M → RanOn P M) → RanOn P M
-  go_on made p rest = elim p.answer [ refusal n ↦ record { answer = Ran.Refused n made; run = p.run } | given m ↦ rest p.run ]
+  go_on made p rest = elim p.answer [ refusal n ↦ record { answer = halted n made; run = p.run } | given m ↦ rest p.run ]
 
 module _ {P M : Type 0} (ρ : Rules P M) where
   -- the delivery of the oldest message on the chosen link: 24 where there is none
@@ -115,10 +122,10 @@ module _ {P M : Type 0} (ρ : Rules P M) where
   -- over, then spent, then 24, 22, with so many deliveries made before
   unfoldable pub run_from : Chooser P M → ℕ → ℕ → ℕ → Machine P M → RanOn P M
   run_from next zero made s r =
-      choose (over ρ r) (record { answer = Ran.Over made; run = r }) (record { answer = Spent made; run = r })
+      choose (over ρ r) (record { answer = Ok (Ran.Over made); run = r }) (record { answer = Ok (Spent made); run = r })
   run_from next (suc k) made s r =
       elim (over ρ r) [
-        | true ↦ record { answer = Ran.Over made; run = r }
+        | true ↦ record { answer = Ok (Ran.Over made); run = r }
         | false ↦ go_on made (deliver_on r (next s r).0) (λ q. run_from next k (suc made) (next s r).1 q)
       ]
 
@@ -185,13 +192,12 @@ module _ {P M : Type 0} (ρ : Rules P M) where
 
 -- ---- 01's number for each case of the answer, 0 where nothing is refused
 
-abbrev pub ran_number : Ran → ℕ
-ran_number (Ran.Over made) = 0
-ran_number (Spent made) = 0
-ran_number (Ran.Refused n made) = n
+abbrev pub ran_number : Result Ran Halted → ℕ
+ran_number (Ok x) = 0
+ran_number (Err h) = number h.refusal
 
 -- "with the number made"
-abbrev pub ran_made : Ran → ℕ
-ran_made (Ran.Over made) = made
-ran_made (Spent made) = made
-ran_made (Ran.Refused n made) = made
+abbrev pub ran_made : Result Ran Halted → ℕ
+ran_made (Ok (Ran.Over made)) = made
+ran_made (Ok (Spent made)) = made
+ran_made (Err h) = h.made

@@ -4,15 +4,17 @@
 --   Answered n          == n is a number that a call on a run made by start and deliveries may answer
 --   Finds next          == a chooser names processes alone
 --   Chooses next        == .. and a link with a message, if there is one
+--   AnswerListed x      == the answer x is a message, or its number is that of a refusal
 --   PickMade, RunMade, PassMade   == what a pick, running on, and a list of calls come to
 --   Sure ρ asked I      == an invariant that makes every run well formed and every waiting message acceptable, and that deliveries keep
 -- Assumes nothing.
 use Rattle.std.specs.Prelude.{ℕ, suc, ◌+◌, false, true, ◌≡◌}
 use mathlib.Core.List.{List, [], Memᴰ}
+use Rattle.refusals.specs.NumberLaws.{Listed}
 use Rattle.tables.specs.Table.{IsProcess}
 use Rattle.tables.specs.Sound.{Sound}
 use Rattle.machine.specs.Machine.{Machine, Rules, well_formed, after, accepts}
-use Rattle.machine.specs.Calls.{Picked, Chooser, nobody, pair, waiting, RanOn, ran_number, ran_made}
+use Rattle.machine.specs.Calls.{Answer, given, refusal, Picked, Chooser, nobody, pair, waiting, RanOn, ran_number, ran_made}
 use Rattle.machine.specs.Lists.{Passed, Reads, accepted_pick, answer_number}
 use Rattle.machine.specs.Among.{Among}
 
@@ -47,6 +49,11 @@ pub record Chooses {P M : Type 0} (next : Chooser P M) : Type 0 where
   pub finds : Finds next
   pub waits : (s : ℕ) (r : Machine P M) (a b : ℕ) → (next s r).0 ≡ pair a b → waiting (r.link a b) ≡ true
   pub nothing : (s : ℕ) (r : Machine P M) → (next s r).0 ≡ nobody → (a b : ℕ) → IsProcess r.waits.n a → IsProcess r.waits.n b → r.link a b ≡ []
+
+-- an answer's number, where it has one, is that of a refusal
+abbrev pub AnswerListed : {M : Type 0} → Answer M → Type 0
+AnswerListed (given m) = Unit {0}
+AnswerListed (refusal n) = Listed n
 
 -- what a delivery on a link of r answers, and the run that it leaves
 pub record PickMade {P M : Type 0} (ρ : Rules P M) (r : Machine P M) (p : Picked P M) : Type 0 where

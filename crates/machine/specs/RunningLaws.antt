@@ -5,14 +5,14 @@
 --   run_from_next      == one more delivery is made
 -- Assumes nothing.
 use Prim.Native.Nat.{ℕ, zero, suc, ◌+◌, ◌-◌, ◌≤◌, ◌<◌}
-use Rattle.std.specs.Prelude.{true, false, ◌≡◌}
+use Rattle.std.specs.Prelude.{true, false, ◌≡◌, Ok}
 use Rattle.std.proofs.Math.Path.{ap}
 use Rattle.std.proofs.Common.{◌∙◌}
 use native.Mathlib.Omega.{arith}
 use Rattle.machine.specs.declared.Ran.{Ran}
 use Rattle.machine.specs.declared.Ran.TheVariants.{Spent}
 use Rattle.machine.specs.Machine.{Machine, Rules, over}
-use Rattle.machine.specs.Calls.{Answer, given, refusal, Picked, Chooser, RanOn, go_on, deliver_on, run_from}
+use Rattle.machine.specs.Calls.{Answer, given, refusal, Picked, Chooser, RanOn, halted, go_on, deliver_on, run_from}
 
 -- a turn by the answer of its delivery
 module _ {P M : Type 0} (made : ℕ) (p : Picked P M) (rest : Machine P M → RanOn P M) where
@@ -20,12 +20,12 @@ module _ {P M : Type 0} (made : ℕ) (p : Picked P M) (rest : Machine P M → Ra
   go_on_by x e = rw e
 
 module _ {P M : Type 0} (ρ : Rules P M) (next : Chooser P M) (s : ℕ) (r : Machine P M) where
-  pub from_over : (j made : ℕ) → over ρ r ≡ true → run_from ρ next j made s r ≡ record { answer = Ran.Over made; run = r }
+  pub from_over : (j made : ℕ) → over ρ r ≡ true → run_from ρ next j made s r ≡ record { answer = Ok (Ran.Over made); run = r }
   unfolding run_from
   from_over zero made o = rw o
   from_over (suc j) made o = rw (run_from, o)
 
-  pub from_spent : (made : ℕ) → over ρ r ≡ false → run_from ρ next 0 made s r ≡ record { answer = Spent made; run = r }
+  pub from_spent : (made : ℕ) → over ρ r ≡ false → run_from ρ next 0 made s r ≡ record { answer = Ok (Spent made); run = r }
   unfolding run_from
   from_spent made o = rw o
 
@@ -35,11 +35,11 @@ module _ {P M : Type 0} (ρ : Rules P M) (next : Chooser P M) (s : ℕ) (r : Mac
   from_more j made o = rw (run_from, o)
 
   module _ (k made : ℕ) where
-    pub run_from_over : over ρ r ≡ true → run_from ρ next (k - made) made s r ≡ record { answer = Ran.Over made; run = r }
+    pub run_from_over : over ρ r ≡ true → run_from ρ next (k - made) made s r ≡ record { answer = Ok (Ran.Over made); run = r }
     run_from_over o = from_over (k - made) made o
 
     module _ (o : over ρ r ≡ false) where
-      pub run_from_spent : k ≤ made → run_from ρ next (k - made) made s r ≡ record { answer = Spent made; run = r }
+      pub run_from_spent : k ≤ made → run_from ρ next (k - made) made s r ≡ record { answer = Ok (Spent made); run = r }
       run_from_spent u = let z : k - made ≡ 0 = omega arith in rw z (from_spent made o)
 
       module _ (u : made < k) where
@@ -56,7 +56,7 @@ module _ {P M : Type 0} (ρ : Rules P M) (next : Chooser P M) (s : ℕ) (r : Mac
 
         pub run_from_refused :
             (i : ℕ) → (deliver_on ρ r (next s r).0).answer ≡ refusal i →
-            run_from ρ next (k - made) made s r ≡ record { answer = Ran.Refused i made; run = (deliver_on ρ r (next s r).0).run }
+            run_from ρ next (k - made) made s r ≡ record { answer = halted i made; run = (deliver_on ρ r (next s r).0).run }
         run_from_refused i d = turn ∙ go_on_by made (deliver_on ρ r (next s r).0) rest (refusal i) d
 
         pub run_from_next :

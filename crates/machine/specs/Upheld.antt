@@ -4,7 +4,7 @@
 --   RanOut ρ x           == running on ended over
 --   RanShort ρ n x       == running on was spent with n deliveries made
 -- Assumes nothing.
-use Rattle.std.specs.Prelude.{ℕ, true, false, ◌≡◌}
+use Rattle.std.specs.Prelude.{ℕ, true, false, ◌≡◌, Ok}
 use Rattle.machine.specs.declared.Ran.{Ran}
 use Rattle.machine.specs.declared.Ran.TheVariants.{Spent}
 use Rattle.machine.specs.Machine.{Machine, Rules, over}
@@ -28,10 +28,10 @@ pub record Turned {P M : Type 0} (I : Machine P M → Type 0) (p : Picked P M) :
 -- running on says over, and leaves a run that is over
 pub record RanOut {P M : Type 0} (ρ : Rules P M) (x : RanOn P M) : Type 0 where
   pub made : ℕ
-  pub says : x.answer ≡ Ran.Over made
+  pub says : x.answer ≡ Ok (Ran.Over made)
   pub ended : over ρ x.run ≡ true
 
 -- running on says spent, and leaves a run that is not over
 pub record RanShort {P M : Type 0} (ρ : Rules P M) (made : ℕ) (x : RanOn P M) : Type 0 where
-  pub says : x.answer ≡ Spent made
+  pub says : x.answer ≡ Ok (Spent made)
   pub goes_on : over ρ x.run ≡ false

@@ -10,7 +10,7 @@ pub const GROUP: usize = 16;
 pub const GROUPS: usize = 8;
 
 // Where the numbers of the groups begin.
-const GROUPS_AT: usize = sets::SETS_SIZE + tables::SIDE;
+pub const GROUPS_AT: usize = sets::SETS_SIZE + tables::SIDE;
 
 pub const MEMORY_SIZE: usize = GROUPS_AT + GROUPS;
 

@@ -21,9 +21,11 @@ use Rattle.steps.specs.declared.Message.{Message}
 use Rattle.steps.specs.declared.Message.TheVariants.{Ack}
 use Rattle.steps.specs.declared.Process.{Process}
 use Rattle.steps.specs.declared.TwoCounts.{TwoCounts}
-use Rattle.steps.specs.declared.Stepped.{Stepped}
-use Rattle.steps.specs.declared.Stepped.TheVariants.{Refused}
-use Rattle.steps.specs.Step.{Turn, small, in_range, count_small, lent_in_range, num_suffices, fitting, answer}
+use Rattle.std.specs.Prelude.{Result, Err}
+use Rattle.refusals.specs.declared.Refusal.{Refusal}
+use Rattle.refusals.specs.declared.Refusal.TheVariants.{OutOfRange}
+use Rattle.refusals.specs.Numbers.{answered}
+use Rattle.steps.specs.Step.{Turn, small, in_range, count_small, lent_in_range, num_suffices, fitting}
 use Rattle.steps.specs.Step.{most_count, both_small, sums_of, rule1, set_succeeding, set_preceding, turn, stepped}
 use Rattle.steps.specs.Effect.{RecordInRange}
 use Rattle.steps.specs.StepLaws.{in_range_P, stepped_inside}
@@ -108,19 +110,19 @@ acknowledgeable m c x e r s n =
       (and_both _ _ (le-leb (nat_abs x.cs) most_count h.cs) (le-leb (nat_abs x.second) most_count h.second), leb-true 1 x.num few),
     )
 
-pub settled_answer : (m : Message) (x : Process) (t : Turn) {u : Turn} {r : Stepped} → r ≡ settled u → u ≡ t → num_suffices m x ≡ true
-    → r ≡ answer (choose (not (fitting m x t)) 22 0) t
+pub settled_answer : (m : Message) (x : Process) (t : Turn) {u : Turn} {r : Result Turn Refusal} → r ≡ settled u → u ≡ t → num_suffices m x ≡ true
+    → r ≡ answered (choose (not (fitting m x t)) 22 0) t
 unfolding settled fitting
 settled_answer m x t p q e = p ∙ rw (q, e)
 
 -- neither 21 nor 25 is met
 module _ (m : Message) (o i p : ℕ) (x : Process) (r : lent_in_range m o i x ≡ true) (q : IsProcess most_processes p) where
-  inside : stepped m o i p x ≡ answer (choose (not (fitting m x (turn m o i p x))) 22 0) (turn m o i p x)
+  inside : stepped m o i p x ≡ answered (choose (not (fitting m x (turn m o i p x))) 22 0) (turn m o i p x)
   inside = stepped_inside m o i p x r (λ e. absurd (omega (arith, q))) q.1
 
-  pub stepped_short : num_suffices m x ≡ false → Refused 22 ≡ stepped m o i p x
-  unfolding fitting answer
+  pub stepped_short : num_suffices m x ≡ false → Err OutOfRange ≡ stepped m o i p x
+  unfolding fitting
   stepped_short e = rw (inside, e)
 
-  pub stepped_settled : {u : Turn} {s : Stepped} → s ≡ settled u → u ≡ turn m o i p x → num_suffices m x ≡ true → s ≡ stepped m o i p x
+  pub stepped_settled : {u : Turn} {s : Result Turn Refusal} → s ≡ settled u → u ≡ turn m o i p x → num_suffices m x ≡ true → s ≡ stepped m o i p x
   stepped_settled a b e = rw inside (settled_answer m x (turn m o i p x) a b e)

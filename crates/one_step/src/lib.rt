@@ -4,57 +4,46 @@
 
 ghost use Rattle.std.specs.Prelude.{◌≡◌, true};
 ghost use Rattle.tables.specs.Table.{most_processes, IsProcess};
-ghost use Rattle.steps.specs.declared.Message.TheVariants.{Suc};
 ghost use Rattle.steps.specs.Step.{in_range, count_small, lent_in_range, num_suffices, reply_fits, turn, stepped, start_turn, start_stepped};
 ghost use Rattle.one_step.specs.Within.{settled};
 
-use steps::{Message, Probes, Process, Reply, Stepped, Turn, TwoCounts};
+use refusals::Refusal;
+use steps::{Message, Probes, Process, Reply, Sent, Turn, TwoCounts};
 
 // The largest number of a process, and of its successors or predecessors, as a record holds them.
 const MOST_PROCESSES: u32 = tables::MOST_PROCESSES as u32;
 
 // "record or count out of range, father over 128 or a degree over 128" is not met.
+#[tactic(auto, unfolding(steps::specs::Step::lent_in_range))]
 fn is_lent_in_range(process: Process, message: Message, out_degree: u32, in_degree: u32) -> bool
     ensures { result ≡ lent_in_range message out_degree in_degree process }
 {
-    if !steps::is_in_range(process) {
-        return false;
-    }
-    if process.father > MOST_PROCESSES {
-        return false;
-    }
-    if !steps::is_count_small(message) {
-        return false;
-    }
-    if out_degree > MOST_PROCESSES {
-        return false;
-    }
-    in_degree <= MOST_PROCESSES
+    steps::is_in_range(process)
+        && process.father <= MOST_PROCESSES
+        && steps::is_count_small(message)
+        && out_degree <= MOST_PROCESSES
+        && in_degree <= MOST_PROCESSES
 }
 
 // "num loses 1" asks for a num of at least 1.
+#[tactic(auto, unfolding(steps::specs::Step::num_suffices))]
 fn is_num_sufficient(message: Message, process: Process) -> bool
     ensures { result ≡ num_suffices message process }
 {
     match message {
-        Message::Suc => true,
-        Message::Pre => true,
+        Message::Suc | Message::Pre => true,
         Message::Ack(_) => 1 <= process.num,
     }
 }
 
 // "acknowledge to father 0", or with a count out of range, is refused.
-fn is_reply_fitting(reply: Reply) -> bool
+#[tactic(auto, unfolding(steps::specs::Step::reply_fits))]
+fn is_reply_fitting(reply: Option<Reply>) -> bool
     ensures { result ≡ reply_fits reply }
 {
     match reply {
-        Reply::Nothing => true,
-        Reply::To { process, counts } => {
-            if process < 1 {
-                return false;
-            }
-            steps::are_both_small(counts)
-        }
+        None => true,
+        Some(Reply { to, counts }) => 1 <= to && steps::are_both_small(counts),
     }
 }
 
@@ -66,8 +55,8 @@ fn take_turn(
     in_degree: u32,
     sender: u32,
 ) -> Turn
-    requires process_value { lent_in_range message out_degree in_degree process ≡ true }
-    requires process_value_2 { num_suffices message process ≡ true }
+    requires lent_fits { lent_in_range message out_degree in_degree process ≡ true }
+    requires num_fits { num_suffices message process ≡ true }
     ensures { result ≡ turn message out_degree in_degree sender process }
 {
     match message {
@@ -83,109 +72,90 @@ fn take_turn(
     }
 }
 
-// "s receives a probe: it acknowledges with 0.": with 0 as second count too, since s passes nothing on
-fn greeted(process: Process, sender: u32) -> Turn
-    ensures { result ≡ start_turn Suc sender process }
-{
-    Turn {
-        process,
-        probes: Probes::Nothing,
-        reply: Reply::To {
-            process: sender,
-            counts: TwoCounts {
-                count: 0,
-                second: 0,
-            },
-        },
-    }
-}
-
-// "s receives a probe: it acknowledges with 0"; "s receives acknowledgement c: cs gains c, num loses 1"
+// "s receives a probe: it acknowledges with 0", with 0 as second count too, since s passes nothing on; "s receives acknowledgement c: cs gains c,
+// num loses 1"
+#[tactic(auto, unfolding(steps::specs::Step::start_turn))]
 fn take_start_turn(process: Process, message: Message, sender: u32) -> Turn
-    requires process_value { in_range process ≡ true }
-    requires message_value { count_small message ≡ true }
-    requires process_value_2 { num_suffices message process ≡ true }
+    requires process_fits { in_range process ≡ true }
+    requires counts_fit { count_small message ≡ true }
+    requires num_fits { num_suffices message process ≡ true }
     ensures { result ≡ start_turn message sender process }
 {
     match message {
-        Message::Suc => greeted(process, sender),
-        Message::Pre => greeted(process, sender),
+        Message::Suc | Message::Pre => Turn {
+            process,
+            sent: Sent {
+                probes: Probes::Nothing,
+                reply: Some(Reply {
+                    to: sender,
+                    counts: TwoCounts::default(),
+                }),
+            },
+        },
         Message::Ack(counts) => rules::acknowledged(counts, process),
     }
 }
 
 // The answer to a step whose num suffices: 22 if it leaves a value out of range or acknowledges to father 0.
-fn settled(turn: Turn) -> Stepped
+#[tactic(auto, unfolding(crate::specs::Within::settled))]
+fn settled(turn: Turn) -> Result<Turn, Refusal>
     ensures { result ≡ settled turn }
 {
-    let process = turn.process;
-    let probes = turn.probes;
-    let reply = turn.reply;
-    if !steps::is_in_range(process) {
-        return Stepped::Refused(22);
-    }
-    if !is_reply_fitting(reply) {
-        return Stepped::Refused(22);
-    }
-    Stepped::Taken {
-        process,
-        probes,
-        reply,
+    if steps::is_in_range(turn.process) && is_reply_fitting(turn.sent.reply) {
+        Ok(turn)
+    } else {
+        Err(Refusal::OutOfRange)
     }
 }
 
-// The step of a process other than the start, in a run whose records and counts are in range, from one of its processes: it checks 22.
+// The step of a process other than the start, in a run whose records and counts are in range, from one of its processes: it checks 22. Each of its
+// two callers has it inline: else the compiler puts it into neither, and a delivery pays for the call.
+#[inline(always)]
 pub fn other_step(
     process: Process,
     message: Message,
     out_degree: u32,
     in_degree: u32,
     sender: u32,
-) -> Stepped
-    requires process_value { lent_in_range message out_degree in_degree process ≡ true }
-    requires process { IsProcess most_processes sender }
+) -> Result<Turn, Refusal>
+    requires lent_fits { lent_in_range message out_degree in_degree process ≡ true }
+    requires sender_is_process { IsProcess most_processes sender }
     ensures { result ≡ stepped message out_degree in_degree sender process }
 {
     if !is_num_sufficient(message, process) {
-        return Stepped::Refused(22);
+        return Err(Refusal::OutOfRange);
     }
     settled(take_turn(process, message, out_degree, in_degree, sender))
 }
 
-// One process's step by itself: it checks 21, 25, 22, whatever it is given. It says once more what `other_step` does, and does not call it: with
-// two callers the compiler puts that into neither, and a delivery pays for the call.
+// One process's step by itself: it checks 21, 25, 22, whatever it is given.
+#[tactic(auto, unfolding(steps::specs::Step::stepped, steps::specs::Step::step_number))]
 pub fn step(
     process: Process,
     message: Message,
     out_degree: u32,
     in_degree: u32,
     sender: u32,
-) -> Stepped
+) -> Result<Turn, Refusal>
     ensures { result ≡ stepped message out_degree in_degree sender process }
 {
     if !is_lent_in_range(process, message, out_degree, in_degree) {
-        return Stepped::Refused(21);
+        return Err(Refusal::NotWellFormed);
     }
-    if sender == 0 {
-        return Stepped::Refused(25);
+    if sender == 0 || sender > MOST_PROCESSES {
+        return Err(Refusal::NoLink);
     }
-    if sender > MOST_PROCESSES {
-        return Stepped::Refused(25);
-    }
-    if !is_num_sufficient(message, process) {
-        return Stepped::Refused(22);
-    }
-    settled(take_turn(process, message, out_degree, in_degree, sender))
+    other_step(process, message, out_degree, in_degree, sender)
 }
 
 // The start's step, in a run whose records and counts are in range: it checks 22.
-pub fn start_step(process: Process, message: Message, sender: u32) -> Stepped
-    requires process_value { in_range process ≡ true }
-    requires message_value { count_small message ≡ true }
+pub fn start_step(process: Process, message: Message, sender: u32) -> Result<Turn, Refusal>
+    requires process_fits { in_range process ≡ true }
+    requires counts_fit { count_small message ≡ true }
     ensures { result ≡ start_stepped message sender process }
 {
     if !is_num_sufficient(message, process) {
-        return Stepped::Refused(22);
+        return Err(Refusal::OutOfRange);
     }
     settled(take_start_turn(process, message, sender))
 }

@@ -4,7 +4,7 @@
 --   layout_kept       == no list of calls changes the word, whatever words it is given
 --   layout_other      == an area with another number there gets 21 from every call but a start, and keeps every word
 -- Assumes nothing.
-use Rattle.std.specs.Prelude.{ℕ, true, false, List, [], ◌∷◌, ◌≡◌, ℤ, pos, get_or}
+use Rattle.std.specs.Prelude.{ℕ, true, false, List, [], ◌∷◌, ◌≡◌, ℤ, pos, get_or, Err}
 use Rattle.std.proofs.Math.Path.{refl}
 use Rattle.std.proofs.Common.{sym, ◌∙◌, arith, eq-eqb}
 use Rattle.base.specs.Choice.{choose}
@@ -12,11 +12,9 @@ use Rattle.base.specs.Checks.{Tested, passed, failed}
 use Rattle.base.specs.ChoiceLaws.{tested}
 use Rattle.tables.specs.Table.{Fields, field_of}
 use Rattle.tables.specs.Waits.{waits_of}
-use Rattle.machine.specs.declared.Ran.{Ran}
+use Rattle.machine.specs.Calls.{halted}
+use Rattle.refusals.specs.Numbers.{numbered}
 use Rattle.machine.specs.Lists.{Call, picking, running_on, running_shuffled, reporting, reading, in_turn}
-use Rattle.checks.specs.declared.Delivery.{Delivery}
-use Rattle.checks.specs.declared.Report.{Report}
-use Rattle.checks.specs.declared.Reading.{Reading}
 use Rattle.checks.specs.Run.{Run, start_run}
 use Rattle.checks.specs.Calls.{pick, run_on, run_shuffled}
 use Rattle.areas.specs.Used.{check_place}
@@ -70,9 +68,9 @@ module _ (w : List ℤ) (other : get_or w check_place (pos 0) ≡ knot_check →
       at (passed e) = absurd (other (layout_accepted w e))
 
   pub layout_other :
-      ((a b k : ℕ) → (Delivery.Refused 21 ≡ pick_answer w a b k) × (w ≡ pick_area w a b k)) ×
-      ((k : ℕ) → (Ran.Refused 21 0 ≡ run_on_answer k w) × (w ≡ run_on_area k w)) ×
-      ((k seed : ℕ) → (Ran.Refused 21 0 ≡ shuffled_answer k seed w) × (w ≡ shuffled_area k seed w)) ×
-      (Report.Refused 21 ≡ report_answer w) ×
-      ((p : ℕ) → Reading.Refused 21 ≡ read_answer w p)
+      ((a b k : ℕ) → (Err (numbered 21) ≡ pick_answer w a b k) × (w ≡ pick_area w a b k)) ×
+      ((k : ℕ) → (halted 21 0 ≡ run_on_answer k w) × (w ≡ run_on_area k w)) ×
+      ((k seed : ℕ) → (halted 21 0 ≡ shuffled_answer k seed w) × (w ≡ shuffled_area k seed w)) ×
+      (Err (numbered 21) ≡ report_answer w) ×
+      ((p : ℕ) → Err (numbered 21) ≡ read_answer w p)
   layout_other = (pick_21 w not_right, run_on_21 w not_right, shuffled_21 w not_right, report_21 w not_right, read_21 w not_right)

@@ -1,6 +1,7 @@
 // The public calls for hosts, on numbers, byte slices and word slices (include/pickledune.h). None asks anything of its caller. A call that may
 // refuse gives 0 or the number of its refusal, whose order its comment has, and stores 01's values through its references, zeros on a refusal.
 // `pickledune_c` hands them on to C and Rust under the same names.
+// Stays: the C interface takes each value by itself and stores each through a reference of its own, so no struct stands for those that go together.
 #![tactic(auto)]
 
 ghost use Rattle.std.specs.Prelude.{◌≡◌, pos};
@@ -18,7 +19,8 @@ ghost use Rattle.area_calls.specs.AreaCalls.{pick_answer, pick_area, run_on_answ
 ghost use Rattle.host_values.specs.Interface.{chain_of, message_of, process_of, StepTold};
 ghost use Rattle.host_values.specs.Versions.{library_version};
 
-use host_values::{check_values, step_values, table_values};
+use host_values::check_values::{DeliveryValues, RanValues, ReportValues};
+use host_values::step_values;
 use picks::picking;
 use runs::{running, shuffled};
 use steps::{Process, TwoCounts};
@@ -43,10 +45,11 @@ pub fn pickledune_read_table(table: &[u8], n: &mut usize, m: &mut usize) -> u32
     ensures processes { n.new ≡ n_found (reading_of table.now) }
     ensures arcs { m.new ≡ m_found (reading_of table.now) }
 {
-    let v = table_values::read_values(table_reader::read(table));
-    *n = v.n;
-    *m = v.m;
-    v.number
+    let answer = table_reader::read(table);
+    let sizes = answer.unwrap_or_default();
+    *n = sizes.n;
+    *m = sizes.m;
+    host_values::number(&answer)
 }
 
 // Writes the table of n processes and of the list's pairs at the front of out: its length. 10, 2, 4, 7, 11.
@@ -55,9 +58,9 @@ pub fn pickledune_write_table(n: usize, list: &[u16], out: &mut [u8], length: &m
     ensures length { length.new ≡ written_length (writing_of n list.now out.old) }
     ensures out { out.new ≡ written n list.now out.old }
 {
-    let v = table_values::write_values(table_writer::write(n, list, out));
-    *length = v.length;
-    v.number
+    let answer = table_writer::write(n, list, out);
+    *length = answer.unwrap_or_default();
+    host_values::number(&answer)
 }
 
 // Opens a walk along a chain of a process: the arc that it stands at, 0 if there is none. 1 to 8.
@@ -65,20 +68,16 @@ pub fn pickledune_open(table: &[u8], chain: u32, process: usize, arc: &mut usize
     ensures number { result ≡ opened_number (opened_of table.now (chain_of chain) process) }
     ensures arc { arc.new ≡ opened_arc (opened_of table.now (chain_of chain) process) }
 {
-    let v = table_values::open_values(table_reader::open(
-        table,
-        table_values::chain_of(chain),
-        process,
-    ));
-    *arc = v.arc;
-    v.number
+    let answer = table_reader::open(table, host_values::chain_of(chain), process);
+    *arc = answer.unwrap_or_default();
+    host_values::number(&answer)
 }
 
 // A step along a chain: the next arc, or 0 at the end. It refuses nothing.
 pub fn pickledune_next(table: &[u8], chain: u32, arc: usize) -> usize
     ensures { result ≡ next_arc (next_of table.now (chain_of chain) arc) }
 {
-    table_values::next_arc(table_reader::next(table, table_values::chain_of(chain), arc))
+    table_reader::next(table, host_values::chain_of(chain), arc).unwrap_or_default()
 }
 
 // Starts a check in the lent words, under edition 1 or 2. 1 to 8, 30, 9.
@@ -86,7 +85,7 @@ pub fn pickledune_start(table: &[u8], start: usize, edition: usize, area: &mut [
     ensures number { result ≡ started_number (start_answer table.now start edition area.old) }
     ensures area { area.new ≡ start_area table.now start edition area.old }
 {
-    check_values::started_number(starting::start(table, start, edition, area))
+    host_values::number(&starting::start(table, start, edition, area))
 }
 
 // Delivers the message at a place of one link, 1 for the oldest: its kind and its two counts. 21, 25, 23, 24, 31, 22.
@@ -105,14 +104,12 @@ pub fn pickledune_pick(
     ensures second { second.new ≡ (delivery_counts (pick_answer area.old from to place)).second }
     ensures area { area.new ≡ pick_area area.old from to place }
 {
-    let v = check_values::delivery_values(picking::pick(area, from, to, place));
-    *kind = v.kind;
-    let carried = v.counts;
-    let first = carried.count;
-    *count = first;
-    let last = carried.second;
-    *second = last;
-    v.number
+    let answer = picking::pick(area, from, to, place);
+    let delivered = DeliveryValues::from(answer);
+    *kind = delivered.kind;
+    *count = delivered.counts.count;
+    *second = delivered.counts.second;
+    host_values::number(&answer)
 }
 
 // Makes up to k deliveries in the fixed order: whether the run is over, and the number made. 21, 24, 22.
@@ -122,10 +119,10 @@ pub fn pickledune_run_on(area: &mut [i32], k: u32, over: &mut u32, made: &mut u3
     ensures made { made.new ≡ ran_made (run_on_answer k area.old) }
     ensures area { area.new ≡ run_on_area k area.old }
 {
-    let v = check_values::ran_values(running::run_on(area, k));
-    *over = v.over;
-    *made = v.made;
-    v.number
+    let ran = RanValues::from(running::run_on(area, k));
+    *over = ran.over;
+    *made = ran.made;
+    ran.number
 }
 
 // The same in the order that a seed gives. 21, 37, 24, 22.
@@ -141,10 +138,10 @@ pub fn pickledune_run_shuffled(
     ensures made { made.new ≡ ran_made (shuffled_answer k seed area.old) }
     ensures area { area.new ≡ shuffled_area k seed area.old }
 {
-    let v = check_values::ran_values(shuffled::run_shuffled(area, k, seed));
-    *over = v.over;
-    *made = v.made;
-    v.number
+    let ran = RanValues::from(shuffled::run_shuffled(area, k, seed));
+    *over = ran.over;
+    *made = ran.made;
+    ran.number
 }
 
 // The report of a run that is over. 21, 26.
@@ -163,14 +160,14 @@ pub fn pickledune_report(
     ensures escape { escape.new ≡ report_escape (report_answer area.now) }
     ensures returned { returned.new ≡ report_returned (report_answer area.now) }
 {
-    let v = check_values::report_values(reports::report(area));
-    *deliveries = v.deliveries;
-    *knot = v.knot;
-    let sum = v.outside;
-    *outside = sum;
-    *escape = v.escape;
-    *returned = v.returned;
-    v.number
+    let answer = reports::report(area);
+    let report = ReportValues::from(answer);
+    *deliveries = report.deliveries;
+    *knot = report.knot;
+    *outside = report.outside;
+    *escape = report.escape;
+    *returned = report.returned;
+    host_values::number(&answer)
 }
 
 // The record of one process. 21, 25.
@@ -194,18 +191,16 @@ pub fn pickledune_read_record(
     ensures father { father.new ≡ (reading_process (read_answer area.now process)).father }
     ensures second { second.new ≡ (reading_process (read_answer area.now process)).second }
 {
-    let v = check_values::record_values(record_reading::read_record(area, process));
-    let x = v.process;
-    *succeeding = x.succeeding;
-    *preceding = x.preceding;
-    *subordinate = x.subordinate;
-    let sum = x.cs;
-    *cs = sum;
-    *num = x.num;
-    *father = x.father;
-    let second_sum = x.second;
-    *second = second_sum;
-    v.number
+    let answer = record_reading::read_record(area, process);
+    let record = answer.unwrap_or_default();
+    *succeeding = record.succeeding;
+    *preceding = record.preceding;
+    *subordinate = record.subordinate;
+    *cs = record.cs;
+    *num = record.num;
+    *father = record.father;
+    *second = record.second;
+    host_values::number(&answer)
 }
 
 // The step of one process other than the start, on the record that the first seven references hold; a refusal leaves them as they were.
@@ -236,40 +231,32 @@ pub fn pickledune_step(
         second.new)
         result probes.new reply_to.new (record { count = reply_count.new; second = reply_second.new }) }
 {
-    let sum = *cs;
-    let second_sum = *second;
     let lent = Process {
         succeeding: *succeeding,
         preceding: *preceding,
         subordinate: *subordinate,
-        cs: sum,
+        cs: *cs,
         num: *num,
         father: *father,
-        second: second_sum,
+        second: *second,
     };
-    let given = TwoCounts {
+    let counts = TwoCounts {
         count,
         second: second_count,
     };
-    let message = step_values::message_of(kind, given);
+    let message = step_values::message_of(kind, counts);
     let answer = one_step::step(lent, message, out_degree, in_degree, sender);
-    let v = step_values::step_values(answer, lent);
-    let x = v.process;
-    *succeeding = x.succeeding;
-    *preceding = x.preceding;
-    *subordinate = x.subordinate;
-    let new_sum = x.cs;
-    *cs = new_sum;
-    *num = x.num;
-    *father = x.father;
-    let new_second = x.second;
-    *second = new_second;
-    *probes = v.probes;
-    *reply_to = v.reply_to;
-    let returned = v.reply_counts;
-    let first = returned.count;
-    *reply_count = first;
-    let last = returned.second;
-    *reply_second = last;
-    v.number
+    let values = step_values::step_values(answer, lent);
+    *succeeding = values.process.succeeding;
+    *preceding = values.process.preceding;
+    *subordinate = values.process.subordinate;
+    *cs = values.process.cs;
+    *num = values.process.num;
+    *father = values.process.father;
+    *second = values.process.second;
+    *probes = values.probes;
+    *reply_to = values.reply_to;
+    *reply_count = values.reply_counts.count;
+    *reply_second = values.reply_counts.second;
+    host_values::number(&answer)
 }

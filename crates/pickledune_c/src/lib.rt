@@ -1,5 +1,6 @@
 // The archive for C and Rust (include/pickledune.h): each public call of `pickledune` under its own name, with its parameters and its clauses word
 // for word, as a symbol that hosts link. Each only calls the function of that name.
+// Stays: the C interface wants these names, and a program in Rattle calls those of `pickledune`, which are no symbols.
 #![tactic(auto)]
 
 ghost use Rattle.std.specs.Prelude.{◌≡◌, pos};

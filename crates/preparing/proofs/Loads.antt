@@ -32,7 +32,7 @@ use Rattle.steps.specs.declared.Message.TheVariants.{Suc, Pre, Ack}
 use Rattle.steps.specs.declared.Probes.{Probes}
 use Rattle.steps.specs.declared.Probes.TheVariants.{Sucs, Pres}
 use Rattle.steps.specs.declared.Reply.{Reply}
-use Rattle.steps.specs.declared.Reply.TheVariants.{To}
+use Rattle.std.specs.Prelude.{Option, Some, None}
 use Rattle.checks.specs.Run.{one, reply_receiver, probes_to}
 use Rattle.areas.specs.Area.{fields_in, run_in}
 use Rattle.areas.specs.Squares.{cell_of, joins_in, Row}
@@ -48,14 +48,14 @@ one_length true m = refl
 one_length false m = refl
 
 -- how many acknowledgements go to q
-pub reply_length : (z : Reply) (q : ℕ) → length (reply_receiver z q) ≡ bit (reply_goes z q)
+pub reply_length : (z : Option Reply) (q : ℕ) → length (reply_receiver z q) ≡ bit (reply_goes z q)
 unfolding reply_receiver
-reply_length Reply.Nothing q = refl
-reply_length (To p c) q = one_length (eqb q p) (Ack c) ∙ ap bit (swap (same? q p))
+reply_length None q = refl
+reply_length (Some y) q = one_length (eqb q y.to) (Ack y.counts) ∙ ap bit (swap (same? q y.to))
   where
-    swap : Same q p → eqb q p ≡ eqb p q
-    swap (same e f) = f ∙ sym (eq-eqb p q (sym e))
-    swap (apart e f) = f ∙ sym (ne_eqb p q (λ g. e (sym g)))
+    swap : Same q y.to → eqb q y.to ≡ eqb y.to q
+    swap (same e f) = f ∙ sym (eq-eqb y.to q (sym e))
+    swap (apart e f) = f ∙ sym (ne_eqb y.to q (λ g. e (sym g)))
 
 -- how many probes of a broadcast go from b to q
 pub probes_length : (w : Waits) (z : Probes) (b q : ℕ) → length (probes_to w b z q) ≡ bit (probes_go w z b q)
@@ -108,13 +108,13 @@ module _ (n : ℕ) (v : ℕ → Bool) where
       at (failed t) = t ∙ sym (some_fails g t)
 
 -- what waits on a link is at most 4, so that it has room where nothing is sent
-pub unsent_room : (w : List ℤ) (a b : ℕ) (y : Probes) (z : Reply) (q : ℕ) → reply_goes z q ≡ false → probes_go (run_in w).waits y b q ≡ false
+pub unsent_room : (w : List ℤ) (a b : ℕ) (y : Probes) (z : Option Reply) (q : ℕ) → reply_goes z q ≡ false → probes_go (run_in w).waits y b q ≡ false
     → room_to (run_in w) a b y z q ≡ true
 unsent_room w a b y z q e f =
     le-leb (load_after (run_in w) a b y z q) 4 (rw (reply_length z q, probes_length (run_in w).waits y b q, e, f) (omega (arith, run_in_few w b q)))
 
 -- what one or two messages more leave of the room, where an acknowledgement goes and where a probe does
-module _ (w : List ℤ) (a b : ℕ) (y : Probes) (z : Reply) (q : ℕ) {s : ℕ} (t : Bool) (e : s ≡ 1 + bit t) {r : Bool}
+module _ (w : List ℤ) (a b : ℕ) (y : Probes) (z : Option Reply) (q : ℕ) {s : ℕ} (t : Bool) (e : s ≡ 1 + bit t) {r : Bool}
     (h : r ≡ leb (length ((run_in w).link b q) - bit (eqb b a && eqb q b) + s) link_slots) where
   same_room : load_after (run_in w) a b y z q ≡ length ((run_in w).link b q) - bit (eqb b a && eqb q b) + s → r ≡ room_to (run_in w) a b y z q
   same_room f = h ∙ ap (λ (k : ℕ). leb k link_slots) (sym f)

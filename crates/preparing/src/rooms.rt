@@ -1,23 +1,23 @@
 // Room on the receiver's links: whether one would hold a fifth message after the delivery. Only the links on which the step sends something are looked
 // at, each by one word.
-ghost use Rattle.std.specs.Prelude.{◌≡◌, true, not, ◌&&◌, ◌||◌, ℕ, ◌+◌, ◌≤◌, ◌-◌, eqb, leb, length};
+ghost use Rattle.std.specs.Prelude.{◌≡◌, true, not, ◌&&◌, ◌||◌, ℕ, ◌+◌, ◌≤◌, ◌-◌, eqb, leb, length, Some};
 ghost use Rattle.base.specs.Choice.{bit};
 ghost use Rattle.base.specs.Sums.{all_to};
 ghost use Rattle.tables.specs.Waits.{waits_of, neighbours};
 ghost use Rattle.tables.specs.Chains.{joins};
-ghost use Rattle.steps.specs.declared.TwoCounts.{TwoCounts};
-ghost use Rattle.steps.specs.declared.Reply.TheVariants.{To};
+ghost use Rattle.steps.specs.declared.Reply.{Reply};
 ghost use Rattle.areas.specs.Used.{link_slots};
 ghost use Rattle.areas.specs.Area.{fields_in, run_in};
 ghost use Rattle.areas.specs.Squares.{Row};
-ghost use Rattle.lenses.specs.Ready.{Ready};
 ghost use Rattle.preparing.specs.Rooms.{room_to};
-ghost use Rattle.preparing.specs.Receiving.{probes_go, probes_by, probes_of, reply_goes};
+ghost use Rattle.preparing.specs.Receiving.{probes_go, probes_by, probes_of, chain_of, reply_goes};
 
 use areas::squares;
 use lenses::chains;
+use lenses::tested::Tested;
 use link_lenses::links;
-use steps::{Probes, Reply};
+use link_lenses::links::LinkAt;
+use steps::{Probes, Reply, Sent};
 use tables::Chain;
 
 // A probe of a broadcast goes to the process whose cell this is.
@@ -32,13 +32,10 @@ fn goes_by(probes: Probes, cell: usize) -> bool
 }
 
 // An acknowledgement is for q.
-fn is_for(reply: Reply, q: usize) -> bool
+fn is_for(reply: Option<Reply>, q: usize) -> bool
     ensures { result ≡ reply_goes reply q }
 {
-    match reply {
-        Reply::Nothing => false,
-        Reply::To { process, counts: _ } => process as usize == q,
-    }
+    reply.is_some_and(|reply| reply.to as usize == q)
 }
 
 // One message, or two if a test passed.
@@ -49,83 +46,57 @@ fn one_or_two(test: bool) -> usize
 }
 
 // The link from b to q, which are neighbours, would not hold a fifth message once the message from a to b is off and one or two are sent to q.
-fn room_for(
-    area: &[i32],
-    row: &[u16],
-    n: usize,
-    m: usize,
-    a: usize,
-    b: usize,
-    q: usize,
-    sent: usize,
-) -> bool
-    requires ready { Ready area.now n m }
-    requires row { Row (fields_in area.now) b row.now }
-    requires q_le_n { q ≤ n }
-    requires q_value { neighbours (waits_of (fields_in area.now)) b q ≡ true }
-    requires le_sent { (1 ≤ sent) × (sent ≤ 2) }
-    ensures { result ≡ leb (length ((run_in area.now).link b q) - bit (eqb b a && eqb q b) + sent) link_slots }
+fn room_for(area: Tested, row: &[u16], a: usize, b: usize, q: usize, sent: usize) -> bool
+    requires row { Row (fields_in area.words.now) b row.now }
+    requires is_number { q ≤ area.sizes.n }
+    requires are_neighbours { neighbours (waits_of (fields_in area.words.now)) b q ≡ true }
+    requires one_or_two { (1 ≤ sent) × (sent ≤ 2) }
+    ensures { result ≡ leb (length ((run_in area.entry.words.now).link b q) - bit (eqb b a && eqb q b) + sent) link_slots }
 {
-    let i = squares::place(squares::cell_of(row, q));
-    if b != a {
-        return links::has_free(area, n, m, b, q, i, sent);
+    let link = LinkAt {
+        from: b,
+        to: q,
+        at: squares::place(squares::cell_of(row, q)),
+    };
+    if b != a || q != b {
+        return links::has_free(area, link, sent);
     }
-    if q != b {
-        return links::has_free(area, n, m, b, q, i, sent);
-    }
-    if sent == 1 {
-        return true;
-    }
-    links::has_free(area, n, m, b, q, i, sent - 1)
+    sent == 1 || links::has_free(area, link, sent - 1)
 }
 
 // The link on which b acknowledges would not hold a fifth message.
-fn reply_has_room(
-    area: &[i32],
-    row: &[u16],
-    n: usize,
-    m: usize,
-    a: usize,
-    b: usize,
-    probes: Probes,
-    reply: Reply,
-) -> bool
-    requires ready { Ready area.now n m }
-    requires row { Row (fields_in area.now) b row.now }
-    requires by_index { (p : ℕ) (c : TwoCounts) → reply ≡ To p c → (1 ≤ p) × (p ≤ n) × (neighbours (waits_of (fields_in area.now)) b p ≡ true) }
-    ensures { result ≡ all_to n (λ q. not (reply_goes reply q) || room_to (run_in area.now) a b probes reply q) }
+fn reply_has_room(area: Tested, row: &[u16], a: usize, b: usize, sent: Sent) -> bool
+    requires row { Row (fields_in area.words.now) b row.now }
+    requires reply_near { (y : Reply) → sent.reply ≡ Some y → (1 ≤ y.to) × (y.to ≤ area.sizes.n) × (neighbours (waits_of (fields_in area.words.now)) b y.to ≡ true) }
+    ensures { result ≡ all_to area.entry.sizes.n (λ q. not (reply_goes sent.reply q) || room_to (run_in area.entry.words.now) a b sent.probes sent.reply q) }
 {
-    match reply {
-        Reply::Nothing => true,
-        Reply::To { process, counts: _ } => {
-            let q = process as usize;
-            let cell = squares::cell_of(row, q);
-            room_for(area, row, n, m, a, b, q, one_or_two(goes_by(probes, cell)))
-        }
-    }
+    let Some(reply) = sent.reply else {
+        return true;
+    };
+    let q = reply.to as usize;
+    let cell = squares::cell_of(row, q);
+    room_for(area, row, a, b, q, one_or_two(goes_by(sent.probes, cell)))
 }
 
 // No link on which b sends a probe along a chain would hold a fifth message: only the far ends of the chain's arcs are looked at.
 fn chain_has_room(
-    area: &[i32],
+    area: Tested,
     row: &[u16],
-    n: usize,
-    m: usize,
     c: Chain,
     a: usize,
     b: usize,
-    reply: Reply,
+    reply: Option<Reply>,
 ) -> bool
-    requires ready { Ready area.now n m }
-    requires row { Row (fields_in area.now) b row.now }
-    requires le_b { (1 ≤ b) × (b ≤ n) }
-    ensures { result ≡ all_to n (λ q. not (joins c (run_in area.now).waits b q) || room_to (run_in area.now) a b (probes_of c) reply q) }
+    requires row { Row (fields_in area.words.now) b row.now }
+    requires is_process { (1 ≤ b) × (b ≤ area.sizes.n) }
+    ensures { result ≡ all_to area.entry.sizes.n (λ q. not (joins c (run_in area.entry.words.now).waits b q) || room_to (run_in area.entry.words.now) a b (probes_of c) reply q) }
 {
-    let mut k = chains::first_in(area, n, m, c, b);
+    let mut k = area.first(c, b);
+    // Stays: an iterator over the arcs is no plainer: a struct of four fields and three ghost members, whose state would stand in each invariant.
     while k != 0 {
-        let arc = chains::arc_in(area, n, m, k);
+        let arc = area.arc(k);
         let q = chains::far_of(c, arc);
-        if !room_for(area, row, n, m, a, b, q, one_or_two(is_for(reply, q))) {
+        if !room_for(area, row, a, b, q, one_or_two(is_for(reply, q))) {
             return false;
         }
         k = table_reader::next_of(c, arc);
@@ -133,48 +104,36 @@ fn chain_has_room(
     true
 }
 
-// No link on which b sends a probe would hold a fifth message.
-fn probes_have_room(
-    area: &[i32],
-    row: &[u16],
-    n: usize,
-    m: usize,
-    a: usize,
-    b: usize,
-    probes: Probes,
-    reply: Reply,
-) -> bool
-    requires ready { Ready area.now n m }
-    requires row { Row (fields_in area.now) b row.now }
-    requires le_b { (1 ≤ b) × (b ≤ n) }
-    ensures { result ≡ all_to n (λ q. not (probes_go (run_in area.now).waits probes b q) || room_to (run_in area.now) a b probes reply q) }
+// The chain along which probes go, if any go.
+// Stays: no From, since neither type is of this crate.
+fn chain_of(probes: Probes) -> Option<Chain>
+    ensures { result ≡ chain_of probes }
 {
     match probes {
-        Probes::Nothing => true,
-        Probes::Sucs => chain_has_room(area, row, n, m, Chain::Out, a, b, reply),
-        Probes::Pres => chain_has_room(area, row, n, m, Chain::In, a, b, reply),
+        Probes::Nothing => None,
+        Probes::Sucs => Some(Chain::Out),
+        Probes::Pres => Some(Chain::In),
+    }
+}
+
+// No link on which b sends a probe would hold a fifth message.
+fn probes_have_room(area: Tested, row: &[u16], a: usize, b: usize, sent: Sent) -> bool
+    requires row { Row (fields_in area.words.now) b row.now }
+    requires is_process { (1 ≤ b) × (b ≤ area.sizes.n) }
+    ensures { result ≡ all_to area.entry.sizes.n (λ q. not (probes_go (run_in area.entry.words.now).waits sent.probes b q) || room_to (run_in area.entry.words.now) a b sent.probes sent.reply q) }
+{
+    match chain_of(sent.probes) {
+        None => true,
+        Some(c) => chain_has_room(area, row, c, a, b, sent.reply),
     }
 }
 
 // No link from b would hold a fifth message: only those on which the step sends something are looked at, since every other has room.
-pub fn has_room(
-    area: &[i32],
-    row: &[u16],
-    n: usize,
-    m: usize,
-    a: usize,
-    b: usize,
-    probes: Probes,
-    reply: Reply,
-) -> bool
-    requires ready { Ready area.now n m }
-    requires row { Row (fields_in area.now) b row.now }
-    requires le_b { (1 ≤ b) × (b ≤ n) }
-    requires by_index { (p : ℕ) (c : TwoCounts) → reply ≡ To p c → (1 ≤ p) × (p ≤ n) × (neighbours (waits_of (fields_in area.now)) b p ≡ true) }
-    ensures { result ≡ all_to n (room_to (run_in area.now) a b probes reply) }
+pub fn has_room(area: Tested, row: &[u16], a: usize, b: usize, sent: Sent) -> bool
+    requires row { Row (fields_in area.words.now) b row.now }
+    requires is_process { (1 ≤ b) × (b ≤ area.sizes.n) }
+    requires reply_near { (y : Reply) → sent.reply ≡ Some y → (1 ≤ y.to) × (y.to ≤ area.sizes.n) × (neighbours (waits_of (fields_in area.words.now)) b y.to ≡ true) }
+    ensures { result ≡ all_to area.entry.sizes.n (room_to (run_in area.entry.words.now) a b sent.probes sent.reply) }
 {
-    if !reply_has_room(area, row, n, m, a, b, probes, reply) {
-        return false;
-    }
-    probes_have_room(area, row, n, m, a, b, probes, reply)
+    reply_has_room(area, row, a, b, sent) && probes_have_room(area, row, a, b, sent)
 }

@@ -1,4 +1,5 @@
 -- How long the program's output is at most, where each byte of the input is below 256.
+--   named_small         == the number of every refusal has at most two digits
 --   number_small        == the number of a refused input has at most two digits
 --   pick_short, picks_short   == the line of a pick, and the lines of all
 --   own_short, owns_short     == the line of a delivery of the program's own, and the lines of all
@@ -6,7 +7,11 @@
 --   program_short       == no output is longer than the longest
 -- Assumes nothing.
 use Prim.Native.Nat.{ℕ, zero, suc, ◌+◌, ◌*◌, ◌≤◌, ◌<◌}
-use Rattle.std.specs.Prelude.{Bool, false, ◌≡◌, ℤ, pos, drop, get_or}
+use Rattle.std.specs.Prelude.{Bool, false, ◌≡◌, ℤ, pos, drop, get_or, Result}
+use Rattle.refusals.specs.declared.Refusal.{Refusal}
+use Rattle.refusals.specs.declared.Refusal.TheVariants.{TableShort, Sizes, TableLength, Ends, ChainField, Chain, ArcTwice, Process, AreaShort, ListOdd, OutputShort, BytesLeft, InputLong}
+use Rattle.refusals.specs.declared.Refusal.TheVariants.{NotWellFormed, OutOfRange, Over, NoMessage, NoLink, NotOver, Edition, Place, Seed}
+use Rattle.refusals.specs.Numbers.{number, numbered}
 use Rattle.std.proofs.Math.Bool.{true}
 use mathlib.Core.List.{List, [], ◌∷◌}
 use Rattle.std.proofs.Common.{inl, inr, get_or-drop}
@@ -56,6 +61,32 @@ use Rattle.program_text.specs.Program.{pick_calls, picked_run, end_run, report_l
 use Rattle.program_text.specs.Longest.{pick_room, own_room, process_room, report_room, longest_output}
 use Rattle.program_text.specs.ProgramLaws.{program_refused, program_begun, program_own, program_report, fits, table_right, table_sound}
 use Rattle.program_text.specs.Own.{OwnLines, no_line, one_line}
+
+-- ---- the numbers of refusals
+
+pub named_small : (e : Refusal) → number e < 100
+named_small TableShort = omega arith
+named_small Sizes = omega arith
+named_small TableLength = omega arith
+named_small Ends = omega arith
+named_small ChainField = omega arith
+named_small Chain = omega arith
+named_small ArcTwice = omega arith
+named_small Process = omega arith
+named_small AreaShort = omega arith
+named_small ListOdd = omega arith
+named_small OutputShort = omega arith
+named_small BytesLeft = omega arith
+named_small InputLong = omega arith
+named_small NotWellFormed = omega arith
+named_small OutOfRange = omega arith
+named_small Over = omega arith
+named_small NoMessage = omega arith
+named_small NoLink = omega arith
+named_small NotOver = omega arith
+named_small Edition = omega arith
+named_small Place = omega arith
+named_small Seed = omega arith
 
 -- ---- the number of a refused input
 
@@ -118,7 +149,7 @@ module _ {t : Fields} {r : Run} (f : Storable t r) where
     where
       at : (x : Answer Message) → Fine a b x → length (pick_line a b (delivery_of x)) ≤ pick_room
       at (given m) h = omega (arith, delivery_most false a b m h.0 h.1 h.2)
-      at (refusal n) h = refused_pick_most a b n l u h
+      at (refusal n) h = refused_pick_most a b (number (numbered n)) l u (named_small (numbered n))
 
   pub own_short : length (own_line (next_chosen r)) ≤ own_room
   unfolding MachineCalls.deliver_on
@@ -126,7 +157,7 @@ module _ {t : Fields} {r : Run} (f : Storable t r) where
     where
       at : (a b : ℕ) (x : Answer Message) → Fine a b x → length (own_line (chosen_answer (pair a b) (delivery_of x))) ≤ own_room
       at a b (given m) h = omega (arith, delivery_most true a b m h.0 h.1 h.2)
-      at a b (refusal n) h = omega (arith, refused_most n h)
+      at a b (refusal n) h = omega (arith, refused_most (number (numbered n)) (named_small (numbered n)))
 
       on : (c : Selection) → lowest r ≡ c → length (own_line (chosen_answer c (deliver_on r c).answer)) ≤ own_room
       on nobody e = omega (arith, refused_most 24 (omega arith))
@@ -164,7 +195,7 @@ owns_short {t} {r = r} (one_line {t = rest} a b m o e more) f =
     omega (
       arith,
       length-append (delivery_line true a b m) rest,
-      ap (λ (d : ChosenDelivery). length (own_line d)) e,
+      ap (λ (d : Result ChosenDelivery Refusal). length (own_line d)) e,
       own_short f,
       owns_short more fits_next,
     )

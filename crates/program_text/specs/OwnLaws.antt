@@ -3,11 +3,13 @@
 --   own_turn         == one delivery more
 --   own_lines        == where running on ends over they are the lines of the deliveries that it makes, from the run before to the run that it leaves
 -- Assumes nothing.
-use Rattle.std.specs.Prelude.{ℕ, zero, suc, true, false, [], ◌++◌, ◌≡◌}
+use Rattle.std.specs.Prelude.{ℕ, zero, suc, true, false, [], ◌++◌, ◌≡◌, Result, Ok, Err}
 use Rattle.std.proofs.Math.Path.{refl}
 use Rattle.std.proofs.Common.{sym, ap, ◌∙◌, arith}
 use Rattle.base.specs.ChoiceLaws.{tested}
 use Rattle.base.specs.Checks.{Tested, passed, failed}
+use Rattle.refusals.specs.declared.Refusal.{Refusal}
+use Rattle.machine.specs.declared.Halted.{Halted}
 use Rattle.machine.specs.declared.Ran.{Ran}
 use Rattle.machine.specs.declared.Ran.TheVariants.{Spent}
 use Rattle.machine.specs.Calls as Machines
@@ -39,16 +41,16 @@ own_turn k r o = rw (own_text, o)
 abbrev running : ℕ → ℕ → Run → RanOn Process Message
 running k i r = run_from knot fixed_order k i 0 r
 
-says : {o p : RanOn Process Message} → o ≡ p → {x : Ran} → o.answer ≡ x → p.answer ≡ x
+says : {o p : RanOn Process Message} → o ≡ p → {x : Result Ran Halted} → o.answer ≡ x → p.answer ≡ x
 says e f = sym (ap (λ (z : RanOn Process Message). z.answer) e) ∙ f
 
-made_all : {m n : ℕ} → Ran.Over m ≡ Ran.Over n → m ≡ n
+made_all : {m n : ℕ} → ◌≡◌ {A = Result Ran Halted} (Ok (Ran.Over m)) (Ok (Ran.Over n)) → m ≡ n
 made_all e = cc
 
-not_spent : {m n : ℕ} → Spent m ≡ Ran.Over n → ⊥
+not_spent : {m n : ℕ} → ◌≡◌ {A = Result Ran Halted} (Ok (Spent m)) (Ok (Ran.Over n)) → ⊥
 not_spent e = let z : ◌≡◌ {A = ℕ} 0 1 = cc in absurd (omega arith)
 
-not_refused : {i m n : ℕ} → Ran.Refused i m ≡ Ran.Over n → ⊥
+not_refused : {h : Halted} {n : ℕ} → ◌≡◌ {A = Result Ran Halted} (Err h) (Ok (Ran.Over n)) → ⊥
 not_refused e = let z : ◌≡◌ {A = ℕ} 0 1 = cc in absurd (omega arith)
 
 not_given : {i : ℕ} {m : Message} → refusal i ≡ given m → ⊥
@@ -56,7 +58,7 @@ not_given e = let z : ◌≡◌ {A = ℕ} 0 1 = cc in absurd (omega arith)
 
 -- the lines, if running on answers so
 abbrev Told : ℕ → ℕ → ℕ → Run → Type 0
-Told k i n r = (running k i r).answer ≡ Ran.Over n → OwnLines i n r (running k i r).run (own_text k r)
+Told k i n r = (running k i r).answer ≡ Ok (Ran.Over n) → OwnLines i n r (running k i r).run (own_text k r)
 
 last_told : (k i n : ℕ) (r : Run) → over r ≡ true → Told k i n r
 last_told k i n r o h =
@@ -72,11 +74,11 @@ module _ (k i n : ℕ) (r : Run) (o : over r ≡ false) where
 
   -- it is made on the link from a to b
   module _ (a b : ℕ) (m : Message) (e : lowest r ≡ pair a b) (p : (Machines.deliver_on knot r (lowest r)).answer ≡ given m) where
-    chosen : next_chosen r ≡ ChosenDelivery.Delivered a b m
+    chosen : next_chosen r ≡ Ok (record { from = a; to = b; message = m })
     chosen = ap (λ (x : Answer Message). chosen_answer (lowest r) (delivery_of x)) p ∙ ap (λ (c : Selection). chosen_answer c (delivery_of (given m))) e
 
     text : own_text (suc k) r ≡ delivery_line true a b m ++ own_text k (next_of r).run
-    text = own_turn k r o ∙ ap (λ (d : ChosenDelivery). own_line d ++ unless_refused d (own_text k (next_of r).run)) chosen
+    text = own_turn k r o ∙ ap (λ (d : Result ChosenDelivery Refusal). own_line d ++ unless_refused d (own_text k (next_of r).run)) chosen
 
   more_told : ((q : Run) → Told k (suc i) n q) → Told (suc k) i n r
   unfolding Machines.deliver_on
@@ -90,7 +92,7 @@ module _ (k i n : ℕ) (r : Run) (o : over r ≡ false) where
           let whole = first (given m) p in
           rw (whole, text a b m e p) (one_line a b m o (chosen a b m e p) (rest (next_of r).run (says whole h)))
 
-pub own_lines : (k i n : ℕ) (r : Run) → (run_from knot fixed_order k i 0 r).answer ≡ Ran.Over n
+pub own_lines : (k i n : ℕ) (r : Run) → (run_from knot fixed_order k i 0 r).answer ≡ Ok (Ran.Over n)
     → OwnLines i n r (run_from knot fixed_order k i 0 r).run (own_text k r)
 own_lines zero i n r h = at (tested (over r))
   where

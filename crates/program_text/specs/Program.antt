@@ -19,13 +19,15 @@
 --   check_text bs        == the picks, then the rest
 --   program_text bs      == EVERYTHING THAT IS PRINTED: these, or "only `refused` and the number"
 -- Assumes nothing.
-use Rattle.std.specs.Prelude.{ℕ, zero, suc, true, false, List, [], ◌∷◌, ◌++◌, eqb, ℤ, pos, replicate}
+use Rattle.std.specs.Prelude.{ℕ, zero, suc, true, false, List, [], ◌∷◌, ◌++◌, eqb, ℤ, pos, replicate, Result, Ok, Err}
+use Rattle.refusals.specs.declared.Refusal.{Refusal}
+use Rattle.refusals.specs.Numbers.{number}
 use Rattle.base.specs.Choice.{choose}
 use Rattle.tables.specs.Table.{field_of, most_processes, most_arcs}
 use Rattle.tables.specs.Waits.{waits_of}
 use Rattle.machine.specs.Calls.{in_row, lowest}
 use Rattle.machine.specs.Lists.{Call, picking}
-use Rattle.checks.specs.declared.Delivery.{Delivery}
+use Rattle.steps.specs.declared.Message.{Message}
 use Rattle.checks.specs.declared.Report.{Report}
 use Rattle.checks.specs.Run.{Run, knot, over, start_run}
 use Rattle.checks.specs.Calls.{pick, run_on, report}
@@ -34,7 +36,7 @@ use Rattle.areas.specs.Places.{area_length}
 use Rattle.choosing.specs.declared.ChosenDelivery.{ChosenDelivery}
 use Rattle.choosing.specs.Answers.{chosen_answer, next_of}
 use Rattle.inputs.specs.Input.{start_in, edition_in, table_in, picks_in, pick_from, pick_to, begun_number}
-use Rattle.lines.specs.Text.{delivery_line, refused_pick_line, refused_line, process_line, report_text}
+use Rattle.lines.specs.Text.{delivery_line, refused_pick_line, refused_line, process_line, text_of}
 
 -- ---- the input
 
@@ -72,9 +74,9 @@ end_run r = (run_on knot.most r).run
 -- ---- the lines
 
 -- `pick 1 2 suc`; "A refused pick prints its number and the program goes on (`pick 1 2 refused 24`)"
-abbrev pub pick_line : ℕ → ℕ → Delivery → List ℕ
-pick_line a b (Delivery.Delivered m) = delivery_line false a b m
-pick_line a b (Delivery.Refused n) = refused_pick_line a b n
+abbrev pub pick_line : ℕ → ℕ → Result Message Refusal → List ℕ
+pick_line a b (Ok m) = delivery_line false a b m
+pick_line a b (Err e) = refused_pick_line a b (number e)
 
 -- k picks from pick j on, each in the run that the one before it left
 unfoldable pub picks_text : List ℕ → ℕ → ℕ → Run → List ℕ
@@ -84,17 +86,17 @@ picks_text bs j (suc k) r =
     ++ picks_text bs (suc j) k (pick r (pick_from bs j) (pick_to bs j) 1).run
 
 -- `own 2 1 ack 1 1`; a refusal, which never comes (program_own in ProgramLaws), prints its number
-abbrev pub own_line : ChosenDelivery → List ℕ
-own_line (ChosenDelivery.Delivered a b m) = delivery_line true a b m
-own_line (ChosenDelivery.Refused n) = refused_line n
+abbrev pub own_line : Result ChosenDelivery Refusal → List ℕ
+own_line (Ok d) = delivery_line true d.from d.to d.message
+own_line (Err e) = refused_line (number e)
 
 -- .. and ends it
-abbrev pub unless_refused : ChosenDelivery → List ℕ → List ℕ
-unless_refused (ChosenDelivery.Delivered a b m) rest = rest
-unless_refused (ChosenDelivery.Refused n) rest = []
+abbrev pub unless_refused : Result ChosenDelivery Refusal → List ℕ → List ℕ
+unless_refused (Ok d) rest = rest
+unless_refused (Err e) rest = []
 
 -- the delivery in the fixed order, "lowest receiver first and then lowest sender" (02, N11), with its link
-abbrev pub next_chosen : Run → ChosenDelivery
+abbrev pub next_chosen : Run → Result ChosenDelivery Refusal
 next_chosen r = chosen_answer (lowest r) (next_of r).answer
 
 -- up to k such deliveries, until the run is over
@@ -107,9 +109,9 @@ unfoldable pub processes_text : Run → List ℕ
 processes_text r = in_row r.waits.n (λ p. process_line p (r.process p))
 
 -- "deliveries; the report"
-abbrev pub report_lines : Report → List ℕ
-report_lines (Report.Over d v o e m) = report_text d v o e m
-report_lines (Report.Refused n) = refused_line n
+abbrev pub report_lines : Result Report Refusal → List ℕ
+report_lines (Ok x) = text_of x
+report_lines (Err e) = refused_line (number e)
 
 -- the processes, then the report
 unfoldable pub end_text : Run → List ℕ

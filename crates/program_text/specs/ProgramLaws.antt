@@ -9,7 +9,7 @@
 --   program_ended     == .. and it is what 01 says of the end of a check, of the input's table, start process and edition
 --   program_report    == .. so that the last lines are those of the wait graph, whatever the picks
 -- Assumes nothing.
-use Rattle.std.specs.Prelude.{ℕ, ◌+◌, ◌-◌, ◌≤◌, true, List, ◌∷◌, [], ◌++◌, ◌≡◌, refl, ℤ, pos}
+use Rattle.std.specs.Prelude.{ℕ, ◌+◌, ◌-◌, ◌≤◌, true, List, ◌∷◌, [], ◌++◌, ◌≡◌, refl, Ok, ℤ, pos}
 use Rattle.std.proofs.Common.{ap, arith}
 use borrow.Author.Tests.{eq-eqb, ne_eqb}
 use Rattle.base.specs.Choice.{choose}
@@ -99,7 +99,7 @@ module _ (bs : List ℕ) (e : number_in bs ≡ 0) where
   most_enough : d_of waits (start_in bs) ≤ (passed (pick_calls bs) (first_run bs)).made + knot.most
   most_enough = omega (arith, d_of_most waits (start_in bs) table_sound)
 
-  pub program_ran : (run_on knot.most (picked_run bs)).answer ≡ Ran.Over (d_of waits (start_in bs) - (passed (pick_calls bs) (first_run bs)).made)
+  pub program_ran : (run_on knot.most (picked_run bs)).answer ≡ Ok (Ran.Over (d_of waits (start_in bs) - (passed (pick_calls bs) (first_run bs)).made))
   program_ran = ending_runs_out waits table_sound (start_in bs) start_process (edition_in bs) started.edition (pick_calls bs) knot.most most_enough
 
   pub program_own : OwnLines 0 (d_of waits (start_in bs) - (passed (pick_calls bs) (first_run bs)).made) (picked_run bs) (end_run (picked_run bs))

@@ -3,32 +3,28 @@
 #![tactic(auto)]
 
 ghost use Rattle.std.specs.Prelude.{◌≡◌};
-ghost use Rattle.lenses.specs.Ready.{Ready};
 ghost use Rattle.area_calls.specs.AreaCalls.{read_answer};
 
 use area_tests::testing;
-use area_tests::testing::Sizes;
-use checks::Reading;
-use lenses::records;
+use lenses::tested::Tested;
+use refusals::Refusal;
+use steps::Process;
 use tables::is_process;
 
 // The record of process p in a tested area: 25.
-pub fn read_in(area: &[i32], n: usize, m: usize, p: usize) -> Reading
-    requires { Ready area.now n m }
-    ensures { result ≡ read_answer area.now p }
+pub fn read_in(area: Tested, p: usize) -> Result<Process, Refusal>
+    ensures { result ≡ read_answer area.entry.words.now p }
 {
-    if !is_process(p, n) {
-        return Reading::Refused(25);
+    if !is_process(p, area.sizes.n) {
+        return Err(Refusal::NoLink);
     }
-    Reading::Found(records::process(area, n, m, p))
+    Ok(area.process(p))
 }
 
 // The record of process p: 21, 25.
-pub fn read_record(area: &[i32], p: usize) -> Reading
+pub fn read_record(area: &[i32], p: usize) -> Result<Process, Refusal>
     ensures { result ≡ read_answer area.now p }
 {
-    let Sizes::Right { n, m } = testing::test(area) else {
-        return Reading::Refused(21);
-    };
-    read_in(area, n, m, p)
+    let sizes = testing::test(area)?;
+    read_in(Tested { words: area, sizes }, p)
 }

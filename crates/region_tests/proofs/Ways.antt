@@ -2,6 +2,7 @@
 -- out passes all parts but one.
 --   tells_no                      == a test fails where what it says does not hold
 --   tells_last                    == where a test says what its last part says, it is that part
+--   sizes_are, right_is, sizes_fit   == the sizes that are lent are N and M of the area, its table meets the layout, and they are in range
 --   failing                       == a call that gave false, where its test was to pass
 --   HeadParts, head_test_parts     == the head
 --   flags_parts                   == the flags' word is the flags packed again exactly if it is a number of at most 7
@@ -22,8 +23,10 @@ use lib.ListN.{get_or}
 use Rattle.base.specs.Choice.{choose}
 use Rattle.base.specs.ChoiceLaws.{tested}
 use Rattle.base.specs.Checks.{Tested, passed, failed}
-use Rattle.tables.specs.Table.{n_of, most_processes, is_process, IsProcess, arc_at}
+use Rattle.tables.specs.declared.Sizes.{Sizes}
+use Rattle.tables.specs.Table.{Fields, n_of, m_of, most_processes, most_arcs, is_process, IsProcess, arc_at}
 use Rattle.tables.specs.Layout.{Right}
+use Rattle.tables.specs.LayoutLaws.{fields_number_P}
 use Rattle.tables.specs.Waits.{waits_of, neighbours}
 use Rattle.tables.specs.WaitsLaws.{waits_of_sound, neighbours_ends}
 use Rattle.sets.specs.Sets.{is_in}
@@ -41,6 +44,8 @@ use Rattle.areas.specs.ArcLaws.{arc_of_waits}
 use Rattle.region_tests.specs.RegionTests.{edition_test, head_test, numbers_test, record_test, arc_test}
 use Rattle.word_tests.specs.WordTests.{counts, are_free, link_test}
 use Rattle.region_tests.specs.Waiting.{Waiting}
+use Rattle.region_tests.specs.Loaded.{Loaded}
+use Rattle.region_tests.specs.RegionLaws.{sizes_test_P}
 use Rattle.region_tests.specs.WaitingLaws.{waiting_joined}
 use Rattle.word_tests.specs.LinkTestLaws.{tells_are_free, link_test_empty}
 
@@ -57,6 +62,15 @@ tells_last {b} {r} h f g = tells_same r b (f, g) h
 -- a call gave false, and its test passes: both cannot be
 pub failing : {b t : Bool} → b ≡ t → b ≡ false → t ≡ true → ⊥
 failing {b} {t} e h p = false≢true (sym h ∙ (e ∙ p))
+
+pub sizes_are : {w : List ℤ} {bs l : List ℕ} {s : Sizes} → Loaded w bs l s → (s.n ≡ n_of (fields_in w)) × (s.m ≡ m_of (fields_in w))
+sizes_are h = (h.holds.processes ∙ ap (λ (t : Fields). n_of t) h.table, h.holds.arcs ∙ ap (λ (t : Fields). m_of t) h.table)
+
+pub right_is : {w : List ℤ} {bs l : List ℕ} {s : Sizes} → Loaded w bs l s → Right (fields_in w)
+right_is {w} h = (fields_number_P (fields_in w) ((sizes_test_P w).0 h.sized).sizes).0 h.meets
+
+pub sizes_fit : {w : List ℤ} {bs l : List ℕ} {s : Sizes} → Loaded w bs l s → (s.n ≤ most_processes) × (s.m ≤ most_arcs)
+sizes_fit h = let f = (right_is h).sizes in omega (arith, f.1, f.2, (sizes_are h).0, (sizes_are h).1)
 
 -- ---- the head
 

@@ -1,24 +1,18 @@
 -- How the code follows a delivery in the array, part by part.
---   turns_marked, turns_then     == an array that holds marks still holds some; one change after another
+--   turns_then                   == one change after another
 --   process_most                 == a process of an area is one of the largest
---   taken_stays, taken_falls     == a link that still holds a message, and one that has fallen empty
+--   taken_falls                  == a link that has fallen empty
 --   sent_nobody, sent_one        == nobody is sent a message, and one process is
 --   Sent c t b k before l        == the marks once b's probes have gone along its chain up to the arc k
 --   sent_first, sent_next, sent_last   == where the chain begins, one arc more, and its end
 -- Assumes nothing.
-use Prim.Native.Nat.{ℕ}
-use mathlib.Core.Bool.{Bool, true, false, ◌&&◌, ◌||◌}
-use mathlib.Core.List.{List}
-use mathlib.Core.Path.{◌≡◌, refl, sym, ap, ◌∙◌}
-use mathlib.Core.Logic.{⊎_elim}
-use native.Mathlib.Omega.{arith}
-use borrow.Author.Tests.{eq-eqb, eqb-true}
-use lib.Dec.{eqb}
-use lib.IntN.{ℤ}
+use Rattle.std.proofs.Common.{ℕ, Bool, true, false, ◌&&◌, ◌||◌, List, ◌≡◌, refl, sym, ap, ◌∙◌, arith, eq-eqb, eqb-true, eqb, ℤ}
+use Rattle.std.proofs.Math.Logic.{⊎_elim}
 use Rattle.base.specs.ChoiceLaws.{and_both, and_left, and_right, or_cases, or_left, or_right, tested}
 use Rattle.base.specs.Checks.{Tested, passed, failed}
 use Rattle.base.specs.Counts.{sum_over}
 use Rattle.tables.specs.declared.Chain.{Chain}
+use Rattle.tables.specs.declared.Sizes.{Sizes}
 use Rattle.tables.specs.Table.{Fields, n_of, most_processes, IsProcess, first, arc_at, next}
 use Rattle.tables.specs.Layout.{Right}
 use Rattle.tables.specs.Waits.{Waits, waits_of}
@@ -31,7 +25,7 @@ use Rattle.lenses.specs.ReadyLaws.{ready_sizes}
 use Rattle.lenses.specs.ChangeLaws.{joins_low, joins_high}
 use Rattle.lenses.proofs.ChainWalks.{Walked, ends, to_go, left_on, left_end, walked_first, walked_next}
 use Rattle.marks.specs.Marks.{Marks}
-use Rattle.marks.specs.Changes.{turned, Marked, Turns}
+use Rattle.marks.specs.Changes.{turned, Turns}
 use Rattle.marks.specs.GroupLaws.{marks_cong}
 use Rattle.remembering.specs.Noting.{taken_marks, sent_marks}
 use Rattle.remembering.specs.NotedLaws.{sent_turned}
@@ -39,21 +33,15 @@ use Rattle.remembering.specs.FillLaws.{both_ways}
 
 -- ---- changes
 
-pub turns_marked : {l k : List ℕ} (f : (ℕ → ℕ → Bool) → ℕ → ℕ → Bool) → Marked l → Turns l f k → Marked k
-turns_marked f h t = (f h.0, t h.0 h.1)
-
 pub turns_then : {l k m : List ℕ} (f g : (ℕ → ℕ → Bool) → ℕ → ℕ → Bool) → Turns l f k → Turns k g m → Turns l (λ held. g (f held)) m
 turns_then f g t u held h = u (f held) (t held h)
 
-pub process_most : {w : List ℤ} {n m : ℕ} → Ready w n m → {p : ℕ} → IsProcess n p → IsProcess most_processes p
+pub process_most : {w : List ℤ} {s : Sizes} → Ready w s → {p : ℕ} → IsProcess s.n p → IsProcess most_processes p
 process_most y i = (i.0, omega (arith, i.1, ready_sizes y))
 
 -- ---- the message that is taken
 
 module _ {l : List ℕ} (a b : ℕ) (ms : List Message) {i : Bool} (e : i ≡ waiting ms) where
-  pub taken_stays : i ≡ true → Turns l (taken_marks (waiting ms) a b) l
-  taken_stays z held h = rw (sym e ∙ z) h
-
   pub taken_falls : i ≡ false → {k : List ℕ} → Turns l (λ held. turned held a b false) k → Turns l (taken_marks (waiting ms) a b) k
   taken_falls z t held h = rw (sym e ∙ z) (t held h)
 

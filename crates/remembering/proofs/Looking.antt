@@ -1,16 +1,11 @@
 -- How the code looks at the links, arc by arc.
---   looked_empty, looked_some   == a link with no message, and one with some
+--   looked_some                 == a link with a message
 --   arc_ends                    == the two ends of an arc are processes
 --   looked_along                == both links of an arc
 -- Assumes nothing.
-use Prim.Native.Nat.{ℕ, ◌≤◌}
-use mathlib.Core.Bool.{Bool, true, false, not}
-use mathlib.Core.List.{List}
-use mathlib.Core.Path.{◌≡◌, sym}
-use native.Mathlib.Omega.{arith}
-use lib.IntN.{ℤ}
-use Rattle.base.specs.ChoiceLaws.{value_not, value_yes}
+use Rattle.std.proofs.Common.{ℕ, ◌≤◌, Bool, true, List, ◌≡◌, sym, ◌∙◌, arith, ℤ}
 use Rattle.tables.specs.declared.Arc.{Arc}
+use Rattle.tables.specs.declared.Sizes.{Sizes}
 use Rattle.tables.specs.Table.{arc_at, IsProcess}
 use Rattle.tables.specs.Layout.{Ends}
 use Rattle.machine.specs.Calls.{waiting}
@@ -23,14 +18,11 @@ use Rattle.remembering.specs.Noting.{looked_marks, along_marks}
 use Rattle.remembering.proofs.Following.{turns_then}
 
 module _ (r : Run) (a b : ℕ) {l : List ℕ} {i : Bool} (e : i ≡ waiting (r.link a b)) where
-  pub looked_empty : not i ≡ true → Turns l (looked_marks r a b) l
-  looked_empty z held h = rw (value_not e z) h
+  pub looked_some : i ≡ true → {k : List ℕ} → Turns l (λ held. turned held a b true) k → Turns l (looked_marks r a b) k
+  looked_some z t held h = rw (sym e ∙ z) (t held h)
 
-  pub looked_some : not i ≡ false → {k : List ℕ} → Turns l (λ held. turned held a b true) k → Turns l (looked_marks r a b) k
-  looked_some z t held h = rw (value_yes e z) (t held h)
-
-pub arc_ends : {w : List ℤ} {n m : ℕ} (y : Ready w n m) {k : ℕ} (h : (1 ≤ k) × (k ≤ m)) {x : Arc} → x ≡ arc_at (fields_in w) k
-    → IsProcess n x.from × IsProcess n x.to
+pub arc_ends : {w : List ℤ} {s : Sizes} (y : Ready w s) {k : ℕ} (h : (1 ≤ k) × (k ≤ s.m)) {x : Arc} → x ≡ arc_at (fields_in w) k
+    → IsProcess s.n x.from × IsProcess s.n x.to
 arc_ends {w} y {k} h e =
     let g : Ends (fields_in w) k = (area_right_table w y.right).right.ends k (h.0, omega (arith, y.m_is)) in
     rw e ((g.0.0, omega (arith, g.0, y.n_is)), (g.1.0, omega (arith, g.1, y.n_is)))

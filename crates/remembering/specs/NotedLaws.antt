@@ -2,7 +2,7 @@
 --   sent_turned        == one process more to whom b has sent a message
 --   remembers_noted    == the marks that the code makes are what is to be remembered after the delivery
 -- Assumes nothing.
-use Rattle.std.specs.Prelude.{ℕ, Bool, true, false, ◌&&◌, ◌||◌, ◌≡◌, refl, eqb}
+use Rattle.std.specs.Prelude.{ℕ, Bool, true, false, ◌&&◌, ◌||◌, ◌≡◌, refl, eqb, Option, Some, None}
 use mathlib.Core.List.{List, [], ◌∷◌, ◌++◌}
 use Rattle.std.proofs.Common.{sym, ◌∙◌, arith, eq-eqb, ne_eqb}
 use Rattle.std.proofs.Math.Path.{ap}
@@ -17,7 +17,6 @@ use Rattle.steps.specs.declared.Process.{Process}
 use Rattle.steps.specs.declared.Probes.{Probes}
 use Rattle.steps.specs.declared.Probes.TheVariants.{Sucs, Pres}
 use Rattle.steps.specs.declared.Reply.{Reply}
-use Rattle.steps.specs.declared.Reply.TheVariants.{To}
 use Rattle.machine.specs.Calls.{waiting}
 use Rattle.machine.proofs.ChooserLaws.{waiting_some}
 use Rattle.machine.specs.Among.{Here}
@@ -69,10 +68,10 @@ eqb_turned x y = at (same? x y)
     at (same e f) = f ∙ sym (eq-eqb y x (sym e))
     at (apart e f) = f ∙ sym (ne_eqb y x (λ q. e (sym q)))
 
-waiting_reply : (z : Reply) (q : ℕ) → waiting (reply_receiver z q) ≡ reply_goes z q
+waiting_reply : (z : Option Reply) (q : ℕ) → waiting (reply_receiver z q) ≡ reply_goes z q
 unfolding reply_receiver
-waiting_reply Reply.Nothing q = refl
-waiting_reply (To p c) q = waiting_one (eqb q p) _ ∙ eqb_turned q p
+waiting_reply None q = refl
+waiting_reply (Some y) q = waiting_one (eqb q y.to) _ ∙ eqb_turned q y.to
 
 waiting_probes : (w : Waits) (b : ℕ) (y : Probes) (q : ℕ) → waiting (probes_to w b y q) ≡ probes_go w y b q
 unfolding probes_to
@@ -106,7 +105,7 @@ sent_twice false true l = refl
 sent_twice false false true = refl
 sent_twice false false false = refl
 
-module _ (r : Run) (s : Sound r.waits) (a b : ℕ) (x : Process) (y : Probes) (z : Reply) (k : Carried r a b 1 x y z) where
+module _ (r : Run) (s : Sound r.waits) (a b : ℕ) (x : Process) (y : Probes) (z : Option Reply) (k : Carried r a b 1 x y z) where
   here : Here 1 (r.link a b)
   here = at_place_here 1 (r.link a b) k.placed.0 k.placed.1
 

@@ -4,7 +4,7 @@
 --   noted_marks r a b y z held   == the marks after the whole delivery, which leaves the run r
 --   looked_marks r a b held, along_marks r x held   == the marks with the link from a to b looked at; and with both links of the arc x
 -- Assumes nothing.
-use Rattle.std.specs.Prelude.{ℕ, Bool, true, false, ◌&&◌, ◌||◌, eqb}
+use Rattle.std.specs.Prelude.{ℕ, Bool, true, false, ◌&&◌, ◌||◌, eqb, Option}
 use Rattle.base.specs.Choice.{choose}
 use Rattle.tables.specs.declared.Arc.{Arc}
 use Rattle.steps.specs.declared.Probes.{Probes}
@@ -21,7 +21,7 @@ taken_marks t a b held = choose t held (turned held a b false)
 abbrev pub sent_marks : (ℕ → ℕ → Bool) → ℕ → (ℕ → Bool) → ℕ → ℕ → Bool
 sent_marks held b S x y = held x y || (eqb x b && S y)
 
-abbrev pub noted_marks : Run → ℕ → ℕ → Probes → Reply → (ℕ → ℕ → Bool) → ℕ → ℕ → Bool
+abbrev pub noted_marks : Run → ℕ → ℕ → Probes → Option Reply → (ℕ → ℕ → Bool) → ℕ → ℕ → Bool
 noted_marks r a b y z held =
     sent_marks (sent_marks (taken_marks (waiting (r.link a b)) a b held) b (reply_goes z)) b (probes_go r.waits y b)
 

@@ -6,6 +6,7 @@
 -- Assumes nothing.
 use Rattle.std.specs.Prelude.{ℕ, ◌+◌, ◌-◌, ◌*◌, ◌≤◌, true, List, ◌≡◌, ℤ, take, drop}
 use Rattle.std.proofs.Common.{sym, ap, ◌∙◌, subst, arith}
+use Rattle.tables.specs.declared.Sizes.{Sizes}
 use Rattle.tables.specs.Table.{Fields}
 use Rattle.tables.specs.Pairs.{square_side}
 use Rattle.tables.specs.Waits.{Waits, waits_of, neighbours}
@@ -20,14 +21,14 @@ use Rattle.lenses.specs.ReadyLaws.{keeping_fields, ready_kept, ready_sizes}
 use Rattle.delivery.specs.StorableLaws.{waiting_joined}
 use Rattle.remembering.specs.Running.{Running}
 
-module _ {w : List ℤ} {sq : List ℕ} {n m : ℕ} (y : Running w sq n m) where
-  pub running_row : {b : ℕ} → b ≤ n → {from to : ℕ} → from ≡ b * square_side → to ≡ from + square_side
+module _ {w : List ℤ} {sq : List ℕ} {s : Sizes} (y : Running w sq s) where
+  pub running_row : {b : ℕ} → b ≤ s.n → {from to : ℕ} → from ≡ b * square_side → to ≡ from + square_side
       → Row (fields_in w) b (take (to - from) (drop from sq))
   running_row {b} u {from} {to} e f =
       let long : to - from ≡ square_side = omega arith in
       rw (long, e) (square_row (fields_in w) y.square b (omega (arith, ready_sizes y.ready)))
 
-  pub running_linked : {a b : ℕ} → a ≤ n → b ≤ n → waiting ((run_in w).link a b) ≡ true
+  pub running_linked : {a b : ℕ} → a ≤ s.n → b ≤ s.n → waiting ((run_in w).link a b) ≡ true
       → {k : ℕ} → k ≡ cell sq a b → {i : ℕ} → i ≡ place_in k → Linked (fields_in w) a b i
   running_linked {a} {b} u v e {k} f {i} g =
       let j : neighbours (waits_of (fields_in w)) a b ≡ true =
@@ -41,10 +42,10 @@ module _ {w : List ℤ} {sq : List ℕ} {n m : ℕ} (y : Running w sq n m) where
     same_table : fields_in w ≡ fields_in (keeping w r)
     same_table = sym (keeping_fields w y.ready.right r f)
 
-    pub running_kept : Running (keeping w r) sq n m
+    pub running_kept : Running (keeping w r) sq s
     running_kept =
         record {
-          ready = ready_kept w y.ready.right r f n m y.ready;
+          ready = ready_kept w y.ready.right r f y.ready;
           square = subst (λ (t : Fields). Square t sq) same_table y.square;
         }
 

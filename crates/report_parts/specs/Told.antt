@@ -20,4 +20,4 @@ knot_by x a = is_zero x.cs && a
 
 -- "outside = cs of s"; 02, N3: the mark by the start's second sum
 abbrev pub told_of : Process → Bool → ℕ → ℕ → Report
-told_of x k d e = Report.Over d (choose k Knot Free) x.cs e (mark_of x)
+told_of x k d e = record { deliveries = d; verdict = choose k Knot Free; outside = x.cs; escape = e; mark = mark_of x }

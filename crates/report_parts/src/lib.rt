@@ -12,57 +12,41 @@ use steps::Process;
 pub fn way_out(found: u32, x: Process, p: u32) -> u32
     ensures { result ≡ way_out found x p }
 {
-    if found != 0 {
-        return found;
+    if found == 0 && x.subordinate == 1 {
+        p
+    } else {
+        found
     }
-    if x.subordinate == 1 {
-        return p;
-    }
-    found
 }
 
 // The verdict is knot: the start's sum is 0, and the edition allows it.
 pub fn is_knot(start: Process, allowed: bool) -> bool
     ensures { result ≡ knot_by start allowed }
 {
-    let cs = start.cs;
-    if cs != 0 {
-        return false;
-    }
-    allowed
+    start.cs == 0 && allowed
 }
 
 // 02, N3: "The report marks returned if the start's second sum is 0, else held."
 fn mark_of(start: Process) -> Mark
     ensures { result ≡ mark_of start }
 {
-    let second = start.second;
-    if second == 0 {
-        return Mark::Returned;
+    if start.second == 0 {
+        Mark::Returned
+    } else {
+        Mark::Held
     }
-    Mark::Held
 }
 
 // The report by the start's record and the verdict.
 pub fn told(start: Process, knot: bool, deliveries: u32, escape: u32) -> Report
     ensures { result ≡ told_of start knot deliveries escape }
 {
-    let outside = start.cs;
-    let mark = mark_of(start);
-    if knot {
-        return Report::Over {
-            deliveries,
-            verdict: Verdict::Knot,
-            outside,
-            escape,
-            mark,
-        };
-    }
-    Report::Over {
+    let verdict = if knot { Verdict::Knot } else { Verdict::Free };
+    Report {
         deliveries,
-        verdict: Verdict::Free,
-        outside,
+        verdict,
+        outside: start.cs,
         escape,
-        mark,
+        mark: mark_of(start),
     }
 }

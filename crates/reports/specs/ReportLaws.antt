@@ -3,7 +3,7 @@
 --   allowed_first, allowed_second   == what the edition asks, under the first and the second
 --   report_told                  == the report at the end, made of the start's record, the verdict, the count and the escape
 -- Assumes nothing.
-use Rattle.std.specs.Prelude.{ℕ, ◌+◌, ◌-◌, ◌≤◌, Bool, true, false, not, List, ◌≡◌, refl, eqb, ℤ}
+use Rattle.std.specs.Prelude.{ℕ, ◌+◌, ◌-◌, ◌≤◌, Bool, true, false, not, List, ◌≡◌, refl, eqb, ℤ, Ok}
 use Rattle.std.proofs.Common.{sym, ap, ◌∙◌, arith, eq-eqb, ne_eqb}
 use Rattle.base.specs.ChoiceLaws.{none_test}
 use Rattle.base.specs.PrefixLaws.{lowest_to_none, lowest_to_more}
@@ -60,6 +60,6 @@ allowed_second r ok i d two is =
 
 pub report_told : (w : List ℤ) → area_right w ≡ true → over (run_in w) ≡ true → (x : Process) (a k : Bool) (d e : ℕ)
     → x ≡ (run_in w).process (run_in w).start → a ≡ allowed_in (run_in w) → k ≡ knot_by x a → d ≡ (run_in w).count → e ≡ escape_of (run_in w)
-    → told_of x k d e ≡ report_answer w
+    → Ok (told_of x k d e) ≡ report_answer w
 unfolding reported verdict_of
 report_told w right o x a k d e p v f q s = rw (f, p, v, q, s) (report_over w right o)

@@ -2,68 +2,52 @@
 // test is a function of its own (`report_in`), for whoever has tested the area already.
 #![tactic(auto)]
 
-ghost use Rattle.std.specs.Prelude.{◌≡◌, ◌+◌};
+ghost use Rattle.std.specs.Prelude.{◌≡◌};
 ghost use Rattle.areas.specs.Area.{run_in};
 ghost use Rattle.checks.specs.Calls.{escape_of};
-ghost use Rattle.lenses.specs.Ready.{Ready};
 ghost use Rattle.area_calls.specs.AreaCalls.{report_answer};
 ghost use Rattle.reports.specs.Judging.{allowed_in};
 
 use area_tests::testing;
-use area_tests::testing::Sizes;
 use checks::Report;
-use lenses::{chains, heading, records};
+use lenses::tested::Tested;
+use refusals::Refusal;
 use tables::Chain;
 
 // 02, N1: the lowest-numbered process with subordinate 1, and 0 only where there is none.
-fn escape_of(area: &[i32], n: usize, m: usize) -> u32
-    requires { Ready area.now n m }
-    ensures { result ≡ escape_of (run_in area.now) }
+fn escape_of(area: Tested) -> u32
+    ensures { result ≡ escape_of (run_in area.entry.words.now) }
 {
     let mut found: u32 = 0;
-    let end = n + 1;
-    for p in 1..end {
-        let x = records::process(area, n, m, p);
-        found = report_parts::way_out(found, x, p as u32);
+    for p in 1..=area.sizes.n {
+        found = report_parts::way_out(found, area.process(p), p as u32);
     }
     found
 }
 
 // 02, N4: what the edition asks of a knot in addition: nothing under the first, under the second that the start waits for somebody.
-fn edition_allows(area: &[i32], n: usize, m: usize, s: usize) -> bool
-    requires ready { Ready area.now n m }
-    requires s_value { s ≡ (run_in area.now).start }
-    ensures { result ≡ allowed_in (run_in area.now) }
+fn edition_allows(area: Tested) -> bool
+    ensures { result ≡ allowed_in (run_in area.entry.words.now) }
 {
-    if heading::edition_of(area, n, m) != 2 {
-        return true;
-    }
-    chains::degree_in(area, n, m, Chain::Out, s) != 0
+    area.edition() != 2 || area.degree(Chain::Out, area.start()) != 0
 }
 
 // The report in a tested area: 26.
-pub fn report_in(area: &[i32], n: usize, m: usize) -> Report
-    requires { Ready area.now n m }
-    ensures { result ≡ report_answer area.now }
+pub fn report_in(area: Tested) -> Result<Report, Refusal>
+    ensures { result ≡ report_answer area.entry.words.now }
 {
-    if !heading::is_over(area, n, m) {
-        return Report::Refused(26);
+    if !area.is_over() {
+        return Err(Refusal::NotOver);
     }
-    let escape = escape_of(area, n, m);
-    let s = heading::start_of(area, n, m);
-    let x = records::process(area, n, m, s);
-    let allowed = edition_allows(area, n, m, s);
-    let knot = report_parts::is_knot(x, allowed);
-    let deliveries = heading::count_of(area, n, m);
-    report_parts::told(x, knot, deliveries, escape)
+    let start = area.process(area.start());
+    let knot = report_parts::is_knot(start, edition_allows(area));
+    Ok(report_parts::told(start, knot, area.count(), escape_of(area)))
 }
 
 // The report of a run that is over: 21, 26.
-pub fn report(area: &[i32]) -> Report
+pub fn report(area: &[i32]) -> Result<Report, Refusal>
     ensures { result ≡ report_answer area.now }
 {
-    let Sizes::Right { n, m } = testing::test(area) else {
-        return Report::Refused(21);
-    };
-    report_in(area, n, m)
+    let sizes = testing::test(area)?;
+    report_in(Tested { words: area, sizes })
 }

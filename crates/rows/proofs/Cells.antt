@@ -20,6 +20,7 @@ use Rattle.areas.specs.Places.{link_start, area_length}
 use Rattle.areas.specs.Area.{link_place, arc_in, fields_in}
 use Rattle.areas.specs.Squares.{cell_by, with_forth, with_back, cell_room}
 use Rattle.areas.specs.SquareLaws.{with_forth_is, with_back_is}
+use Rattle.tables.specs.declared.Sizes.{Sizes}
 use Rattle.lenses.specs.Ready.{Ready}
 use Rattle.lenses.specs.ReadyLaws.{ready_sizes}
 
@@ -51,10 +52,10 @@ module _ (t : Fields) where
   back_put i zero e = rw e
   back_put i (suc k) e = rw (e, eqb-suc-zero) (with_back_is t i k)
 
-module _ {w : List ℤ} {n m : ℕ} (y : Ready w n m) (k : ℕ) {i : ℕ} (e : i ≡ link_start n m k) where
+module _ {w : List ℤ} {z : Sizes} (y : Ready w z) (k : ℕ) {i : ℕ} (e : i ≡ link_start z.n z.m k) where
   pub place_is : i ≡ link_place (fields_in w) k
   unfolding link_place
   place_is = omega (arith, y.n_is, y.m_is)
 
-  pub place_low : 1 ≤ k → k ≤ m → i ≤ area_length most_processes most_arcs
+  pub place_low : 1 ≤ k → k ≤ z.m → i ≤ area_length most_processes most_arcs
   place_low l u = omega (arith, ready_sizes y)

@@ -8,22 +8,18 @@
 --   turn_full              == the area when k are made, over or not
 --   turn_unmade, turn_made == the way out and the next turn by the number that the delivery made, 0 or 1
 -- Assumes nothing.
-use Prim.Native.Nat.{ℕ, ◌+◌, ◌-◌, ◌≤◌, ◌<◌}
-use mathlib.Core.Bool.{Bool, true, false}
-use mathlib.Core.List.{List}
-use mathlib.Core.Path.{◌≡◌, refl, sym, ap, ◌∙◌, subst}
-use native.Mathlib.Omega.{arith}
-use lib.IntN.{ℤ}
+use Rattle.std.proofs.Common.{ℕ, ◌+◌, ◌-◌, ◌≤◌, ◌<◌, Bool, true, false, List, ◌≡◌, refl, sym, ap, ◌∙◌, subst, arith, ℤ, Result, Ok, Err}
 use Rattle.base.specs.ChoiceLaws.{tested}
 use Rattle.base.specs.Checks.{Tested, passed, failed}
+use Rattle.refusals.specs.declared.Refusal.{Refusal}
+use Rattle.tables.specs.declared.Sizes.{Sizes}
 use Rattle.steps.specs.declared.Message.{Message}
 use Rattle.machine.specs.declared.Ran.{Ran}
-use Rattle.machine.specs.declared.Ran.TheVariants.{Spent}
+use Rattle.machine.specs.declared.Ran.TheVariants.{Over, Spent}
+use Rattle.machine.specs.declared.Halted.{Halted}
 use Rattle.machine.specs.Calls.{Selection, Chooser, RanOn, deliver_on, run_from}
 use Rattle.machine.specs.RunningLaws.{run_from_over, run_from_spent, run_from_refused, run_from_next}
 use Rattle.steps.specs.declared.Process.{Process}
-use Rattle.checks.specs.declared.Delivery.{Delivery}
-use Rattle.checks.specs.declared.Delivery.TheVariants.{Delivered}
 use Rattle.checks.specs.Run.{Run, knot, over}
 use Rattle.checks.specs.AnswerLaws.{delivery_of_refused, delivery_of_delivered}
 use Rattle.checks.specs.Calls.{delivery_made}
@@ -47,24 +43,24 @@ module _ (next : Chooser Process Message) (seed : ℕ) where
     pub rest : ran k w ≡ run_from knot next (k - made) made s (run_in area)
 
   -- what the loop ends with
-  abbrev Ended : List ℤ → ℕ → Ran → List ℤ → Type 0
+  abbrev Ended : List ℤ → ℕ → Result Ran Halted → List ℤ → Type 0
   Ended w k x area = (x ≡ (ran k w).answer) × (area ≡ keeping w (ran k w).run)
 
-  ended : (k : ℕ) {w : List ℤ} {x : Ran} {area : List ℤ} {r : Run} → ran k w ≡ record { answer = x; run = r } → Holding w area r → Ended w k x area
+  ended : (k : ℕ) {w : List ℤ} {x : Result Ran Halted} {area : List ℤ} {r : Run} → ran k w ≡ record { answer = x; run = r } → Holding w area r → Ended w k x area
   ended k {w} e h = (sym (ap (λ (o : RanOn Process Message). o.answer) e), h.is ∙ sym (ap (λ (o : RanOn Process Message). keeping w o.run) e))
 
-  module _ {w : List ℤ} {n m k : ℕ} (y : Ready w n m) where
+  module _ {w : List ℤ} {z : Sizes} {k : ℕ} (y : Ready w z) where
     pub turn_first : Turn w k w 0 seed
     turn_first =
         let z : k ≡ k - 0 = omega arith in
         record { holds = holding_first y; rest = ap (λ (j : ℕ). run_from knot next j 0 seed (run_in w)) z }
 
     module _ {area : List ℤ} {made s : ℕ} (t : Turn w k area made s) {o : Bool} (e : o ≡ over (run_in area)) where
-      pub turn_over : o ≡ true → Ended w k (Ran.Over made) area
+      pub turn_over : o ≡ true → Ended w k (Ok (Over made)) area
       turn_over f = ended k (t.rest ∙ run_from_over knot next s (run_in area) k made (sym e ∙ f)) t.holds
 
       module _ (f : o ≡ false) where
-        pub turn_spent : k ≤ made → Ended w k (Spent made) area
+        pub turn_spent : k ≤ made → Ended w k (Ok (Spent made)) area
         turn_spent u = ended k (t.rest ∙ run_from_spent knot next s (run_in area) k made (sym e ∙ f) u) t.holds
 
         -- the delivery leaves the area v
@@ -72,13 +68,13 @@ module _ (next : Chooser Process Message) (seed : ℕ) where
           next_holds : Holding w v (on (picks s) (run_in area)).run
           next_holds = holding-next-of named y t.holds d
 
-          pub turn_refused : {i : ℕ} → (on (picks s) (run_in area)).answer ≡ Delivery.Refused i → Ended w k (Ran.Refused i made) v
-          turn_refused {i} p =
+          pub turn_refused : {e : Refusal} → (on (picks s) (run_in area)).answer ≡ Err e → Ended w k (Err (record { refusal = e; made = made })) v
+          turn_refused p =
               let r = run_in area in
-              ended k (t.rest ∙ run_from_refused knot next s r k made (sym e ∙ f) u i (delivery_of_refused (deliver_on knot r (picks s r)).answer p))
-              next_holds
+              let o = delivery_of_refused (deliver_on knot r (picks s r)).answer p in
+              rw (sym o.name) (ended k (t.rest ∙ run_from_refused knot next s r k made (sym e ∙ f) u o.k o.refuses) next_holds)
 
-          pub turn_next : {z : Message} → (on (picks s) (run_in area)).answer ≡ Delivered z → Turn w k v (made + 1) (next s (run_in area)).1
+          pub turn_next : {z : Message} → (on (picks s) (run_in area)).answer ≡ Ok z → Turn w k v (made + 1) (next s (run_in area)).1
           turn_next {z} p =
               let r = run_in area in
               let q : (on (picks s) r).run ≡ run_in v = sym (holding_run y next_holds) in
@@ -93,16 +89,16 @@ module _ (next : Chooser Process Message) (seed : ℕ) where
           pub turn_unmade : delivery_made (on (picks s) (run_in area)).answer ≡ 0 → v ≡ keeping w (ran k w).run
           turn_unmade z = at (on (picks s) (run_in area)).answer refl
             where
-              at : (x : Delivery) → (on (picks s) (run_in area)).answer ≡ x → v ≡ keeping w (ran k w).run
-              at (Delivery.Refused i) p = (turn_refused p).1
-              at (Delivered m) p = absurd (omega (arith, ap delivery_made p))
+              at : (x : Result Message Refusal) → (on (picks s) (run_in area)).answer ≡ x → v ≡ keeping w (ran k w).run
+              at (Err i) p = (turn_refused p).1
+              at (Ok m) p = absurd (omega (arith, ap delivery_made p))
 
           pub turn_made : delivery_made (on (picks s) (run_in area)).answer ≡ 1 → Turn w k v (made + 1) (next s (run_in area)).1
           turn_made z = at (on (picks s) (run_in area)).answer refl
             where
-              at : (x : Delivery) → (on (picks s) (run_in area)).answer ≡ x → Turn w k v (made + 1) (next s (run_in area)).1
-              at (Delivery.Refused i) p = absurd (omega (arith, ap delivery_made p))
-              at (Delivered m) p = turn_next p
+              at : (x : Result Message Refusal) → (on (picks s) (run_in area)).answer ≡ x → Turn w k v (made + 1) (next s (run_in area)).1
+              at (Err i) p = absurd (omega (arith, ap delivery_made p))
+              at (Ok m) p = turn_next p
 
     pub turn_full : {area : List ℤ} {made s : ℕ} → Turn w k area made s → k ≤ made → area ≡ keeping w (ran k w).run
     turn_full {area} t u = at (tested (over (run_in area)))

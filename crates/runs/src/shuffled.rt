@@ -4,25 +4,17 @@ ghost use Rattle.area_calls.specs.AreaCalls.{shuffled_answer, shuffled_area};
 
 use crate::running;
 use area_tests::testing;
-use area_tests::testing::Sizes;
-use machine::Ran;
+use machine::{Halted, Ran};
+use refusals::Refusal;
 
 // Makes up to k deliveries in the order that a seed gives (02, N13): 21, then 37 for seed 0, then over, then spent, then 24, 22.
-pub fn run_shuffled(area: &mut [i32], k: u32, seed: u32) -> Ran
-    ensures value { result ≡ shuffled_answer k seed area.old }
+pub fn run_shuffled(area: &mut [i32], k: u32, seed: u32) -> Result<Ran, Halted>
+    ensures answer { result ≡ shuffled_answer k seed area.old }
     ensures area_after { area.new ≡ shuffled_area k seed area.old }
 {
-    let Sizes::Right { n, m } = testing::test(area) else {
-        return Ran::Refused {
-            number: 21,
-            made: 0,
-        };
-    };
+    let sizes = testing::test(area)?;
     if seed == 0 {
-        return Ran::Refused {
-            number: 37,
-            made: 0,
-        };
+        return Err(Halted::from(Refusal::Seed));
     }
-    running::run_in(area, n, m, k, seed)
+    running::run_in(area, sizes, k, seed)
 }

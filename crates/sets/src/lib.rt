@@ -10,6 +10,8 @@ ghost use Rattle.sets.specs.Sets.{sets_size, word_digits, set_at, word_at, digit
 ghost use Rattle.sets.specs.Sets.{word, is_in, added_to, struck_from, lowest_of, lowest_in, Ranked};
 
 // Two words for each process, and for 0.
+// Stays: the sets are words of a lent array, not a struct of their own: what may not change needs it, `Rows` and `Marks` of the crate `marks` speak of
+// one list of numbers with the sets in front and counts behind.
 pub const SETS_SIZE: usize = 2 * tables::SIDE;
 
 // How many processes a word has digits for.
@@ -28,7 +30,7 @@ pub fn set_at(j: usize) -> usize
 
 // The word that has a digit for p, in the set j.
 pub fn word_at(j: usize, p: usize) -> usize
-    requires j_le_most_processes { j ≤ most_processes }
+    requires set_number { j ≤ most_processes }
     requires process { IsProcess most_processes p }
     ensures { result ≡ word_at j p }
 {
@@ -61,8 +63,8 @@ pub fn is_set(word: usize, p: usize) -> bool
 
 // Whether p is in the set j.
 pub fn is_in(words: &[usize], j: usize, p: usize) -> bool
-    requires sets_size_in_bounds { sets_size ≤ length words.now }
-    requires j_le_most_processes { j ≤ most_processes }
+    requires long { sets_size ≤ length words.now }
+    requires set_number { j ≤ most_processes }
     requires process { IsProcess most_processes p }
     ensures { result ≡ is_in words.now j p }
 {
@@ -71,10 +73,10 @@ pub fn is_in(words: &[usize], j: usize, p: usize) -> bool
 
 // Puts p, who is not in it, into the set j.
 pub fn add(words: &mut [usize], j: usize, p: usize)
-    requires sets_size_in_bounds { sets_size ≤ length words.old }
-    requires j_le_most_processes { j ≤ most_processes }
+    requires long { sets_size ≤ length words.old }
+    requires set_number { j ≤ most_processes }
     requires process { IsProcess most_processes p }
-    requires p_bound { word words.old j p + 2 ^ digit_of p < 2 ^ word_digits }
+    requires digit_free { word words.old j p + 2 ^ digit_of p < 2 ^ word_digits }
     ensures { words.new ≡ added_to words.old j p }
 {
     let at = word_at(j, p);
@@ -82,11 +84,12 @@ pub fn add(words: &mut [usize], j: usize, p: usize)
 }
 
 // Takes p, who is in it, out of the set j.
+// Stays: one function for both is no plainer: what adding asks (p is out) and what striking asks (p is in) would both hang on a flag.
 pub fn strike(words: &mut [usize], j: usize, p: usize)
-    requires sets_size_in_bounds { sets_size ≤ length words.old }
-    requires j_le_most_processes { j ≤ most_processes }
+    requires long { sets_size ≤ length words.old }
+    requires set_number { j ≤ most_processes }
     requires process { IsProcess most_processes p }
-    requires p_bound { 2 ^ digit_of p ≤ word words.old j p }
+    requires digit_taken { 2 ^ digit_of p ≤ word words.old j p }
     ensures { words.new ≡ struck_from words.old j p }
 {
     let at = word_at(j, p);
@@ -99,15 +102,15 @@ pub fn lowest_of(low: usize, high: usize) -> usize
     ensures low { 1 ≤ result }
 {
     if low != 0 {
-        return usize::trailing_zeros(low) as usize + 1;
+        return low.trailing_zeros() as usize + 1;
     }
-    usize::trailing_zeros(high) as usize + SECOND_WORD
+    high.trailing_zeros() as usize + SECOND_WORD
 }
 
 // The lowest process of the set j, or a number past all processes.
 pub fn lowest_in(words: &[usize], j: usize) -> usize
-    requires sets_size_in_bounds { sets_size ≤ length words.now }
-    requires j_le_most_processes { j ≤ most_processes }
+    requires long { sets_size ≤ length words.now }
+    requires set_number { j ≤ most_processes }
     ensures is { result ≡ lowest_in words.now j }
     ensures low { 1 ≤ result }
 {
@@ -117,8 +120,8 @@ pub fn lowest_in(words: &[usize], j: usize) -> usize
 
 // The process of the set j that has so many of it below it, if there is one: so many times the lowest 1 of its two words is struck out.
 pub fn ranked_in(words: &[usize], j: usize, rank: usize) -> usize
-    requires sets_size_in_bounds { sets_size ≤ length words.now }
-    requires j_le_most_processes { j ≤ most_processes }
+    requires long { sets_size ≤ length words.now }
+    requires set_number { j ≤ most_processes }
     ensures { Ranked words.now j rank result }
 {
     let at = set_at(j);

@@ -2,81 +2,77 @@
 --   start_read       == reading the table refused
 --   Met, start_met   == the table is accepted, and what the rows 8, 30 and 9 then say
 --   start_row        == one of these is met
---   start_ready      == all is accepted
+--   none_met         == none is
+--   startable, start_ready   == what all the checks leave, and the answer then
 --   start_few        == N and M of an accepted table are small
---   startable        == what all the checks leave
 -- Assumes nothing.
-use Prim.Native.Nat.{ℕ, zero, suc, ◌≤◌}
-use mathlib.Core.Bool.{Bool}
-use mathlib.Core.List.{List}
-use mathlib.Core.Path.{◌≡◌, refl, sym, ◌∙◌}
+use Rattle.std.proofs.Common.{ℕ, zero, suc, ◌≤◌, Bool, List, ◌≡◌, refl, sym, ap, ◌∙◌, arith, ltb, length, ℤ, Result, Ok, Err}
 use borrow.Author.Tests.{ne_eqb}
-use lib.Dec.{ltb}
-use lib.ListN.{length}
-use lib.IntN.{ℤ}
-use Rattle.tables.specs.declared.Reading.{Reading}
+use Rattle.refusals.specs.declared.Refusal.{Refusal}
+use Rattle.refusals.specs.Numbers.{numbered, answered}
+use Rattle.tables.specs.declared.Sizes.{Sizes}
 use Rattle.tables.specs.Table.{field_of, n_of, m_of, most_processes, most_arcs, is_process}
 use Rattle.tables.specs.Reading.{read_number, reading_of}
 use Rattle.tables.specs.Waits.{waits_of}
 use Rattle.checks.specs.Run.{is_edition, start_run}
 use Rattle.areas.specs.Places.{area_length}
 use Rattle.areas.specs.Area.{stored}
-use Rattle.starting.specs.declared.Started.{Started}
 use Rattle.beginning.specs.Starting.{Startable}
 use Rattle.starting.specs.Rows.{row_met}
 use Rattle.starting.specs.StartCallLaws.{start_number_startable}
-use Rattle.starting.specs.StartCall.{start_number, start_answer, start_area}
+use Rattle.starting.specs.StartCall.{start_number, started_by, start_answer, start_area}
 use Rattle.tables.specs.ReadingLaws.{refused_told, accepted_told}
 
 -- the answer a and the area l are those of a start
-abbrev pub Starts : List ℕ → ℕ → ℕ → List ℤ → Started → List ℤ → Type 0
+abbrev pub Starts : List ℕ → ℕ → ℕ → List ℤ → Result (Unit {0}) Refusal → List ℤ → Type 0
 Starts bs s ed w a l = (a ≡ start_answer bs s ed w) × (l ≡ start_area bs s ed w)
 
 -- an accepted table with its N and M, and k the first of 8, 30 and 9 that is met
-pub record Met (bs : List ℕ) (s ed : ℕ) (w : List ℤ) (n m k : ℕ) : Type 0 where
+pub record Met (bs : List ℕ) (s ed : ℕ) (w : List ℤ) (sizes : Sizes) (k : ℕ) : Type 0 where
   pub number_is : start_number bs s ed w ≡ k
-  pub n_is : n ≡ n_of (field_of bs)
-  pub m_is : m ≡ m_of (field_of bs)
+  pub n_is : sizes.n ≡ n_of (field_of bs)
+  pub m_is : sizes.m ≡ m_of (field_of bs)
 
 module _ (bs : List ℕ) (s ed : ℕ) (w : List ℤ) where
-  refused : (r : ℕ) → start_number bs s ed w ≡ r → (r ≡ 0 → ⊥) → Starts bs s ed w (Started.Refused r) w
+  some : (k : ℕ) → suc k ≡ 0 → ⊥
+  some k z = omega arith
+
+  -- the same refusal with another type beside it
+  refused : {A : Type 0} (x : A) {e : Refusal} (k : ℕ) → start_number bs s ed w ≡ k → answered k x ≡ Err e → Starts bs s ed w (Err e) w
   unfolding start_answer start_area
-  refused zero e d = absurd (d refl)
-  refused (suc r) e d = rw (e, ne_eqb (suc r) 0 d) (refl, refl)
+  refused x zero n f = absurd (let z : ◌≡◌ {A = ℕ} 0 1 = cc in omega arith)
+  refused x {e} (suc k) n f = let g : e ≡ numbered (suc k) = cc in rw (n, ne_eqb (suc k) 0 (some k)) (ap Err g, refl)
 
-  pub start_read : (x : Reading) → x ≡ reading_of bs → (r : ℕ) → x ≡ Reading.Refused r → Starts bs s ed w (Started.Refused r) w
-  unfolding start_number
-  start_read x ex r e =
-      let told = refused_told bs r (sym ex ∙ e) in
-      refused r (rw (told.number, ne_eqb r 0 told.some)) told.some
+  pub start_read : {x : Result Sizes Refusal} → x ≡ reading_of bs → {e : Refusal} → x ≡ Err e → Starts bs s ed w (Err e) w
+  unfolding start_number reading_of
+  start_read is {e} f =
+      let told = refused_told bs e (sym is ∙ f) in
+      refused _ (read_number bs) (rw (ne_eqb (read_number bs) 0 (λ z. told.some (sym told.number ∙ z))) refl) (sym is ∙ f)
 
-  module _ (x : Reading) (ex : x ≡ reading_of bs) (n m : ℕ) (e : x ≡ Reading.Accepted n m) where
-    number : read_number bs ≡ 0
-    number = (accepted_told bs n m (sym ex ∙ e)).number
+  module _ {x : Result Sizes Refusal} (is : x ≡ reading_of bs) {sizes : Sizes} (f : x ≡ Ok sizes) where
+    pub start_few : (sizes.n ≤ most_processes) × (sizes.m ≤ most_arcs)
+    start_few = let told = accepted_told bs sizes (sym is ∙ f) in (told.few, told.arcs_few)
 
-    start_n : n ≡ n_of (field_of bs)
-    start_n = (accepted_told bs n m (sym ex ∙ e)).processes
-
-    start_m : m ≡ m_of (field_of bs)
-    start_m = (accepted_told bs n m (sym ex ∙ e)).arcs
-
-    pub start_few : (n ≤ most_processes) × (m ≤ most_arcs)
-    start_few = ((accepted_told bs n m (sym ex ∙ e)).few, (accepted_told bs n m (sym ex ∙ e)).arcs_few)
-
-    pub start_met : {process named short : Bool} → process ≡ is_process n s → named ≡ is_edition ed → short ≡ ltb (length w) (area_length n m)
-        → {k : ℕ} → k ≡ row_met process named short → Met bs s ed w n m k
+    pub start_met : {process named short : Bool} → process ≡ is_process sizes.n s → named ≡ is_edition ed
+        → short ≡ ltb (length w) (area_length sizes.n sizes.m) → Met bs s ed w sizes (row_met process named short)
     unfolding start_number
-    start_met ep ev el ek = record { number_is = rw (number, ← start_n, ← start_m, ek, ep, ev, el) refl; n_is = start_n; m_is = start_m }
+    start_met ep ev el =
+        let told = accepted_told bs sizes (sym is ∙ f) in
+        record { number_is = rw (told.number, ← told.processes, ← told.arcs, ep, ev, el) refl; n_is = told.processes; m_is = told.arcs }
 
-module _ {bs : List ℕ} {s ed : ℕ} {w : List ℤ} {n m k : ℕ} (h : Met bs s ed w n m k) where
+pub none_met : {u : Unit {0}} (k : ℕ) → started_by k ≡ Ok u → k ≡ 0
+none_met zero f = refl
+none_met (suc k) f = absurd (let z : ◌≡◌ {A = ℕ} 0 1 = cc in omega arith)
+
+module _ {bs : List ℕ} {s ed : ℕ} {w : List ℤ} {sizes : Sizes} {k : ℕ} (h : Met bs s ed w sizes k) where
   -- 8, 30 or 9
-  pub start_row : (k ≡ 0 → ⊥) → Starts bs s ed w (Started.Refused k) w
-  start_row d = refused bs s ed w k h.number_is d
+  pub start_row : {e : Refusal} → started_by k ≡ Err e → Starts bs s ed w (Err e) w
+  start_row f = refused bs s ed w tt k h.number_is f
 
   module _ (z : k ≡ 0) where
-    pub startable : Startable bs n m s ed w
+    pub startable : Startable bs sizes.n sizes.m s ed w
     startable = rw (h.n_is, h.m_is) (start_number_startable bs s ed w (h.number_is ∙ z))
 
-    pub start_ready : (l : List ℤ) → l ≡ stored (field_of bs) (start_run (waits_of (field_of bs)) s ed) w → Starts bs s ed w Started.Ready l
+    pub start_ready : (l : List ℤ) → l ≡ stored (field_of bs) (start_run (waits_of (field_of bs)) s ed) w → Starts bs s ed w (Ok tt) l
     unfolding start_answer start_area
     start_ready l f = rw (h.number_is ∙ z) (refl, f)

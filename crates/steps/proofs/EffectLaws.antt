@@ -4,12 +4,12 @@
 --   turn_effect, start_turn_effect   == every step has the effect that Effect says
 --   turn_named, start_turn_named     == whom a step of any record takes as father, and whom it acknowledges
 -- Assumes nothing.
-use Rattle.std.specs.Prelude.{ℕ, ◌+◌, ◌-◌, ◌*◌, ◌≤◌, Bool, true, not, ◌⊎◌, ◌≡◌, refl, eqb, ℤ, ◌+ℤ◌, ◌-ℤ◌}
+use Rattle.std.specs.Prelude.{ℕ, ◌+◌, ◌-◌, ◌*◌, ◌≤◌, Bool, true, not, ◌⊎◌, ◌≡◌, refl, eqb, ℤ, ◌+ℤ◌, ◌-ℤ◌, Option, None}
 use Rattle.std.proofs.Math.Bool.{false}
 use Rattle.std.proofs.lemmas.Bool.{false≢true}
 use Rattle.std.proofs.Common.{true≢false, mul-le-mul}
 use Rattle.std.proofs.Math.Logic.{inl, inr}
-use Rattle.std.proofs.Math.Path.{ap}
+use Rattle.std.proofs.Math.Path.{ap, ◌∙◌}
 use native.Mathlib.Omega.{arith}
 use Rattle.std.proofs.Math.IntN.{pos}
 use Rattle.base.specs.Choice.{bit}
@@ -25,19 +25,18 @@ use Rattle.steps.specs.declared.Process.{Process}
 use Rattle.steps.specs.declared.TwoCounts.{TwoCounts}
 use Rattle.steps.specs.declared.Probes.{Probes}
 use Rattle.steps.specs.declared.Reply.{Reply}
-use Rattle.steps.specs.declared.Reply.TheVariants.{To}
 use Rattle.steps.specs.Step.{Turn, new_subordinate, gained, rule1, set_succeeding, set_preceding, rule3, rule4, acknowledged, turn}
-use Rattle.steps.specs.Step.{sums_of, no_counts, own_count, gaining, start_turn}
+use Rattle.steps.specs.Step.{sums_of, no_counts, own_count, acknowledgement, gaining, start_turn}
 use Rattle.steps.specs.Effect.{is_probe, is_suc, is_pre, counts_of, sucs_of, pres_of, counts_replied, acks_to}
 use Rattle.steps.specs.Effect.{heir_to, both, Known, Balanced, Effect, Named}
-use Rattle.steps.specs.StepLaws.{Plain, rule1_plain, new_subordinate_both}
+use Rattle.steps.specs.StepLaws.{Plain, rule1_plain, new_subordinate_both, acknowledgement_to, unanswered}
 
 -- ---- rules 1 and 2
 
 -- rule 1 at a process with num 0, and at one that waits for acknowledgements
 data Asked (a : ℕ) (x : Process) (t : Turn) : Type 0 where
-  first : x.num ≡ 0 → t.process.father ≡ a → t.process.cs ≡ x.cs → t.reply ≡ Reply.Nothing → Asked a x t
-  busy : (x.num ≡ 0 → ⊥) → t.process.father ≡ x.father → t.process.cs ≡ pos 0 → t.reply ≡ To a (sums_of x) → Asked a x t
+  first : x.num ≡ 0 → t.process.father ≡ a → t.process.cs ≡ x.cs → t.sent.reply ≡ None → Asked a x t
+  busy : (x.num ≡ 0 → ⊥) → t.process.father ≡ x.father → t.process.cs ≡ pos 0 → t.sent.reply ≡ acknowledgement a (sums_of x) → Asked a x t
 
 rule1_asked : (a : ℕ) (x : Process) → Asked a x (rule1 a x)
 unfolding rule1
@@ -50,7 +49,7 @@ rule1_asked a x = at (same? x.num 0)
 -- the second sum after rules 1 and 2, with what rule 1 sent: it gains 1 where a process that waits for nobody becomes succeeding
 abbrev Second : ℕ → Process → Turn → Type 0
 Second o x t =
-    Balanced x.second (pos 0) t.process.second (counts_replied t.reply).second (x.succeeding * own_count o)
+    Balanced x.second (pos 0) t.process.second (counts_replied t.sent.reply).second (x.succeeding * own_count o)
     (t.process.succeeding * own_count o) 0 0
 
 rule1_second : (o a : ℕ) (x : Process) → Second o x (rule1 a x)
@@ -138,11 +137,8 @@ module _ (o i : ℕ) (x : Process) (t : Turn) (p : Plain x t) where
 
 -- ---- a probe: rules 3 and 4
 
-unanswered : (p : ℕ) (c : TwoCounts) → Reply.Nothing ≡ To p c → ⊥
-unanswered p c r = let clash : ◌≡◌ {A = ℕ} 0 1 = cc in omega arith
-
 -- what rules 3 and 4 leave, with sums c and reply y
-abbrev final : TwoCounts → Reply → Turn → Turn
+abbrev final : TwoCounts → Option Reply → Turn → Turn
 final c y t =
     record {
       process = record {
@@ -154,8 +150,7 @@ final c y t =
         father = t.process.father;
         second = c.second;
       };
-      probes = t.probes;
-      reply = y;
+      sent = record t.sent { reply = y };
     }
 
 -- the sum z after rule 3, from the sum c that rule 1 left
@@ -204,14 +199,14 @@ module _ {m : Message} {o i : ℕ} (a : ℕ) {x : Process} {t : Turn} (k : Known
     (no-counts : counts_of m ≡ no_counts) where
   -- the flags and num of every case, and what the cases differ in
   assembled :
-      (c : TwoCounts) (y : Reply) →
+      (c : TwoCounts) (y : Option Reply) →
       ((q : ℕ) → heir_to false (final c y t).process q + acks_to y q ≡ heir_to false x q + spot a 1 q) →
       Balanced x.cs (pos 0) c.count (counts_replied y).count x.subordinate (new_subordinate t.process) (both x) (both t.process) →
       Balanced x.second (pos 0) c.second (counts_replied y).second (x.succeeding * own_count o) (t.process.succeeding * own_count o) 0 0 →
       (t.process.num ≡ 0 → c ≡ no_counts) →
       (1 ≤ x.num → t.process.father ≡ x.father) →
       (x.num ≡ 0 → t.process.father ≡ a) →
-      ((p : ℕ) (z : TwoCounts) → y ≡ To p z → p ≡ a) →
+      ((p : ℕ) (z : TwoCounts) → y ≡ acknowledgement p z → p ≡ a) →
       Effect false m o i a x (final c y t)
   unfolding new_subordinate
   assembled c y heirs sums seconds rests kept new replies =
@@ -244,42 +239,42 @@ module _ {m : Message} {o i : ℕ} (a : ℕ) {x : Process} {t : Turn} (k : Known
       -- nobody else is asked: a is acknowledged at once
       at (first e d c y) (same n f) =
           let g : Gained x t x.cs (sum3 t) = rule3_gained k h x.cs c in
-          let z : Reply = To t.process.father (sums3 t) in
-          let none : (counts_replied t.reply).second ≡ pos 0 = rw y in
+          let z : Option Reply = acknowledgement t.process.father (sums3 t) in
+          let none : (counts_replied t.sent.reply).second ≡ pos 0 = rw y in
           let b = rw none at s in
           let heirs : (q : ℕ) → heir_to false (final no_counts z t).process q + acks_to z q ≡ heir_to false x q + spot a 1 q =
           λ q. omega (arith, heir_none t.process.num t.process.father q n, heir_none x.num x.father q e, ap (λ (p : ℕ). spot p 1 q) d) in
           rw f
           (assembled no_counts z heirs (record { balance = omega arith; falls = omega arith }) (passed_on b) (λ _. refl)
-          (λ l. absurd (omega arith)) (λ _. d) (λ p u r. cc))
+          (λ l. absurd (omega arith)) (λ _. d) (λ p u r. acknowledgement_to r ∙ d))
       -- a becomes the father
       at (first e d c y) (apart n f) =
-          let none : (counts_replied t.reply).second ≡ pos 0 = rw y in
+          let none : (counts_replied t.sent.reply).second ≡ pos 0 = rw y in
           let b = rw none at s in
           let g : Gained x t x.cs (sum3 t) = rule3_gained k h x.cs c in
-          let heirs : (q : ℕ) → heir_to false (final (sums3 t) Reply.Nothing t).process q + 0 ≡ heir_to false x q + spot a 1 q =
+          let heirs : (q : ℕ) → heir_to false (final (sums3 t) None t).process q + 0 ≡ heir_to false x q + spot a 1 q =
           λ q. omega (arith, heir_some t.process.num t.process.father q n, heir_none x.num x.father q e, ap (λ (p : ℕ). spot p 1 q) d) in
           rw (f, y)
-          (assembled (sums3 t) Reply.Nothing heirs (record { balance = omega arith; falls = omega arith }) b (λ l. absurd (n l))
+          (assembled (sums3 t) None heirs (record { balance = omega arith; falls = omega arith }) b (λ l. absurd (n l))
           (λ l. absurd (omega arith)) (λ _. d)
           (λ p u r. absurd (unanswered p u r)))
       at (busy e d c y) (same n f) = absurd (e (omega arith))
       -- a is acknowledged with the old sum
       at (busy e d c y) (apart n f) =
           let g : Gained x t (pos 0) (sum3 t) = rule3_gained k h (pos 0) c in
-          let z : Reply = To a (sums_of x) in
-          let sent : (counts_replied t.reply).second ≡ x.second = rw y in
+          let z : Option Reply = acknowledgement a (sums_of x) in
+          let sent : (counts_replied t.sent.reply).second ≡ x.second = rw y in
           let b = rw sent at s in
           let heirs : (q : ℕ) → heir_to false (final (sums3 t) z t).process q + acks_to z q ≡ heir_to false x q + spot a 1 q =
           λ q. omega (arith, heir_some t.process.num t.process.father q n, heir_some x.num x.father q e, ap (λ (p : ℕ). spot p 1 q) d) in
           rw (f, y)
           (assembled (sums3 t) z heirs (record { balance = omega arith; falls = omega arith }) b (λ l. absurd (n l)) (λ _. d)
-          (λ l. absurd (e l)) (λ p u r. cc))
+          (λ l. absurd (e l)) (λ p u r. acknowledgement_to r))
 
 -- ---- a step that sets no flag: an acknowledgement, and every step of the start
 
 -- what such a step leaves, with sums z, num n and reply y
-abbrev quiet : TwoCounts → ℕ → Reply → Process → Turn
+abbrev quiet : TwoCounts → ℕ → Option Reply → Process → Turn
 quiet z n y x =
     record {
       process = record {
@@ -291,19 +286,18 @@ quiet z n y x =
         father = x.father;
         second = z.second;
       };
-      probes = Probes.Nothing;
-      reply = y;
+      sent = record { probes = Probes.Nothing; reply = y };
     }
 
 quiet_effect :
-    (root : Bool) (m : Message) (o i a : ℕ) (x : Process) → Known root m x → (z : TwoCounts) (n : ℕ) (y : Reply) →
+    (root : Bool) (m : Message) (o i a : ℕ) (x : Process) → Known root m x → (z : TwoCounts) (n : ℕ) (y : Option Reply) →
     is_suc m ≤ x.succeeding → is_pre m ≤ x.preceding → n + bit (not (is_probe m)) ≡ x.num →
     ((q : ℕ) → heir_to root (quiet z n y x).process q + acks_to y q ≡ heir_to root x q + spot a (bit (is_probe m)) q) →
     ((u p : ℕ) → Balanced x.cs (counts_of m).count z.count (counts_replied y).count u u p p) →
     ((u p : ℕ) → Balanced x.second (counts_of m).second z.second (counts_replied y).second u u p p) →
     (root ≡ false → n ≡ 0 → z ≡ no_counts) →
     (root ≡ false → x.num ≡ 0 → x.father ≡ a) →
-    ((p : ℕ) (c : TwoCounts) → y ≡ To p c → (p ≡ a) ⊎ ((root ≡ false) × (1 ≤ x.num) × (p ≡ x.father))) →
+    ((p : ℕ) (c : TwoCounts) → y ≡ acknowledgement p c → (p ≡ a) ⊎ ((root ≡ false) × (1 ≤ x.num) × (p ≡ x.father))) →
     Effect root m o i a x (quiet z n y x)
 unfolding new_subordinate
 quiet_effect root m o i a x k z n y sucs pres num heirs sums seconds rests new replies =
@@ -347,20 +341,20 @@ acknowledged_effect c o i a x k = at (same? (x.num - 1) 0)
     had e = omega arith
 
     heir_zero : (q : ℕ) → x.num - 1 ≡ 0
-        → heir_to false (quiet no_counts (x.num - 1) (To x.father z) x).process q + acks_to (To x.father z) q ≡ heir_to false x q + spot a 0 q
+        → heir_to false (quiet no_counts (x.num - 1) (acknowledgement x.father z) x).process q + acks_to (acknowledgement x.father z) q ≡ heir_to false x q + spot a 0 q
     heir_zero q n = omega (arith, heir_none (x.num - 1) x.father q n, heir_some x.num x.father q had, spot_zero a q)
 
-    heir_more : (q : ℕ) → (x.num - 1 ≡ 0 → ⊥) → heir_to false (quiet z (x.num - 1) Reply.Nothing x).process q + 0 ≡ heir_to false x q + spot a 0 q
+    heir_more : (q : ℕ) → (x.num - 1 ≡ 0 → ⊥) → heir_to false (quiet z (x.num - 1) None x).process q + 0 ≡ heir_to false x q + spot a 0 q
     heir_more q n = omega (arith, heir_some (x.num - 1) x.father q n, heir_some x.num x.father q had, spot_zero a q)
 
     at : Same (x.num - 1) 0 → Effect false (Ack c) o i a x (rule4 (acknowledged c x))
     at (same n f) =
-        rw f (quiet_effect false (Ack c) o i a x k no_counts (x.num - 1) (To x.father z) (omega arith) (omega arith) (omega arith)
+        rw f (quiet_effect false (Ack c) o i a x k no_counts (x.num - 1) (acknowledgement x.father z) (omega arith) (omega arith) (omega arith)
         (λ q. heir_zero q n) (λ u p. passed_on (gains x.cs c.count u p)) (λ u p. passed_on (gains x.second c.second u p))
         (λ _ _. refl) (λ _ e. absurd (had e))
-        (λ p u r. inr (refl, omega arith, cc)))
+        (λ p u r. inr (refl, omega arith, acknowledgement_to r)))
     at (apart n f) =
-        rw f (quiet_effect false (Ack c) o i a x k z (x.num - 1) Reply.Nothing (omega arith) (omega arith) (omega arith) (λ q. heir_more q n)
+        rw f (quiet_effect false (Ack c) o i a x k z (x.num - 1) None (omega arith) (omega arith) (omega arith) (λ q. heir_more q n)
         (gains x.cs c.count) (gains x.second c.second) (λ _ e. absurd (n e)) (λ _ e. absurd (had e))
         (λ p u r. absurd (unanswered p u r)))
 
@@ -379,25 +373,22 @@ turn_effect (Ack c) o i a x k = acknowledged_effect c o i a x k
 pub start_turn_effect : (m : Message) (o i a : ℕ) (x : Process) → Known true m x → Effect true m o i a x (start_turn m a x)
 unfolding start_turn acknowledged
 start_turn_effect Suc o i a x k =
-    quiet_effect true Suc o i a x k (sums_of x) x.num (To a no_counts) (omega (arith, k.root_succ refl)) (omega arith) (omega arith) (λ q. omega arith)
-    (stays x.cs) (stays x.second) (λ r. absurd (true≢false r)) (λ r. absurd (true≢false r)) (λ p u r. inl (cc))
+    quiet_effect true Suc o i a x k (sums_of x) x.num (acknowledgement a no_counts) (omega (arith, k.root_succ refl)) (omega arith) (omega arith) (λ q. omega arith)
+    (stays x.cs) (stays x.second) (λ r. absurd (true≢false r)) (λ r. absurd (true≢false r)) (λ p u r. inl (acknowledgement_to r))
 start_turn_effect Pre o i a x k =
-    quiet_effect true Pre o i a x k (sums_of x) x.num (To a no_counts) (omega arith) (omega (arith, k.root_prec refl)) (omega arith) (λ q. omega arith)
-    (stays x.cs) (stays x.second) (λ r. absurd (true≢false r)) (λ r. absurd (true≢false r)) (λ p u r. inl (cc))
+    quiet_effect true Pre o i a x k (sums_of x) x.num (acknowledgement a no_counts) (omega arith) (omega (arith, k.root_prec refl)) (omega arith) (λ q. omega arith)
+    (stays x.cs) (stays x.second) (λ r. absurd (true≢false r)) (λ r. absurd (true≢false r)) (λ p u r. inl (acknowledgement_to r))
 start_turn_effect (Ack c) o i a x k =
-    quiet_effect true (Ack c) o i a x k (gaining c x) (x.num - 1) Reply.Nothing (omega arith) (omega arith) (omega arith)
+    quiet_effect true (Ack c) o i a x k (gaining c x) (x.num - 1) None (omega arith) (omega arith) (omega arith)
     (λ q. omega (arith, spot_zero a q, heir_start (x.num - 1) x.father q, heir_start x.num x.father q))
     (gains x.cs c.count) (gains x.second c.second) (λ r. absurd (true≢false r)) (λ r. absurd (true≢false r))
     (λ p u r. absurd (unanswered p u r))
 
 -- ---- father and acknowledgement, of any record
 
-to_same : {p q : ℕ} {c d : TwoCounts} → To p c ≡ To q d → q ≡ p
-to_same r = cc
-
 asked_named : {a : ℕ} {x : Process} {t : Turn} → Asked a x t → Named a x t
 asked_named (first e d c y) = record { father = inr d; reply = λ q z r. absurd (unanswered q z (rw y at r)) }
-asked_named (busy e d c y) = record { father = inl d; reply = λ q z r. inl (to_same (rw y at r)) }
+asked_named (busy e d c y) = record { father = inl d; reply = λ q z r. inl (acknowledgement_to (rw y at r)) }
 
 -- rules 3 and 4 keep the father, and acknowledge only him
 module _ {a : ℕ} {x : Process} {t : Turn} (h : Named a x t) where
@@ -406,7 +397,7 @@ module _ {a : ℕ} {x : Process} {t : Turn} (h : Named a x t) where
   rule4_named = at (tested (eqb t.process.num 0))
     where
       at : Tested (eqb t.process.num 0) → Named a x (rule4 t)
-      at (passed e) = rw e (record { father = h.father; reply = λ q c r. inr (to_same r) })
+      at (passed e) = rw e (record { father = h.father; reply = λ q c r. inr (acknowledgement_to r) })
       at (failed e) = rw e h
 
   rule3_named : Named a x (rule3 t)
@@ -425,6 +416,6 @@ turn_named (Ack c) o i a x = rule4_named (acknowledged_named a c x)
 
 pub start_turn_named : (m : Message) (a : ℕ) (x : Process) → Named a x (start_turn m a x)
 unfolding start_turn
-start_turn_named Suc a x = record { father = inl refl; reply = λ q c r. inl (to_same r) }
-start_turn_named Pre a x = record { father = inl refl; reply = λ q c r. inl (to_same r) }
+start_turn_named Suc a x = record { father = inl refl; reply = λ q c r. inl (acknowledgement_to r) }
+start_turn_named Pre a x = record { father = inl refl; reply = λ q c r. inl (acknowledgement_to r) }
 start_turn_named (Ack c) a x = acknowledged_named a c x

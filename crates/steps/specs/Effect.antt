@@ -2,7 +2,8 @@
 --   is_probe, is_suc, is_pre     == which kind a message is
 --   counts_of m                == the count and the second count that a message carries, 0 and 0 for a probe
 --   kind_sucs, kind_pres, sucs_of t, pres_of t   == 1 if a step broadcasts suc, 1 if it broadcasts pre
---   counts_replied y, acks_to y q == the counts of a step's acknowledgement (0 and 0 if none), and 1 if it is for q
+--   counts_replied y, receiver y, acks_to y q == the counts of a step's acknowledgement (0 and 0 if none), to whom it goes (0 if none), and 1 if
+--                                 it is for q
 --   heir_to root x q           == 1 if a process that is not the start (root) is busy (its num is above 0) and q is its father
 --   both x                    == 1 if a process is succeeding and preceding
 --   Known root m x            == what is known of the receiver x of a message m before its step (root: the receiver is the start)
@@ -12,7 +13,7 @@
 --   RecordInRange x           == the parts of inRange, by name
 --   out_needed, in_needed       == a degree if the step broadcasts along it, and else 0
 -- Assumes nothing.
-use Rattle.std.specs.Prelude.{ℕ, ◌+◌, ◌*◌, ◌≤◌, Bool, true, false, not, ◌≡◌, ◌⊎◌, eqb, ℤ, nat_abs}
+use Rattle.std.specs.Prelude.{ℕ, ◌+◌, ◌*◌, ◌≤◌, Bool, true, false, not, ◌≡◌, ◌⊎◌, eqb, ℤ, nat_abs, Option, Some, None}
 use Rattle.base.specs.Choice.{choose, bit}
 use Rattle.base.specs.Sums.{spot}
 use Rattle.base.specs.Parts.{above, below}
@@ -23,9 +24,8 @@ use Rattle.steps.specs.declared.Process.{Process}
 use Rattle.steps.specs.declared.Probes.{Probes}
 use Rattle.steps.specs.declared.Probes.TheVariants.{Sucs, Pres}
 use Rattle.steps.specs.declared.Reply.{Reply}
-use Rattle.steps.specs.declared.Reply.TheVariants.{To}
 use Rattle.steps.specs.declared.TwoCounts.{TwoCounts}
-use Rattle.steps.specs.Step.{most_count, most_num, sums_of, no_counts, own_count, Turn, new_subordinate}
+use Rattle.steps.specs.Step.{most_count, most_num, sums_of, no_counts, own_count, Turn, acknowledgement, new_subordinate}
 
 -- a suc probe or a pre probe; every other message is an acknowledgement
 abbrev pub is_probe : Message → Bool
@@ -59,18 +59,22 @@ kind_pres Sucs = 0
 kind_pres Pres = 1
 
 abbrev pub sucs_of : Turn → ℕ
-sucs_of t = kind_sucs t.probes
+sucs_of t = kind_sucs t.sent.probes
 
 abbrev pub pres_of : Turn → ℕ
-pres_of t = kind_pres t.probes
+pres_of t = kind_pres t.sent.probes
 
-abbrev pub counts_replied : Reply → TwoCounts
-counts_replied Reply.Nothing = no_counts
-counts_replied (To p c) = c
+abbrev pub counts_replied : Option Reply → TwoCounts
+counts_replied None = no_counts
+counts_replied (Some r) = r.counts
 
-abbrev pub acks_to : Reply → ℕ → ℕ
-acks_to Reply.Nothing q = 0
-acks_to (To p c) q = spot p 1 q
+abbrev pub receiver : Option Reply → ℕ
+receiver None = 0
+receiver (Some r) = r.to
+
+abbrev pub acks_to : Option Reply → ℕ → ℕ
+acks_to None q = 0
+acks_to (Some r) q = spot r.to 1 q
 
 abbrev pub heir_to : Bool → Process → ℕ → ℕ
 heir_to root x q = heir root x.num x.father q
@@ -106,14 +110,14 @@ pub record Effect (root : Bool) (m : Message) (o i a : ℕ) (x : Process) (t : T
   -- num gains the probes sent and loses the acknowledgement received
   pub num : t.process.num + bit (not (is_probe m)) ≡ x.num + (sucs_of t * o + pres_of t * i)
   -- a probe from a becomes an acknowledgement to a, or makes a the father; a father is acknowledged when num falls to 0
-  pub heir : (q : ℕ) → heir_to root t.process q + acks_to t.reply q ≡ heir_to root x q + spot a (bit (is_probe m)) q
+  pub heir : (q : ℕ) → heir_to root t.process q + acks_to t.sent.reply q ≡ heir_to root x q + spot a (bit (is_probe m)) q
   -- cs gains new subordinate − old; negative parts grow only where a succeeding process becomes preceding too
   pub sums :
-      Balanced x.cs (counts_of m).count t.process.cs (counts_replied t.reply).count x.subordinate t.process.subordinate (both x)
+      Balanced x.cs (counts_of m).count t.process.cs (counts_replied t.sent.reply).count x.subordinate t.process.subordinate (both x)
       (both t.process)
   -- the second sum gains 1 where a process that waits for nobody becomes succeeding (02, N3); no negative part grows
   pub seconds :
-      Balanced x.second (counts_of m).second t.process.second (counts_replied t.reply).second (x.succeeding * own_count o)
+      Balanced x.second (counts_of m).second t.process.second (counts_replied t.sent.reply).second (x.succeeding * own_count o)
       (t.process.succeeding * own_count o) 0 0
   pub at_rest : root ≡ false → t.process.num ≡ 0 → sums_of t.process ≡ no_counts
   -- the father changes only where num was 0
@@ -121,11 +125,11 @@ pub record Effect (root : Bool) (m : Message) (o i a : ℕ) (x : Process) (t : T
   pub father_kept : 1 ≤ x.num → t.process.father ≡ x.father
   pub father_new : root ≡ false → x.num ≡ 0 → t.process.father ≡ a
   -- whom the step acknowledges
-  pub replies : (p : ℕ) (c : TwoCounts) → t.reply ≡ To p c → (p ≡ a) ⊎ ((root ≡ false) × (1 ≤ x.num) × (p ≡ x.father))
+  pub replies : (p : ℕ) (c : TwoCounts) → t.sent.reply ≡ acknowledgement p c → (p ≡ a) ⊎ ((root ≡ false) × (1 ≤ x.num) × (p ≡ x.father))
 
 pub record Named (a : ℕ) (x : Process) (t : Turn) : Type 0 where
   pub father : (t.process.father ≡ x.father) ⊎ (t.process.father ≡ a)
-  pub reply : (q : ℕ) (c : TwoCounts) → t.reply ≡ To q c → (q ≡ a) ⊎ (q ≡ t.process.father)
+  pub reply : (q : ℕ) (c : TwoCounts) → t.sent.reply ≡ acknowledgement q c → (q ≡ a) ⊎ (q ≡ t.process.father)
 
 -- "A suc probe when not succeeding .. sends suc to all successors"; "A pre probe does the same with preceding and predecessors"
 abbrev pub out_needed : Message → Process → ℕ → ℕ

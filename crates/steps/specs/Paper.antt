@@ -5,7 +5,7 @@
 --   paper_turn, paper_start   == the step of a process other than the start, and of the start
 --   plain_message, plain_process, plain_reply, plain_turn   == a message, a record, a reply and a turn without their second numbers
 -- Assumes nothing.
-use Rattle.std.specs.Prelude.{ℕ, ◌+◌, ◌-◌, ◌&&◌, eqb, ℤ, pos, ◌+ℤ◌, ◌-ℤ◌}
+use Rattle.std.specs.Prelude.{ℕ, ◌+◌, ◌-◌, ◌&&◌, eqb, ℤ, pos, ◌+ℤ◌, ◌-ℤ◌, Option, Some, None}
 use Rattle.base.specs.Choice.{choose}
 use Rattle.steps.specs.declared.Message.{Message}
 use Rattle.steps.specs.declared.Message.TheVariants.{Suc, Pre, Ack}
@@ -13,7 +13,6 @@ use Rattle.steps.specs.declared.Process.{Process}
 use Rattle.steps.specs.declared.Probes.{Probes}
 use Rattle.steps.specs.declared.Probes.TheVariants.{Sucs, Pres}
 use Rattle.steps.specs.declared.Reply.{Reply}
-use Rattle.steps.specs.declared.Reply.TheVariants.{To}
 use Rattle.steps.specs.Step.{Turn}
 
 -- "a suc probe, a pre probe or an acknowledgement with its count"
@@ -122,9 +121,9 @@ abbrev pub plain_process : Process → PaperProcess
 plain_process x =
     record { succeeding = x.succeeding; preceding = x.preceding; subordinate = x.subordinate; cs = x.cs; num = x.num; father = x.father }
 
-abbrev pub plain_reply : Reply → PaperReply
-plain_reply Reply.Nothing = nobody
-plain_reply (To p c) = to p c.count
+abbrev pub plain_reply : Option Reply → PaperReply
+plain_reply None = nobody
+plain_reply (Some r) = to r.to r.counts.count
 
 abbrev pub plain_turn : Turn → PaperTurn
-plain_turn t = record { process = plain_process t.process; probes = t.probes; reply = plain_reply t.reply }
+plain_turn t = record { process = plain_process t.process; probes = t.sent.probes; reply = plain_reply t.sent.reply }

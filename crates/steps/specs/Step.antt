@@ -6,6 +6,7 @@
 --   own_count o          == 1 for a process with o successors that waits for nobody, else 0 (02, N3)
 --   idle                == "All values 0"
 --   Turn                == what a step leaves: the record, the probes it broadcasts, the acknowledgement it sends
+--   acknowledgement p c == the acknowledgement to p with counts c, as what is sent
 --   rule1, set_succeeding, set_preceding, rule3, rule4   == the four rules of "Another process i receives a probe from p"
 --   turn m o i p x      == the step of a process other than the start, with o successors and i predecessors, on message m from p
 --   start_turn m p x     == the step of the start process
@@ -13,13 +14,14 @@
 --   step_number, stepped == "One process's step checks 21, 25, 22": the number (0 if taken), and the answer
 --   start_stepped m p x  == the same for the start's step, which only 22 can refuse
 -- Assumes nothing.
-use Rattle.std.specs.Prelude.{ℕ, zero, suc, ◌+◌, ◌-◌, Bool, true, not, ◌&&◌, ◌||◌, eqb, leb, ltb, ℤ, pos, ◌+ℤ◌, ◌-ℤ◌, nat_abs}
+use Rattle.std.specs.Prelude.{ℕ, ◌+◌, ◌-◌, Bool, true, not, ◌&&◌, ◌||◌, eqb, leb, ltb, ℤ, pos, ◌+ℤ◌, ◌-ℤ◌, nat_abs, Option, Some, None, Result}
 use Rattle.base.specs.Choice.{choose, bit}
 use Rattle.tables.specs.Table.{most_processes}
 use Rattle.steps.specs.declared.{Message.Message, Message.TheVariants.Suc, Message.TheVariants.Pre, Message.TheVariants.Ack, Process.Process}
 use Rattle.steps.specs.declared.TwoCounts.{TwoCounts}
-use Rattle.steps.specs.declared.{Probes.Probes, Probes.TheVariants.Sucs, Probes.TheVariants.Pres, Reply.Reply, Reply.TheVariants.To}
-use Rattle.steps.specs.declared.{Stepped.Stepped, Stepped.TheVariants.Taken, Stepped.TheVariants.Refused}
+use Rattle.steps.specs.declared.{Probes.Probes, Probes.TheVariants.Sucs, Probes.TheVariants.Pres, Reply.Reply}
+use Rattle.refusals.specs.declared.Refusal.{Refusal}
+use Rattle.refusals.specs.Numbers.{answered}
 
 -- "cs (−128 to 128), num (0 to 256)"
 abbrev pub most_count : ℕ
@@ -53,32 +55,25 @@ idle = record { succeeding = 0; preceding = 0; subordinate = 0; cs = pos 0; num 
 
 -- a record with one value replaced
 abbrev pub with_succeeding : ℕ → Process → Process
-with_succeeding v x =
-    record { succeeding = v; preceding = x.preceding; subordinate = x.subordinate; cs = x.cs; num = x.num; father = x.father; second = x.second }
+with_succeeding v x = record x { succeeding = v }
 
 abbrev pub with_preceding : ℕ → Process → Process
-with_preceding v x =
-    record { succeeding = x.succeeding; preceding = v; subordinate = x.subordinate; cs = x.cs; num = x.num; father = x.father; second = x.second }
+with_preceding v x = record x { preceding = v }
 
 abbrev pub with_subordinate : ℕ → Process → Process
-with_subordinate v x =
-    record { succeeding = x.succeeding; preceding = x.preceding; subordinate = v; cs = x.cs; num = x.num; father = x.father; second = x.second }
+with_subordinate v x = record x { subordinate = v }
 
 abbrev pub with_cs : ℤ → Process → Process
-with_cs v x =
-    record { succeeding = x.succeeding; preceding = x.preceding; subordinate = x.subordinate; cs = v; num = x.num; father = x.father; second = x.second }
+with_cs v x = record x { cs = v }
 
 abbrev pub with_num : ℕ → Process → Process
-with_num v x =
-    record { succeeding = x.succeeding; preceding = x.preceding; subordinate = x.subordinate; cs = x.cs; num = v; father = x.father; second = x.second }
+with_num v x = record x { num = v }
 
 abbrev pub with_father : ℕ → Process → Process
-with_father v x =
-    record { succeeding = x.succeeding; preceding = x.preceding; subordinate = x.subordinate; cs = x.cs; num = x.num; father = v; second = x.second }
+with_father v x = record x { father = v }
 
 abbrev pub with_second : ℤ → Process → Process
-with_second v x =
-    record { succeeding = x.succeeding; preceding = x.preceding; subordinate = x.subordinate; cs = x.cs; num = x.num; father = x.father; second = v }
+with_second v x = record x { second = v }
 
 -- 02, N3: "The second sum is passed on and zeroed with cs": both sums of a process, and both replaced
 abbrev pub sums_of : Process → TwoCounts
@@ -98,12 +93,16 @@ own_count o = bit (eqb o 0)
 abbrev pub Turn : Type 0
 Turn = Rattle.steps.specs.declared.Turn.Turn
 
+-- the acknowledgement to p with counts c, as what is sent
+abbrev pub acknowledgement : ℕ → TwoCounts → Option Reply
+acknowledgement p c = Some (record { to = p; counts = c })
+
 -- "If num is 0, father becomes p. Otherwise it acknowledges to p with cs, and cs becomes 0.", the second sum with it
 unfoldable pub rule1 : ℕ → Process → Turn
 rule1 p x =
     choose (eqb x.num 0)
-    (record { process = with_father p x; probes = Probes.Nothing; reply = Reply.Nothing })
-    (record { process = with_sums no_counts x; probes = Probes.Nothing; reply = To p (sums_of x) })
+    (record { process = with_father p x; sent = record { probes = Probes.Nothing; reply = None } })
+    (record { process = with_sums no_counts x; sent = record { probes = Probes.Nothing; reply = acknowledgement p (sums_of x) } })
 
 -- "A suc probe when not succeeding sets it, sends suc to all successors and adds their number to num."; 02, N3: "Such a process adds 1 when
 -- it first becomes succeeding"
@@ -111,14 +110,14 @@ unfoldable pub set_succeeding : ℕ → Turn → Turn
 set_succeeding o t =
     let x : Process = t.process in
     choose (eqb x.succeeding 0)
-    (record { process = with_second (x.second +ℤ pos (own_count o)) (with_num (x.num + o) (with_succeeding 1 x)); probes = Sucs; reply = t.reply })
+    (record { process = with_second (x.second +ℤ pos (own_count o)) (with_num (x.num + o) (with_succeeding 1 x)); sent = record t.sent { probes = Sucs } })
     t
 
 -- "A pre probe does the same with preceding and predecessors."
 unfoldable pub set_preceding : ℕ → Turn → Turn
 set_preceding i t =
     choose (eqb t.process.preceding 0)
-    (record { process = with_num (t.process.num + i) (with_preceding 1 t.process); probes = Pres; reply = t.reply })
+    (record { process = with_num (t.process.num + i) (with_preceding 1 t.process); sent = record t.sent { probes = Pres } })
     t
 
 -- "1 if succeeding and not preceding, else 0"
@@ -133,13 +132,13 @@ gained v x = x.cs +ℤ (pos v -ℤ pos x.subordinate)
 unfoldable pub rule3 : Turn → Turn
 rule3 t =
     let v : ℕ = new_subordinate t.process in
-    record { process = with_subordinate v (with_cs (gained v t.process) t.process); probes = t.probes; reply = t.reply }
+    record { process = with_subordinate v (with_cs (gained v t.process) t.process); sent = t.sent }
 
 -- "If num is 0 it acknowledges to father with cs, and cs becomes 0.", the second sum with it
 unfoldable pub rule4 : Turn → Turn
 rule4 t =
     choose (eqb t.process.num 0)
-    (record { process = with_sums no_counts t.process; probes = t.probes; reply = To t.process.father (sums_of t.process) })
+    (record { process = with_sums no_counts t.process; sent = record t.sent { reply = acknowledgement t.process.father (sums_of t.process) } })
     t
 
 -- both sums gain what an acknowledgement carries
@@ -148,7 +147,7 @@ gaining c x = record { count = x.cs +ℤ c.count; second = x.second +ℤ c.secon
 
 -- "cs gains c, num loses 1", and the second sum gains the second count
 unfoldable pub acknowledged : TwoCounts → Process → Turn
-acknowledged c x = record { process = with_num (x.num - 1) (with_sums (gaining c x) x); probes = Probes.Nothing; reply = Reply.Nothing }
+acknowledged c x = record { process = with_num (x.num - 1) (with_sums (gaining c x) x); sent = record { probes = Probes.Nothing; reply = None } }
 
 -- "Another process i receives a probe from p" (rules 1 to 4); "i receives acknowledgement c: cs gains c, num loses 1, then rule 4"
 unfoldable pub turn : Message → ℕ → ℕ → ℕ → Process → Turn
@@ -158,8 +157,8 @@ turn (Ack c) o i p x = rule4 (acknowledged c x)
 
 -- "s receives a probe: it acknowledges with 0", and with second count 0; "s receives acknowledgement c: cs gains c, num loses 1"
 unfoldable pub start_turn : Message → ℕ → Process → Turn
-start_turn Suc p x = record { process = x; probes = Probes.Nothing; reply = To p no_counts }
-start_turn Pre p x = record { process = x; probes = Probes.Nothing; reply = To p no_counts }
+start_turn Suc p x = record { process = x; sent = record { probes = Probes.Nothing; reply = acknowledgement p no_counts } }
+start_turn Pre p x = record { process = x; sent = record { probes = Probes.Nothing; reply = acknowledgement p no_counts } }
 start_turn (Ack c) p x = acknowledged c x
 
 -- "num loses 1" takes num out of its range if it is 0
@@ -169,13 +168,13 @@ num_suffices Pre x = true
 num_suffices (Ack c) x = leb 1 x.num
 
 -- the counts sent are in range, and nobody acknowledges to father 0
-unfoldable pub reply_fits : Reply → Bool
-reply_fits Reply.Nothing = true
-reply_fits (To p c) = leb 1 p && both_small c
+unfoldable pub reply_fits : Option Reply → Bool
+reply_fits None = true
+reply_fits (Some r) = leb 1 r.to && both_small r.counts
 
 -- 22, "the step would take a value out of its range, .. or acknowledge to father 0", is met if not
 unfoldable pub fitting : Message → Process → Turn → Bool
-fitting m x t = num_suffices m x && in_range t.process && reply_fits t.reply
+fitting m x t = num_suffices m x && in_range t.process && reply_fits t.sent.reply
 
 -- "record or count out of range, father over 128 or a degree over 128"
 unfoldable pub lent_in_range : Message → ℕ → ℕ → Process → Bool
@@ -189,15 +188,10 @@ step_number m o i p x =
     (choose (not (fitting m x (turn m o i p x))) 22
     0))
 
--- the answer with 01's number and values: 0 is the step itself, every other number a refusal
-unfoldable pub answer : ℕ → Turn → Stepped
-answer zero t = Taken t.process t.probes t.reply
-answer (suc n) t = Refused (suc n)
-
 -- one process's step by itself
-unfoldable pub stepped : Message → ℕ → ℕ → ℕ → Process → Stepped
-stepped m o i p x = answer (step_number m o i p x) (turn m o i p x)
+unfoldable pub stepped : Message → ℕ → ℕ → ℕ → Process → Result Turn Refusal
+stepped m o i p x = answered (step_number m o i p x) (turn m o i p x)
 
 -- the start's step: it names no degrees, and refuses only by 22
-unfoldable pub start_stepped : Message → ℕ → Process → Stepped
-start_stepped m p x = answer (choose (not (fitting m x (start_turn m p x))) 22 0) (start_turn m p x)
+unfoldable pub start_stepped : Message → ℕ → Process → Result Turn Refusal
+start_stepped m p x = answered (choose (not (fitting m x (start_turn m p x))) 22 0) (start_turn m p x)

@@ -3,14 +3,15 @@
 --   Plain x t         == rule 1 touches neither flags nor num, and sends no probe
 --   new_subordinate_both             == of two flags: the new subordinate, and 1 for both, are succeeding
 --   lent_needed, stepped_needed   == a step, and what it may refuse with 21, does not depend on a degree that it does not use
+--   acknowledgement_to, acknowledgement_counts, unanswered   == of what is sent: equal acknowledgements have one receiver and the same counts; none is not one
 --   own_count_small    == the 1 or 0 that a process adds to its second sum is a count in range
 --   inRange-P         == what `in_range x` says of the values of a record
 --   stepped_inside    == a step of what is in range, from a process: 22, or the turn
 -- Assumes nothing.
-use Rattle.std.specs.Prelude.{ℕ, zero, suc, ◌+◌, ◌*◌, ◌≤◌, Bool, true, not, ◌&&◌, ◌≡◌, refl, eqb, leb, nat_abs}
+use Rattle.std.specs.Prelude.{ℕ, zero, suc, ◌+◌, ◌*◌, ◌≤◌, Bool, true, not, ◌&&◌, ◌≡◌, refl, eqb, leb, nat_abs, None}
 use Rattle.std.proofs.Math.Bool.{false}
 use Rattle.std.proofs.Common.{leb-true, le-leb, ne_eqb, le-ltb}
-use Rattle.std.proofs.Math.Path.{ap}
+use Rattle.std.proofs.Math.Path.{ap, sym}
 use native.Mathlib.Omega.{arith}
 use Rattle.std.proofs.Math.IntN.{pos}
 use Rattle.base.specs.Choice.{choose, bit}
@@ -19,10 +20,12 @@ use Rattle.base.specs.Checks.{Same, same, apart, Tested, passed, failed}
 use Rattle.steps.specs.declared.Message.{Message}
 use Rattle.steps.specs.declared.Message.TheVariants.{Suc, Pre, Ack}
 use Rattle.steps.specs.declared.Process.{Process}
+use Rattle.steps.specs.declared.TwoCounts.{TwoCounts}
 use Rattle.tables.specs.Table.{most_processes}
-use Rattle.steps.specs.Step.{small, in_range, Turn, new_subordinate, rule1, set_succeeding, set_preceding, rule3, rule4, turn}
-use Rattle.steps.specs.Step.{most_count, most_num, own_count, lent_in_range, fitting, step_number, answer, stepped}
-use Rattle.steps.specs.Effect.{RecordInRange, sucs_of, pres_of}
+use Rattle.steps.specs.Step.{small, in_range, Turn, acknowledgement, new_subordinate, rule1, set_succeeding, set_preceding, rule3, rule4, turn}
+use Rattle.steps.specs.Step.{most_count, most_num, own_count, lent_in_range, fitting, step_number, stepped}
+use Rattle.refusals.specs.Numbers.{answered}
+use Rattle.steps.specs.Effect.{RecordInRange, sucs_of, pres_of, receiver, counts_replied}
 use Rattle.steps.specs.Effect.{both, out_needed, in_needed}
 
 -- ---- rule 1
@@ -112,9 +115,22 @@ stepped_needed m o i p x h k = rw (lent_needed m o i x h k, turn_needed m o i p 
 
 pub stepped_inside :
     (m : Message) (o i p : ℕ) (x : Process) → lent_in_range m o i x ≡ true → (p ≡ 0 → ⊥) → p ≤ most_processes →
-    stepped m o i p x ≡ answer (choose (not (fitting m x (turn m o i p x))) 22 0) (turn m o i p x)
+    stepped m o i p x ≡ answered (choose (not (fitting m x (turn m o i p x))) 22 0) (turn m o i p x)
 unfolding stepped step_number
 stepped_inside m o i p x e n h = rw (e, ne_eqb p 0 n, le-ltb most_processes p h)
+
+-- ---- an acknowledgement
+
+-- two acknowledgements that are one go to one process, with the same counts
+pub acknowledgement_to : {p q : ℕ} {c d : TwoCounts} → acknowledgement p c ≡ acknowledgement q d → q ≡ p
+acknowledgement_to r = sym (ap receiver r)
+
+pub acknowledgement_counts : {p q : ℕ} {c d : TwoCounts} → acknowledgement p c ≡ acknowledgement q d → c ≡ d
+acknowledgement_counts r = ap counts_replied r
+
+-- none is none to anybody
+pub unanswered : (p : ℕ) (c : TwoCounts) → None ≡ acknowledgement p c → ⊥
+unanswered p c r = let clash : ◌≡◌ {A = ℕ} 0 1 = cc in omega arith
 
 -- ---- a record in range
 

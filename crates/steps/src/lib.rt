@@ -5,32 +5,29 @@
 ghost use Rattle.std.specs.Prelude.{◌≡◌, pos};
 ghost use Rattle.steps.specs.Step.{small, both_small, in_range, count_small, own_count};
 
-// "cs (−128 to 128)": the largest sum, which is the largest count too
+// "cs (−128 to 128)": the largest sum, which is the largest count too; the least is as far below 0
 pub const MOST_COUNT: i32 = 128;
-
-// .. and the least
-pub const LEAST_COUNT: i32 = -MOST_COUNT;
 
 // "num (0 to 256)"
 pub const MOST_NUM: u32 = 256;
 
 // "Acknowledgements carry a second count .. of reachable processes that wait for nobody" (02, N3): the count, and the second one.
-#[derive(Clone, Copy)]
+#[derive(Clone, Copy, PartialEq, Eq, Default)]
 pub struct TwoCounts {
     pub count: i32,
     pub second: i32,
 }
 
 // A message: "a suc probe, a pre probe or an acknowledgement with its count", and its second count (02, N3).
-#[derive(Clone, Copy)]
+#[derive(Clone, Copy, PartialEq, Eq)]
 pub enum Message {
     Suc,
     Pre,
     Ack(TwoCounts),
 }
 
-// A process's record: "succeeding, preceding, subordinate .., cs .., num .. and father", and the second sum (02, N3).
-#[derive(Clone, Copy)]
+// A process's record: "succeeding, preceding, subordinate .., cs .., num .. and father", and the second sum (02, N3). "All values 0" by default.
+#[derive(Clone, Copy, PartialEq, Eq, Default)]
 pub struct Process {
     pub succeeding: u32,
     pub preceding: u32,
@@ -42,95 +39,79 @@ pub struct Process {
 }
 
 // The probes that a step broadcasts: suc to all successors, pre to all predecessors, or none.
-#[derive(Clone, Copy)]
+#[derive(Clone, Copy, PartialEq, Eq, Default)]
 pub enum Probes {
+    #[default]
     Nothing,
     Sucs,
     Pres,
 }
 
-// The acknowledgement that a step sends: to whom and with which counts, or none.
-#[derive(Clone, Copy)]
-pub enum Reply {
-    Nothing,
-    To { process: u32, counts: TwoCounts },
+// An acknowledgement that a step sends: to whom and with which counts.
+#[derive(Clone, Copy, PartialEq, Eq)]
+pub struct Reply {
+    pub to: u32,
+    pub counts: TwoCounts,
+}
+
+// What a step sends: "the probes to broadcast and the one acknowledgement to send", if there is one.
+#[derive(Clone, Copy, PartialEq, Eq)]
+pub struct Sent {
+    pub probes: Probes,
+    pub reply: Option<Reply>,
 }
 
 // What a step leaves: the process's new record and what it sends.
-#[derive(Clone, Copy)]
+#[derive(Clone, Copy, PartialEq, Eq)]
 pub struct Turn {
     pub process: Process,
-    pub probes: Probes,
-    pub reply: Reply,
-}
-
-// The answer of one process's step: its new record and what it sends, or the number of the refusal.
-#[derive(Clone, Copy)]
-pub enum Stepped {
-    Taken {
-        process: Process,
-        probes: Probes,
-        reply: Reply,
-    },
-    Refused(u32),
+    pub sent: Sent,
 }
 
 // "The count may be negative (−128 to 128)"
+#[tactic(auto, using(crate::proofs::Counts::small_back), unfolding(crate::specs::Step::small))]
 fn is_small(count: i32) -> bool
     ensures { result ≡ small count }
 {
-    if count < LEAST_COUNT {
-        return false;
-    }
-    count <= MOST_COUNT
+    count.unsigned_abs() <= MOST_COUNT as u32
 }
 
 // "it and the second count have cs's range" (02, N3)
+#[tactic(auto, using(crate::proofs::Counts::small_back), unfolding(crate::specs::Step::both_small))]
 pub fn are_both_small(counts: TwoCounts) -> bool
     ensures { result ≡ both_small counts }
 {
-    if !is_small(counts.count) {
-        return false;
-    }
-    is_small(counts.second)
+    is_small(counts.count) && is_small(counts.second)
 }
 
 // "Such a process adds 1" (02, N3): 1 for a process that waits for nobody.
+#[tactic(auto, unfolding(crate::specs::Step::own_count))]
 pub fn own_count(out_degree: u32) -> i32
     ensures { result ≡ pos (own_count out_degree) }
 {
-    if out_degree == 0 { 1 } else { 0 }
+    i32::from(out_degree == 0)
 }
 
 // "succeeding, preceding, subordinate (0 or 1 each), cs (−128 to 128), num (0 to 256)", and the second sum in cs's range
+#[tactic(auto, using(crate::proofs::Counts::small_back), unfolding(crate::specs::Step::in_range))]
 pub fn is_in_range(process: Process) -> bool
     ensures { result ≡ in_range process }
 {
-    if process.succeeding > 1 {
-        return false;
-    }
-    if process.preceding > 1 {
-        return false;
-    }
-    if process.subordinate > 1 {
-        return false;
-    }
-    if !is_small(process.cs) {
-        return false;
-    }
-    if process.num > MOST_NUM {
-        return false;
-    }
-    is_small(process.second)
+    process.succeeding <= 1
+        && process.preceding <= 1
+        && process.subordinate <= 1
+        && is_small(process.cs)
+        && process.num <= MOST_NUM
+        && is_small(process.second)
 }
 
 // A probe has no count to be out of range.
+#[tactic(auto, unfolding(crate::specs::Step::count_small))]
 pub fn is_count_small(message: Message) -> bool
     ensures { result ≡ count_small message }
 {
     match message {
-        Message::Suc => true,
-        Message::Pre => true,
+        Message::Suc | Message::Pre => true,
         Message::Ack(counts) => are_both_small(counts),
     }
 }

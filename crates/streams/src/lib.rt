@@ -2,9 +2,10 @@
 // promises speak of them; standard input and output do not, and of these they say nothing.
 #![tactic(auto)]
 
-ghost use Rattle.std.specs.Prelude.{◌≡◌, ◌≤◌, ◌<◌, length, take, IfOk, OnOk, IfSome};
+ghost use Rattle.std.specs.Prelude.{◌≡◌, ◌≤◌, ◌<◌, length, take, IfOk, OnOk, IfSome, IsTrue, IsFalse, true, false};
 ghost use Rattle.std.specs.Fmt.{decimal};
 ghost use Rattle.std.specs.Io.KnownBytes.{Appends, Consumes, IsAtEnd};
+ghost use Rattle.streams.specs.Cases.{word_at};
 
 use std::io;
 use std::io::{Read, Write};
@@ -30,6 +31,7 @@ pub fn read_full<R: Read>(from: &mut R, bytes: &mut [u8]) -> io::Result<usize>
     ensures ended { IfOk result (λ n. n < length bytes.new → IsAtEnd (R.remaining from.new)) }
 {
     let mut done = 0;
+    // Stays: each turn goes on by as many bytes as the reader gave, so there is no slice or range to go over.
     while done < bytes.len() {
         let got = from.read(&mut bytes[done..])?;
         if got == 0 {
@@ -38,4 +40,45 @@ pub fn read_full<R: Read>(from: &mut R, bytes: &mut [u8]) -> io::Result<usize>
         done += got;
     }
     Ok(done)
+}
+
+// Fills the bytes with what follows a heading, and gives whether it did. If the input ends before, a last line says so.
+pub fn rest_of_case<R: Read, W: Write>(
+    from: &mut R,
+    to: &mut W,
+    rest: &mut [u8],
+) -> io::Result<bool>
+    ensures whole { IfOk result (λ whole. whole ≡ true → Consumes (R.remaining from.old) (R.remaining from.new) rest.new) }
+    ensures silent { IfOk result (λ whole. whole ≡ true → to.new ≡ to.old) }
+    ensures ended { IfOk result (λ whole. whole ≡ false → IsAtEnd (R.remaining from.new)) }
+{
+    let got = read_full(from, rest)?;
+    let whole = got == rest.len();
+    if !whole {
+        print(to, b"input ends early\n")?;
+    }
+    Ok(whole)
+}
+
+// Fills the bytes with the next case of the input, or with its heading, and gives whether it did: not at the input's end. If bytes are left that fill
+// none, a last line says so.
+pub fn next_case<R: Read, W: Write>(from: &mut R, to: &mut W, case: &mut [u8]) -> io::Result<bool>
+    ensures whole { IfOk result (λ whole. whole ≡ true → Consumes (R.remaining from.old) (R.remaining from.new) case.new) }
+    ensures silent { IfOk result (λ whole. whole ≡ true → to.new ≡ to.old) }
+    ensures ended { IfOk result (λ whole. whole ≡ false → IsAtEnd (R.remaining from.new)) }
+{
+    let got = read_full(from, case)?;
+    let whole = got == case.len();
+    if 0 < got && !whole {
+        print(to, b"input ends early\n")?;
+    }
+    Ok(whole)
+}
+
+// Word k of a case, counted from 0, of four bytes, low byte first; 0 if the case has no such word.
+pub fn word(case: &[u8], k: usize) -> u32
+    ensures { result ≡ word_at case.now k }
+{
+    let (words, _) = case.as_chunks();
+    words.get(k).map_or(0, |bytes| u32::from_le_bytes(*bytes))
 }

@@ -1,64 +1,48 @@
 -- Laws on the answer of reading a table, one for each way that the code goes.
---   reading_of_1, reading_of_2, reading_of_3   == refused by checks 1 to 3
---   reading_of_4, reading_of_0     == refused by checks 4 to 7, or accepted
+--   reading_short, reading_sizes, reading_length   == refused by checks 1 to 3
+--   reading_refused    == refused by one of checks 4 to 7
+--   reading_accepted   == no check refuses
 -- Assumes nothing.
-use Prim.Native.Nat.{ℕ, zero, suc, ◌≤◌, ◌<◌}
-use mathlib.Core.Bool.{true, false}
-use mathlib.Core.List.{List}
-use mathlib.Core.Path.{◌≡◌, refl, sym, ap, ◌∙◌}
-use native.Mathlib.Omega.{arith}
-use lib.ListN.{length}
-use Rattle.tables.specs.declared.Reading.{Reading}
-use Rattle.tables.specs.Table.{Fields, field_of, n_of, m_of, most_processes, most_arcs, SizesFit, table_length}
-use Rattle.tables.specs.TableLaws.{sizes_fit_not}
-use Rattle.tables.specs.Layout.{Sizes}
-use Rattle.tables.specs.Reading.{sizes_right, fields_number, read_number, answer, reading_of}
+use Rattle.std.specs.Prelude.{ℕ, ◌≤◌, ◌<◌, true, false, List, Result, Ok, Err, ◌≡◌, length}
+use Rattle.std.proofs.Common.{sym, ap, ◌∙◌, arith}
+use Rattle.refusals.specs.declared.Refusal.{Refusal}
+use Rattle.refusals.specs.Numbers.{answered}
+use Rattle.refusals.specs.NumberLaws.{answered_ok, passed_on}
+use Rattle.tables.specs.declared.Sizes.{Sizes}
+use Rattle.tables.specs.Table.{field_of, n_of, m_of, sizes_of, sizes_fit, table_length}
+use Rattle.tables.specs.Reading.{sizes_right, fields_number, read_number, reading_of}
 use Rattle.tables.specs.ReadingLaws.{read_number_1, read_number_2, read_number_3, read_number_4}
-use Rattle.tables.specs.LayoutLaws.{sizes_right_P}
-
-answer_refused : (q r n m : ℕ) → r ≡ q → (r ≡ 0 → ⊥) → Reading.Refused r ≡ answer q n m
-unfolding answer
-answer_refused zero r n m e d = absurd (d e)
-answer_refused (suc q) r n m e d = ap Reading.Refused e
-
-answer_accepted : (q n m : ℕ) → q ≡ 0 → Reading.Accepted n m ≡ answer q n m
-unfolding answer
-answer_accepted zero n m e = refl
-answer_accepted (suc q) n m e = absurd (omega arith)
-
-sizes_not : (t : Fields) → (Sizes t → ⊥) → sizes_right t ≡ false
-unfolding sizes_right
-sizes_not t h = sizes_fit_not (n_of t) (m_of t) h
 
 module _ (bs : List ℕ) where
-  refused : (r : ℕ) → read_number bs ≡ r → (r ≡ 0 → ⊥) → Reading.Refused r ≡ reading_of bs
+  answer : (r : ℕ) → read_number bs ≡ r → answered r (sizes_of (field_of bs)) ≡ reading_of bs
   unfolding reading_of
-  refused r e d = answer_refused (read_number bs) r (n_of (field_of bs)) (m_of (field_of bs)) (sym e) d
+  answer r e = ap (λ (q : ℕ). answered q (sizes_of (field_of bs))) (sym e)
 
-  accepted : read_number bs ≡ 0 → Reading.Accepted (n_of (field_of bs)) (m_of (field_of bs)) ≡ reading_of bs
-  unfolding reading_of
-  accepted e = answer_accepted (read_number bs) (n_of (field_of bs)) (m_of (field_of bs)) e
-
-  pub reading_of_1 : length bs < 4 → Reading.Refused 1 ≡ reading_of bs
-  reading_of_1 h = refused 1 (read_number_1 bs h) (λ e. omega arith)
+  pub reading_short : length bs < 4 → Err Refusal.TableShort ≡ reading_of bs
+  reading_short h = answer 1 (read_number_1 bs h)
 
   module _ (long : 4 ≤ length bs) (n m : ℕ) (en : n ≡ n_of (field_of bs)) (em : m ≡ m_of (field_of bs)) where
-    pub reading_of_2 : (SizesFit n m → ⊥) → Reading.Refused 2 ≡ reading_of bs
-    reading_of_2 h = refused 2 (read_number_2 bs long (sizes_not (field_of bs) (λ s. h (omega arith, omega arith, omega arith)))) (λ e. omega arith)
+    pub reading_sizes : false ≡ sizes_fit n m → Err Refusal.Sizes ≡ reading_of bs
+    unfolding sizes_right
+    reading_sizes f = answer 2 (read_number_2 bs long (sym (rw (en, em) at f)))
 
-    module _ (l : n ≡ 0 → ⊥) (u : n ≤ most_processes) (h : m ≤ most_arcs) where
-      sizes : sizes_right (field_of bs) ≡ true
-      sizes = (sizes_right_P (field_of bs)).1 (omega arith, omega arith, omega arith)
+    module _ (f : true ≡ sizes_fit n m) where
+      fit : sizes_right (field_of bs) ≡ true
+      unfolding sizes_right
+      fit = sym (rw (en, em) at f)
 
-      pub reading_of_3 : (length bs ≡ table_length n m → ⊥) → Reading.Refused 3 ≡ reading_of bs
-      reading_of_3 d = refused 3 (read_number_3 bs long sizes (λ e. d (omega arith))) (λ e. omega arith)
+      pub reading_length : (length bs ≡ table_length n m → ⊥) → Err Refusal.TableLength ≡ reading_of bs
+      reading_length d = answer 3 (read_number_3 bs long fit (λ e. d (omega arith)))
 
-      module _ (e : length bs ≡ table_length n m) (r : ℕ) (er : r ≡ fields_number (field_of bs)) where
-        number : read_number bs ≡ r
-        number = read_number_4 bs long sizes (omega arith) ∙ sym er
+      module _ (e : length bs ≡ table_length n m) where
+        here : answered (fields_number (field_of bs)) (record { n = n; m = m }) ≡ reading_of bs
+        here =
+            ap {A = Sizes} (answered (fields_number (field_of bs))) (λ i. record { n = en i; m = em i })
+            ∙ answer (fields_number (field_of bs)) (read_number_4 bs long fit (omega arith))
 
-        pub reading_of_4 : (r ≡ 0 → ⊥) → Reading.Refused r ≡ reading_of bs
-        reading_of_4 d = refused r number d
+        module _ (w : Result (Unit {0}) Refusal) (ew : w ≡ answered (fields_number (field_of bs)) tt) where
+          pub reading_refused : (r : Refusal) → w ≡ Err r → Err r ≡ reading_of bs
+          reading_refused r f = passed_on (fields_number (field_of bs)) tt _ (sym ew ∙ f) ∙ here
 
-        pub reading_of_0 : r ≡ 0 → Reading.Accepted n m ≡ reading_of bs
-        reading_of_0 z = ap (λ (i : ℕ). Reading.Accepted i m) en ∙ ap (λ (i : ℕ). Reading.Accepted (n_of (field_of bs)) i) em ∙ accepted (number ∙ z)
+          pub reading_accepted : (u : Unit {0}) → w ≡ Ok u → Ok (record { n = n; m = m }) ≡ reading_of bs
+          reading_accepted u f = ap (λ (q : ℕ). answered q (record { n = n; m = m })) (sym (answered_ok (fields_number (field_of bs)) tt (sym ew ∙ f)).0) ∙ here

@@ -12,7 +12,7 @@ use lib.Dec.{eqb}
 use Rattle.base.specs.ChoiceLaws.{same?}
 use Rattle.base.specs.Checks.{Same, same, apart}
 use Rattle.tables.specs.declared.Chain.{Chain}
-use Rattle.table_reader.specs.declared.ArcsLeft.{ArcsLeft}
+use Rattle.std.specs.Prelude.{Option, Some, None}
 use Rattle.tables.specs.Table.{Fields, n_of, m_of, first, arc_at, near, next}
 use Rattle.tables.specs.Reading.{Left, left, wrong, walked, then_walked, walked_to, none_left, chains_right}
 use Rattle.table_reader.specs.Inner.{arcs_left_of}
@@ -50,11 +50,11 @@ module _ (c : Chain) (t : Fields) (p : ℕ) where
 
 -- ---- all chains in turn
 
-arcs_left_of_left : (w : Left) (l : ℕ) → arcs_left_of w ≡ ArcsLeft.Left l → w ≡ left l
+arcs_left_of_left : (w : Left) (l : ℕ) → arcs_left_of w ≡ Some l → w ≡ left l
 arcs_left_of_left (left j) l e = cc
 arcs_left_of_left wrong l e = absurd (let z : ◌≡◌ {A = ℕ} 0 1 = cc in omega arith)
 
-arcs_left_of_wrong : (w : Left) → arcs_left_of w ≡ ArcsLeft.Wrong → w ≡ wrong
+arcs_left_of_wrong : (w : Left) → arcs_left_of w ≡ None → w ≡ wrong
 arcs_left_of_wrong (left j) e = absurd (let z : ◌≡◌ {A = ℕ} 0 1 = cc in omega arith)
 arcs_left_of_wrong wrong e = refl
 
@@ -85,16 +85,16 @@ module _ (c : Chain) (t : Fields) where
       at (same e _) below = ap (walked_to c t) (sym e) ∙ h
       at (apart e _) below = walked_to_suc n ∙ ap (then_walked c t (suc n)) (below (omega arith))
 
-  module _ (p l : ℕ) (low : 1 ≤ p) (before : walked_to c t (p - 1) ≡ left l) (w : ArcsLeft) (ew : w ≡ arcs_left_of (walked c t p l (first c t p))) where
+  module _ (p l : ℕ) (low : 1 ≤ p) (before : walked_to c t (p - 1) ≡ left l) (w : Option ℕ) (ew : w ≡ arcs_left_of (walked c t p l (first c t p))) where
     here : walked_to c t p ≡ walked c t p l (first c t p)
     here = on p (p - 1) l (omega arith) before
 
-    pub walked_to_more : (j : ℕ) → w ≡ ArcsLeft.Left j → walked_to c t (p + 1 - 1) ≡ left j
+    pub walked_to_more : (j : ℕ) → w ≡ Some j → walked_to c t (p + 1 - 1) ≡ left j
     walked_to_more j e =
         let next : p + 1 - 1 ≡ p = omega arith in
         ap (walked_to c t) next ∙ here ∙ arcs_left_of_left (walked c t p l (first c t p)) j (sym ew ∙ e)
 
-    pub chains_right_stop : p ≤ n_of t → w ≡ ArcsLeft.Wrong → chains_right c t ≡ false
+    pub chains_right_stop : p ≤ n_of t → w ≡ None → chains_right c t ≡ false
     unfolding chains_right
     chains_right_stop u e = ap none_left (stuck (n_of t) p u (here ∙ arcs_left_of_wrong (walked c t p l (first c t p)) (sym ew ∙ e)))
 

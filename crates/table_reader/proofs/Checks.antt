@@ -6,9 +6,9 @@
 --   first_low, next_low     == what check 5 tells of each process, and of each arc
 -- Assumes nothing.
 use Prim.Native.Nat.{ℕ, ◌≤◌, ◌<◌}
-use mathlib.Core.Bool.{Bool, true, false, not, ◌&&◌}
+use mathlib.Core.Bool.{true, false, ◌&&◌}
 use mathlib.Core.Path.{◌≡◌, ◌∙◌}
-use borrow.Author.Tests.{le-leb, lt-leb, leb-true, not-true, not-false}
+use borrow.Author.Tests.{le-leb, lt-leb, leb-true}
 use lib.Dec.{leb}
 use Rattle.base.specs.ChoiceLaws.{and_left, and_right}
 use Rattle.base.specs.SumLaws.{all_to_at}
@@ -29,16 +29,14 @@ module _ (t : Fields) (n k : ℕ) (a : Arc) (en : n ≡ n_of t) (ea : a ≡ arc_
   unfolding ends_right
   ends_parts = rw (en, ea)
 
-  pub ends_right_from : (b : Bool) → b ≡ is_process n a.from → not b ≡ true → ends_right t k ≡ false
-  ends_right_from b eb h = ends_parts ∙ rw (← eb, not-true b h)
+  pub ends_right_from : false ≡ is_process n a.from → ends_right t k ≡ false
+  ends_right_from e = ends_parts ∙ rw (← e)
 
-  pub ends_right_to :
-      (b d : Bool) → b ≡ is_process n a.from → not b ≡ false → d ≡ is_process n a.to → not d ≡ true → ends_right t k ≡ false
-  ends_right_to b d eb h ed g = ends_parts ∙ rw (← eb, not-false b h, ← ed, not-true d g)
+  pub ends_right_to : true ≡ is_process n a.from → false ≡ is_process n a.to → ends_right t k ≡ false
+  ends_right_to e f = ends_parts ∙ rw (← e, ← f)
 
-  pub ends_right_both :
-      (b d : Bool) → b ≡ is_process n a.from → not b ≡ false → d ≡ is_process n a.to → not d ≡ false → ends_right t k ≡ true
-  ends_right_both b d eb h ed g = ends_parts ∙ rw (← eb, not-false b h, ← ed, not-false d g)
+  pub ends_right_both : true ≡ is_process n a.from → true ≡ is_process n a.to → ends_right t k ≡ true
+  ends_right_both e f = ends_parts ∙ rw (← e, ← f)
 
 -- what check 4 tells of an arc
 pub ends_in : (t : Fields) (k : ℕ) → ends_right t k ≡ true → Ends t k

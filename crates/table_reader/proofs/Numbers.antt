@@ -1,45 +1,50 @@
--- Laws on the number of checks 4 to 7, one for each way that the code goes.
---   fields_number_ends, fields_number_firsts, fields_number_nexts, fields_number_out, fields_number_in, fields_number_alike   == the first that fails
---   fields_number_none   == none fails
+-- Laws on the answer of checks 4 to 7, one for each way that the code goes.
+--   Says k t       == the answer of checks that come to k is that for the fields
+--   says_ends, says_firsts, says_nexts, says_out, says_in, says_alike   == the first check that fails
+--   says_none      == none fails
 -- Assumes nothing.
-use Prim.Native.Nat.{ℕ}
-use mathlib.Core.Bool.{true, false}
-use mathlib.Core.Path.{◌≡◌}
+use Rattle.std.specs.Prelude.{ℕ, true, false, Result, ◌≡◌}
 use Rattle.base.specs.Sums.{all_to}
+use Rattle.refusals.specs.declared.Refusal.{Refusal}
+use Rattle.refusals.specs.Numbers.{answered}
 use Rattle.tables.specs.declared.Chain.TheVariants.{Out, In}
 use Rattle.tables.specs.Table.{Fields, n_of, m_of}
 use Rattle.tables.specs.Reading.{ends_right, firsts_right, nexts_right, chains_right, unlike_before, fields_number}
 
+abbrev pub Says : ℕ → Fields → Type 0
+Says k t = ◌≡◌ {A = Result (Unit {0}) Refusal} (answered k tt) (answered (fields_number t) tt)
+
+-- the tests of the fields t of a table with N n and M m, as the code makes them
 module _ (t : Fields) (n m : ℕ) (en : n ≡ n_of t) (em : m ≡ m_of t) where
-  pub fields_number_ends : all_to m (ends_right t) ≡ false → 4 ≡ fields_number t
+  pub says_ends : false ≡ all_to m (ends_right t) → Says 4 t
   unfolding fields_number
-  fields_number_ends e4 = rw (← em, e4)
+  says_ends e0 = rw (← en, ← em, ← e0)
 
-  module _ (e4 : all_to m (ends_right t) ≡ true) where
-    pub fields_number_firsts : all_to n (firsts_right t) ≡ false → 5 ≡ fields_number t
+  module _ (e0 : true ≡ all_to m (ends_right t)) where
+    pub says_firsts : false ≡ all_to n (firsts_right t) → Says 5 t
     unfolding fields_number
-    fields_number_firsts e5 = rw (← en, ← em, e4, e5)
+    says_firsts e1 = rw (← en, ← em, ← e0, ← e1)
 
-    module _ (e5 : all_to n (firsts_right t) ≡ true) where
-      pub fields_number_nexts : all_to m (nexts_right t) ≡ false → 5 ≡ fields_number t
+    module _ (e1 : true ≡ all_to n (firsts_right t)) where
+      pub says_nexts : false ≡ all_to m (nexts_right t) → Says 5 t
       unfolding fields_number
-      fields_number_nexts e5' = rw (← en, ← em, e4, e5, e5')
+      says_nexts e2 = rw (← en, ← em, ← e0, ← e1, ← e2)
 
-      module _ (e5' : all_to m (nexts_right t) ≡ true) where
-        pub fields_number_out : chains_right Out t ≡ false → 6 ≡ fields_number t
+      module _ (e2 : true ≡ all_to m (nexts_right t)) where
+        pub says_out : false ≡ chains_right Out t → Says 6 t
         unfolding fields_number
-        fields_number_out e6 = rw (← en, ← em, e4, e5, e5', e6)
+        says_out e3 = rw (← en, ← em, ← e0, ← e1, ← e2, ← e3)
 
-        module _ (e6 : chains_right Out t ≡ true) where
-          pub fields_number_in : chains_right In t ≡ false → 6 ≡ fields_number t
+        module _ (e3 : true ≡ chains_right Out t) where
+          pub says_in : false ≡ chains_right In t → Says 6 t
           unfolding fields_number
-          fields_number_in e6' = rw (← en, ← em, e4, e5, e5', e6, e6')
+          says_in e4 = rw (← en, ← em, ← e0, ← e1, ← e2, ← e3, ← e4)
 
-          module _ (e6' : chains_right In t ≡ true) where
-            pub fields_number_alike : all_to m (unlike_before t) ≡ false → 7 ≡ fields_number t
+          module _ (e4 : true ≡ chains_right In t) where
+            pub says_alike : false ≡ all_to (m_of t) (unlike_before t) → Says 7 t
             unfolding fields_number
-            fields_number_alike e7 = rw (← en, ← em, e4, e5, e5', e6, e6', e7)
+            says_alike e5 = rw (← e5, ← en, ← em, ← e0, ← e1, ← e2, ← e3, ← e4)
 
-            pub fields_number_none : all_to m (unlike_before t) ≡ true → 0 ≡ fields_number t
+            pub says_none : true ≡ all_to (m_of t) (unlike_before t) → Says 0 t
             unfolding fields_number
-            fields_number_none e7 = rw (← en, ← em, e4, e5, e5', e6, e6', e7)
+            says_none e5 = rw (← e5, ← en, ← em, ← e0, ← e1, ← e2, ← e3, ← e4)

@@ -16,17 +16,15 @@
 // no whole case, `input ends early` is the last line. No case is refused for its length: any 16 bits will do.
 //
 // The program promises only that it is safe and ends: what it prints is held to the file stdout, which tools/table_vectors.py makes
-// with the file stdin. It stands on those three, on `walk_output`, which prints the walks, and on `streams`. A part of an
-// array is written from 0, `[0..end]`, which asks only for the bounds.
+// with the file stdin. It stands on those three, on `walk_output`, which prints the walks, and on `streams`.
 #![tactic(auto)]
 
 ghost use Rattle.std.specs.Prelude.{◌≤◌, length};
 
+use refusals::Refusal;
 use std::io;
 use std::io::{Read, Write};
-use table_writer::Writing;
-use tables::Reading;
-use walk_output::output::{print, print_number};
+use tables::Sizes;
 use walk_output::walking::{print_both, print_steps, print_walks};
 
 // What every byte of an output holds before a table is written into it.
@@ -35,202 +33,135 @@ const MARK: u8 = 165;
 // The most arcs that are printed one by one.
 const FEW: usize = 16;
 
-// What stands next in the input: the kind of a case with the number of its bytes, too few bytes for that, or nothing.
-#[derive(Clone, Copy)]
-enum Heading {
-    Case(u8, u16),
-    Short,
-    End,
-}
-
-// 16 bits, unsigned, low byte first.
-fn word(low: u8, high: u8) -> u16 {
-    low as u16 + 256 * (high as u16)
-}
-
 // The entries in the bytes, put at the front of the list, as many as it holds; gives their number.
 fn entries(s: &[u8], list: &mut [u16]) -> usize
     ensures { result ≤ length list.new }
 {
-    let mut k = 0;
-    while k < list.len() {
-        if s.len() / 2 <= k {
-            break;
-        }
-        list[k] = word(s[2 * k], s[2 * k + 1]);
-        k += 1;
+    let (pairs, _) = s.as_chunks::<2>();
+    for (entry, pair) in list.iter_mut().zip(pairs) {
+        *entry = u16::from_le_bytes(*pair);
     }
-    k
+    pairs.len().min(list.len())
 }
 
-// Whether every byte from that place on still holds the mark.
-fn is_kept(s: &[u8], from: usize) -> bool {
-    let mut i = from;
-    while i < s.len() {
-        if s[i] != MARK {
-            return false;
-        }
-        i += 1;
-    }
-    true
+// Whether every byte still holds the mark.
+fn is_kept(s: &[u8]) -> bool {
+    s.iter().all(|byte| *byte == MARK)
 }
 
 // The Adler-32 of the bytes.
 fn checksum(s: &[u8]) -> u64 {
     let mut a: u64 = 1;
     let mut b: u64 = 0;
-    let mut i = 0;
-    while i < s.len() {
-        a = (a + s[i] as u64) % 65521;
+    for byte in s {
+        a = (a + u64::from(*byte)) % 65521;
         b = (b + a) % 65521;
-        i += 1;
     }
     65536 * b + a
 }
 
 fn print_kept<W: Write>(to: &mut W, is_kept: bool) -> io::Result<()> {
     if is_kept {
-        print(to, b" kept\n")
+        writeln!(to, " kept")
     } else {
-        print(to, b" changed\n")
+        writeln!(to, " changed")
     }
 }
 
-fn print_accepted<W: Write>(to: &mut W, n: usize, m: usize) -> io::Result<()> {
-    print(to, b"read accepted ")?;
-    print_number(to, n as u64)?;
-    print(to, b" ")?;
-    print_number(to, m as u64)?;
-    print(to, b"\n")
-}
-
-fn print_refused<W: Write>(to: &mut W, number: u32) -> io::Result<()> {
-    print(to, b"read refused ")?;
-    print_number(to, number as u64)?;
-    print(to, b"\n")
+// Prints the answer of reading.
+fn print_answer<W: Write>(to: &mut W, answer: Result<Sizes, Refusal>) -> io::Result<()> {
+    match answer {
+        Ok(Sizes { n, m }) => writeln!(to, "read accepted {n} {m}"),
+        Err(refusal) => writeln!(to, "read refused {}", u32::from(refusal)),
+    }
 }
 
 // Prints the answer of reading the bytes, the walks along their chains and the steps from their arcs.
 fn print_reading<W: Write>(to: &mut W, s: &[u8]) -> io::Result<()> {
-    match table_reader::read(s) {
-        Reading::Accepted { n, m } => {
-            print_accepted(to, n, m)?;
-            print_walks(to, s, n)?;
-        }
-        Reading::Refused(number) => {
-            print_refused(to, number)?;
-            print_both(to, s, 1)?;
-        }
+    let answer = table_reader::read(s);
+    print_answer(to, answer)?;
+    match answer {
+        Ok(sizes) => print_walks(to, s, sizes.n)?,
+        Err(_) => print_both(to, s, 1)?,
     }
     print_steps(to, s)
 }
 
 // Prints the ends of arc k, or nothing if the bytes have no such arc.
 fn print_arc<W: Write>(to: &mut W, s: &[u8], k: usize) -> io::Result<()> {
-    if s.len() < 4 {
+    if s.len() < 4 || k == 0 {
         return Ok(());
     }
-    if k == 0 {
+    let up_to_it = Sizes {
+        n: table_reader::field(s, 0),
+        m: k,
+    };
+    if !up_to_it.fit() || s.len() < up_to_it.table_length() {
         return Ok(());
     }
-    if 512 < k {
-        return Ok(());
-    }
-    let n = table_reader::field(s, 0);
-    if 128 < n {
-        return Ok(());
-    }
-    if s.len() < 4 + 4 * n + 8 * k {
-        return Ok(());
-    }
-    let arc = table_reader::arc_at(s, n, k);
-    print(to, b"arc ")?;
-    print_number(to, k as u64)?;
-    print(to, b": ")?;
-    print_number(to, arc.from as u64)?;
-    print(to, b" ")?;
-    print_number(to, arc.to as u64)?;
-    print(to, b"\n")
-}
-
-fn print_arcs<W: Write>(to: &mut W, s: &[u8], m: usize) -> io::Result<()> {
-    for k in 1..=m {
-        print_arc(to, s, k)?;
-    }
-    Ok(())
+    let arc = table_reader::arc_at(s, up_to_it.n, k);
+    writeln!(to, "arc {k}: {} {}", arc.from, arc.to)
 }
 
 // Prints the table in the bytes as it is read back.
 fn print_table<W: Write>(to: &mut W, s: &[u8]) -> io::Result<()> {
-    match table_reader::read(s) {
-        Reading::Accepted { n, m } => {
-            print_accepted(to, n, m)?;
-            if m <= FEW {
-                print_arcs(to, s, m)?;
-                print_walks(to, s, n)?;
-            }
-            Ok(())
+    let answer = table_reader::read(s);
+    print_answer(to, answer)?;
+    if let Ok(Sizes { n, m }) = answer
+        && m <= FEW
+    {
+        for k in 1..=m {
+            print_arc(to, s, k)?;
         }
-        Reading::Refused(number) => print_refused(to, number),
+        print_walks(to, s, n)?;
     }
+    Ok(())
 }
 
 // Prints the answer of writing into the output.
-fn print_writing<W: Write>(to: &mut W, answer: Writing, out: &[u8]) -> io::Result<()> {
+fn print_writing<W: Write>(
+    to: &mut W,
+    answer: Result<usize, Refusal>,
+    out: &[u8],
+) -> io::Result<()> {
     match answer {
-        Writing::Refused(number) => {
-            print(to, b"write refused ")?;
-            print_number(to, number as u64)?;
-            print_kept(to, is_kept(out, 0))
+        Err(refusal) => {
+            write!(to, "write refused {}", u32::from(refusal))?;
+            print_kept(to, is_kept(out))
         }
-        Writing::Written(length) => {
-            print(to, b"write ")?;
-            print_number(to, length as u64)?;
+        Ok(length) => {
+            write!(to, "write {length}")?;
             if out.len() < length {
-                return print(to, b" past the output\n");
+                return writeln!(to, " past the output");
             }
-            print_kept(to, is_kept(out, length))?;
-            print_table(to, &out[0..length])?;
-            print(to, b"sum ")?;
-            print_number(to, checksum(out))?;
-            print(to, b"\n")
+            print_kept(to, is_kept(&out[length..]))?;
+            print_table(to, &out[..length])?;
+            writeln!(to, "sum {}", checksum(out))
         }
     }
 }
 
-// Writes the table of n processes and of the list's pairs into the output.
-fn write_into<W: Write>(to: &mut W, n: usize, list: &[u16], out: &mut [u8]) -> io::Result<()> {
+// Writes the table of n processes and of the list's pairs into an output of that many marks.
+fn write_list<W: Write>(to: &mut W, n: usize, list: &[u16], space: u16) -> io::Result<()> {
+    let mut room = [MARK; 65536];
+    let out = &mut room[..usize::from(space)];
     let answer = table_writer::write(n, list, out);
     print_writing(to, answer, out)
 }
 
-// The same, into an output of that many marks.
-fn write_list<W: Write>(to: &mut W, n: usize, list: &[u16], space: u16) -> io::Result<()> {
-    let mut room = [MARK; 65536];
-    let end = space as usize;
-    write_into(to, n, list, &mut room[0..end])
-}
-
 fn no_such_case<W: Write>(to: &mut W) -> io::Result<()> {
-    print(to, b"no such case\n")
-}
-
-fn ends_early<W: Write>(to: &mut W) -> io::Result<()> {
-    print(to, b"input ends early\n")
+    writeln!(to, "no such case")
 }
 
 fn write_case<W: Write>(to: &mut W, s: &[u8]) -> io::Result<()> {
-    if s.len() < 4 {
+    if s.len() < 4 || s.len() % 2 != 0 {
         return no_such_case(to);
     }
-    if s.len() % 2 != 0 {
-        return no_such_case(to);
-    }
-    let n = word(s[0], s[1]) as usize;
-    let space = word(s[2], s[3]);
+    let n = usize::from(u16::from_le_bytes([s[0], s[1]]));
+    let space = u16::from_le_bytes([s[2], s[3]]);
     let mut list = [0u16; 32768];
     let count = entries(&s[4..], &mut list);
-    write_list(to, n, &list[0..count], space)
+    write_list(to, n, &list[..count], space)
 }
 
 fn run_case<W: Write>(to: &mut W, kind: u8, s: &[u8]) -> io::Result<()> {
@@ -241,56 +172,20 @@ fn run_case<W: Write>(to: &mut W, kind: u8, s: &[u8]) -> io::Result<()> {
     }
 }
 
-fn next_heading<R: Read>(from: &mut R) -> io::Result<Heading> {
-    let mut head = [0u8; 3];
-    let got = streams::read_full(from, &mut head)?;
-    if got == 0 {
-        return Ok(Heading::End);
-    }
-    if got < 3 {
-        return Ok(Heading::Short);
-    }
-    Ok(Heading::Case(head[0], word(head[1], head[2])))
-}
-
-// Fills the bytes of a case from the input and runs it; gives whether the case was whole.
-fn fill_case<R: Read, W: Write>(
-    from: &mut R,
-    to: &mut W,
-    kind: u8,
-    s: &mut [u8],
-) -> io::Result<bool> {
-    let got = streams::read_full(from, s)?;
-    if got < s.len() {
-        ends_early(to)?;
-        return Ok(false);
-    }
-    run_case(to, kind, s)?;
-    Ok(true)
-}
-
-// The same, for a case of that many bytes.
-fn read_case<R: Read, W: Write>(
-    from: &mut R,
-    to: &mut W,
-    kind: u8,
-    length: u16,
-) -> io::Result<bool> {
-    let mut bytes = [0u8; 65536];
-    let end = length as usize;
-    fill_case(from, to, kind, &mut bytes[0..end])
-}
-
 // One case; gives whether to go on.
 fn next_case<R: Read, W: Write>(from: &mut R, to: &mut W) -> io::Result<bool> {
-    match next_heading(from)? {
-        Heading::Case(kind, length) => read_case(from, to, kind, length),
-        Heading::Short => {
-            ends_early(to)?;
-            Ok(false)
-        }
-        Heading::End => Ok(false),
+    let mut heading = [0u8; 3];
+    if !streams::next_case(from, to, &mut heading)? {
+        return Ok(false);
     }
+    let [kind, low, high] = heading;
+    let mut bytes = [0u8; 65536];
+    let case = &mut bytes[..usize::from(u16::from_le_bytes([low, high]))];
+    if !streams::rest_of_case(from, to, case)? {
+        return Ok(false);
+    }
+    run_case(to, kind, case)?;
+    Ok(true)
 }
 
 // Runs all cases. Nothing says that the input ends, so the loop counts its turns, up to a number that no run uses up.

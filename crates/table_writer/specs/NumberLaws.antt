@@ -1,11 +1,11 @@
 -- Laws of the writer's number and of the outcome that it decides.
 --   write_number_P                      == the number is 0 exactly if no check is met
 --   write_number_10 .. write_number_0    == the number, from the values of the tests
---   endsFit-..                         == the tests' values, from facts
---   writing-.., written-..             == the answer and the output, from the number
+--   ends_fit_..                        == the tests' values, from facts
+--   writing_.., written_..             == the answer and the output, from the number
 -- Assumes nothing.
 use Prim.Native.Nat.{ℕ, zero, suc, ◌-◌, ◌%◌, ◌≤◌, ◌<◌}
-use Rattle.std.specs.Prelude.{Bool, true, false, not, ◌&&◌, List, ◌↔◌, ◌≡◌, refl, eqb, ltb, length}
+use Rattle.std.specs.Prelude.{Bool, true, false, not, ◌&&◌, List, Ok, ◌↔◌, ◌≡◌, refl, eqb, ltb, length}
 use Rattle.std.proofs.lemmas.Bool.{false≢true}
 use Rattle.std.proofs.Common.{sym, ◌∙◌, arith}
 use borrow.Author.Tests.{ltb-false, eqb-true, lt-ltb, le-ltb, eq-eqb, ne_eqb, not-true, not-false}
@@ -17,10 +17,9 @@ use Rattle.base.specs.SumLaws.{all_to_at, all_to_of, any_to_of, any_to_found}
 use Rattle.base.specs.Sums.{Found}
 use Rattle.tables.specs.declared.Chain.{Chain}
 use Rattle.tables.specs.declared.Chain.TheVariants.{Out, In}
-use Rattle.table_writer.specs.declared.Writing.TheVariants.{Written, Refused}
 use Rattle.tables.specs.Table.{SizesFit, sizes_fit, table_length, IsProcess, is_process}
 use Rattle.tables.specs.TableLaws.{sizes_fit_P, sizes_fit_not, is_process_P}
-use Rattle.table_writer.specs.Writing.{Fit, pairs, end, given, unlike, ends_fit, table_over, write_number, output_for, written, writing_for, writing_of}
+use Rattle.table_writer.specs.Writing.{Fit, pairs, end, given, unlike, ends_fit, table_over, write_number, output_for, written, writing_of}
 use Rattle.table_writer.specs.Refusals.{EndsAre, Differ}
 use Rattle.table_writer.specs.Putting.{EntriesUpTo}
 
@@ -138,20 +137,19 @@ fit_write_number n list space f =
 pub write_number_P : (n : ℕ) (list : List ℕ) (space : ℕ) → (write_number n list space ≡ 0) ↔ Fit n list space
 write_number_P n list space = (write_number_fit n list space, fit_write_number n list space)
 
+output_kept : (r : ℕ) (new old : List ℕ) → (r ≡ 0 → ⊥) → old ≡ output_for r new old
+unfolding output_for
+output_kept zero new old h = absurd (h refl)
+output_kept (suc r) new old h = refl
+
 -- the outcome for a number that is 0, and for one that is not
 module _ (n : ℕ) (list out : List ℕ) where
-  pub writing_refused : (r : ℕ) → r ≡ write_number n list (length out) → (r ≡ 0 → ⊥) → Refused r ≡ writing_of n list out
-  unfolding writing_of writing_for
-  writing_refused zero e h = absurd (h refl)
-  writing_refused (suc r) e h = rw (← e)
+  pub written_refused : (write_number n list (length out) ≡ 0 → ⊥) → out ≡ written n list out
+  unfolding written
+  written_refused h = output_kept (write_number n list (length out)) (table_over n list out) out h
 
-  pub written_refused : (r : ℕ) → r ≡ write_number n list (length out) → (r ≡ 0 → ⊥) → out ≡ written n list out
-  unfolding written output_for
-  written_refused zero e h = absurd (h refl)
-  written_refused (suc r) e h = rw (← e)
-
-  pub writing_written : write_number n list (length out) ≡ 0 → Written (table_length n (pairs list)) ≡ writing_of n list out
-  unfolding writing_of writing_for
+  pub writing_written : write_number n list (length out) ≡ 0 → Ok (table_length n (pairs list)) ≡ writing_of n list out
+  unfolding writing_of
   writing_written e = rw e
 
   pub written_table : write_number n list (length out) ≡ 0 → table_over n list out ≡ written n list out

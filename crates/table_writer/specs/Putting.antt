@@ -1,4 +1,5 @@
 -- Fields put into bytes at their places, and what a table that holds a list says.
+--   Paired list ps      == ps are the pairs of the list, each its from and its to
 --   put_field l j v      == the bytes with field j replaced by v, low byte first
 --   put_arc l at ..      == four fields in a row: "from, to, next-out, next-in"
 --   put_fields t lo c l  == c fields of t in a row, from field lo on
@@ -9,11 +10,17 @@
 --   Carries n list t    == the fields say N, M, and for each chain the ends, the fronts and what stood at the front before
 --   EntriesUpTo list b  == each entry of a pair is at most b
 -- Assumes nothing.
-use Rattle.std.specs.Prelude.{ℕ, zero, suc, ◌+◌, ◌-◌, ◌*◌, ◌/◌, ◌%◌, ◌≤◌, List, ◌≡◌, length, get_or, set}
+use Rattle.std.specs.Prelude.{ℕ, zero, suc, ◌+◌, ◌-◌, ◌*◌, ◌/◌, ◌%◌, ◌≤◌, ◌<◌, List, [], ◌≡◌, length, get_or, set}
 use Rattle.tables.specs.declared.Chain.{Chain}
 use Rattle.tables.specs.declared.Chain.TheVariants.{Out, In}
 use Rattle.tables.specs.Table.{Fields, n_of, m_of, most_processes, IsProcess, first, arc_at, near, next}
 use Rattle.table_writer.specs.Writing.{pairs, end, front}
+
+-- "a list of from, to pairs"
+pub record Paired (list : List ℕ) (ps : List (List ℕ)) : Type 0 where
+  pub long : length ps ≡ pairs list
+  pub from_is : (k : ℕ) → k < pairs list → get_or (get_or ps k []) 0 0 ≡ end Out list (k + 1)
+  pub to_is : (k : ℕ) → k < pairs list → get_or (get_or ps k []) 1 0 ≡ end In list (k + 1)
 
 -- "Each field is 16 bits, unsigned, low byte first."
 unfoldable pub put_field : List ℕ → ℕ → ℕ → List ℕ

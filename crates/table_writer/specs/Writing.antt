@@ -11,16 +11,16 @@
 --   write_number n list space   == the first check that is met, in the writer's order, 0 if none is
 --   Fit n list space    == no check is met, as facts
 --   output_for, written n list out   == the output at exit
---   writing_for, writing_of n list out   == the answer: the table's length in bytes, or the number
+--   writing_of n list out   == the answer: the table's length in bytes, or the refusal with that number
 --   WrittenRight n list bs   == bytes are a table as 01 states it, with N, M and each pair as given
 -- Assumes nothing.
-use Rattle.std.specs.Prelude.{ℕ, zero, suc, ◌+◌, ◌-◌, ◌*◌, ◌/◌, ◌%◌, ◌≤◌, ◌<◌, Bool, not, ◌&&◌, List, [], ◌∷◌, ◌++◌, ◌≡◌, eqb, ltb, length, get_or, drop}
+use Rattle.std.specs.Prelude.{ℕ, zero, suc, ◌+◌, ◌-◌, ◌*◌, ◌/◌, ◌%◌, ◌≤◌, ◌<◌, Bool, not, ◌&&◌, List, [], ◌∷◌, ◌++◌, Result, ◌≡◌, eqb, ltb, length, get_or, drop}
 use Rattle.base.specs.Choice.{choose}
 use Rattle.base.specs.Sums.{all_to, any_to}
 use Rattle.tables.specs.declared.Chain.{Chain}
 use Rattle.tables.specs.declared.Chain.TheVariants.{Out, In}
-use Rattle.table_writer.specs.declared.Writing.{Writing}
-use Rattle.table_writer.specs.declared.Writing.TheVariants.{Written, Refused}
+use Rattle.refusals.specs.declared.Refusal.{Refusal}
+use Rattle.refusals.specs.Numbers.{answered}
 use Rattle.tables.specs.Table.{Fields, field_of, n_of, m_of, SizesFit, sizes_fit, field_total, table_length, IsProcess, is_process, arc_at}
 use Rattle.tables.specs.Layout.{MeetsLayout}
 use Rattle.tables.specs.Waits.{Waits, waits_of}
@@ -115,14 +115,9 @@ output_for (suc r) new old = old
 unfoldable pub written : ℕ → List ℕ → List ℕ → List ℕ
 written n list out = output_for (write_number n list (length out)) (table_over n list out) out
 
--- the answer for a number: the length if it is 0
-unfoldable pub writing_for : ℕ → ℕ → Writing
-writing_for zero l = Written l
-writing_for (suc r) l = Refused (suc r)
-
 -- "A refusal returns its number": the answer of the writer, with the table's "4 + 4N + 8M bytes" if it wrote one
-unfoldable pub writing_of : ℕ → List ℕ → List ℕ → Writing
-writing_of n list out = writing_for (write_number n list (length out)) (table_length n (pairs list))
+unfoldable pub writing_of : ℕ → List ℕ → List ℕ → Result ℕ Refusal
+writing_of n list out = answered (write_number n list (length out)) (table_length n (pairs list))
 
 -- "An arc says that *from* waits for *to*": some pair has these ends
 unfoldable pub given_waits : ℕ → List ℕ → Waits

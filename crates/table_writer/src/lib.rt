@@ -1,57 +1,37 @@
 // The writer of wait tables (01, "Wait table"): from N and a list of from, to pairs. It checks 10, 2, 4, 7, 11 and writes nothing
 // if one of them is met. Each call is of linear time, and it needs no room but the lent output and a few local arrays. It stands on
-// `base` and `tables`.
+// `base`, `refusals` and `tables`.
 #![tactic(auto)]
 
 ghost use Rattle.std.specs.Prelude.{◌≡◌, ◌+◌, ◌*◌, ◌<◌, ◌≤◌, length, get_or};
 ghost use Rattle.base.specs.Sums.{all_to};
+ghost use Rattle.refusals.specs.Numbers.{answered};
 ghost use Rattle.tables.specs.Table.{most_processes};
-ghost use Rattle.table_writer.specs.Writing.{Fit, pairs, end, ends_fit, unlike, written_field, table_over, write_number, written, writing_of};
-ghost use Rattle.table_writer.specs.Putting.{put_field, put_arc, put_fields, Fronts, EntriesUpTo};
+ghost use Rattle.table_writer.specs.Writing.{Fit, pairs, ends_fit, unlike, written_field, table_over, write_number, written, writing_of};
+ghost use Rattle.table_writer.specs.Putting.{Paired, put_field, put_arc, put_fields, Fronts, EntriesUpTo};
 
-use tables::{Chain, is_process};
+use refusals::Refusal;
+use tables::{Sizes, is_process};
 
 // The first fields of the process records, which stand at 2p and 2p + 1, from p 0 to the largest N.
 const SLOTS: usize = 2 * (tables::MOST_PROCESSES + 1);
 
-// The answer of writing a table: its length in bytes, or the number of the refusal.
-#[derive(Clone, Copy)]
-pub enum Writing {
-    Written(usize),
-    Refused(u32),
-}
-
-// The from of pair k + 1, and its to.
-fn from_of(list: &[u16], k: usize) -> u16
-    requires { k < pairs list.now }
-    ensures { result ≡ end Chain.Out list.now (k + 1) }
+// The list by its pairs, from and to.
+fn pairs_of(list: &[u16]) -> &[[u16; 2]]
+    ensures { Paired list.now result.now }
 {
-    list[2 * k]
-}
-
-fn to_of(list: &[u16], k: usize) -> u16
-    requires { k < pairs list.now }
-    ensures { result ≡ end Chain.In list.now (k + 1) }
-{
-    list[2 * k + 1]
+    let (pairs, _) = list.as_chunks::<2>();
+    pairs
 }
 
 // Check 4 is not met: each from and to is a process.
 fn ends_fit(n: usize, list: &[u16]) -> bool
     ensures { result ≡ all_to (pairs list.now) (ends_fit n list.now) }
 {
-    let m = list.len() / 2;
-    let mut k = 0;
-    while k < m {
-        let from = from_of(list, k) as usize;
-        let to = to_of(list, k) as usize;
-        if !is_process(from, n) {
+    for &[from, to] in pairs_of(list) {
+        if !is_process(usize::from(from), n) || !is_process(usize::from(to), n) {
             return false;
         }
-        if !is_process(to, n) {
-            return false;
-        }
-        k += 1;
     }
     true
 }
@@ -62,49 +42,42 @@ fn all_unlike(list: &[u16]) -> bool
     requires { EntriesUpTo list.now most_processes }
     ensures { result ≡ all_to (pairs list.now) (unlike list.now) }
 {
-    let m = list.len() / 2;
     let mut seen = [false; tables::SQUARE_SIZE];
-    let mut k = 0;
-    while k < m {
-        let from = from_of(list, k) as usize;
-        let to = to_of(list, k) as usize;
-        let cell = tables::SIDE * from + to;
+    for &[from, to] in pairs_of(list) {
+        let cell = tables::SIDE * usize::from(from) + usize::from(to);
         if seen[cell] {
             return false;
         }
         seen[cell] = true;
-        k += 1;
     }
     true
 }
 
-// The first check that is met, or 0.
-fn write_number(n: usize, list: &[u16], space: usize) -> u32
-    ensures { result ≡ write_number n list.now space }
+// Checks 10, 2, 4, 7 and 11, in that order.
+#[tactic(auto, using(crate::proofs::Answers::says_odd, crate::proofs::Answers::says_sizes, crate::proofs::Answers::says_ends, crate::proofs::Answers::says_alike, crate::proofs::Answers::says_short, crate::proofs::Answers::says_none))]
+fn check(n: usize, list: &[u16], space: usize) -> Result<(), Refusal>
+    ensures { result ≡ answered (write_number n list.now space) tt }
 {
-    let m = list.len() / 2;
     if list.len() % 2 != 0 {
-        return 10;
+        return Err(Refusal::ListOdd);
     }
-    if n < 1 {
-        return 2;
-    }
-    if tables::MOST_PROCESSES < n {
-        return 2;
-    }
-    if tables::MOST_ARCS < m {
-        return 2;
+    let sizes = Sizes {
+        n,
+        m: list.len() / 2,
+    };
+    if !sizes.fit() {
+        return Err(Refusal::Sizes);
     }
     if !ends_fit(n, list) {
-        return 4;
+        return Err(Refusal::Ends);
     }
     if !all_unlike(list) {
-        return 7;
+        return Err(Refusal::ArcTwice);
     }
-    if space < 4 + 4 * n + 8 * m {
-        return 11;
+    if space < sizes.table_length() {
+        return Err(Refusal::OutputShort);
     }
-    0
+    Ok(())
 }
 
 // Field j becomes v, low byte first.
@@ -112,8 +85,9 @@ fn put(out: &mut [u8], j: usize, v: u16)
     requires { 2 * j + 1 < length out.old }
     ensures { out.new ≡ put_field out.old j v }
 {
-    out[2 * j] = (v % 256) as u8;
-    out[2 * j + 1] = (v / 256) as u8;
+    let [low, high] = v.to_le_bytes();
+    out[2 * j] = low;
+    out[2 * j + 1] = high;
 }
 
 // The four fields of an arc, from field `at` on.
@@ -133,15 +107,11 @@ fn put_arcs(n: usize, list: &[u16], out: &mut [u8], firsts: &mut [u16; SLOTS])
     requires fit { Fit n list.now (length out.old) }
     requires fronts { Fronts list.now 0 firsts.old }
     ensures out_after { out.new ≡ put_fields (written_field n list.now) (2 + 2 * n) (4 * pairs list.now) out.old }
-    ensures fronts_2 { Fronts list.now (pairs list.now) firsts.new }
+    ensures fronts_after { Fronts list.now (pairs list.now) firsts.new }
 {
-    let m = list.len() / 2;
-    let mut k = 0;
-    while k < m {
-        let from = from_of(list, k);
-        let to = to_of(list, k);
-        let at_out = 2 * (from as usize);
-        let at_in = 2 * (to as usize) + 1;
+    for (k, &[from, to]) in pairs_of(list).iter().enumerate() {
+        let at_out = 2 * usize::from(from);
+        let at_in = 2 * usize::from(to) + 1;
         put_arc(
             out,
             2 + 2 * n + 4 * k,
@@ -150,9 +120,9 @@ fn put_arcs(n: usize, list: &[u16], out: &mut [u8], firsts: &mut [u16; SLOTS])
             firsts[at_out],
             firsts[at_in],
         );
-        k += 1;
-        firsts[at_out] = k as u16;
-        firsts[at_in] = k as u16;
+        let arc = (k + 1) as u16;
+        firsts[at_out] = arc;
+        firsts[at_in] = arc;
     }
 }
 
@@ -162,10 +132,8 @@ fn put_firsts(n: usize, firsts: &[u16; SLOTS], out: &mut [u8])
     ensures { out.new ≡ put_fields (λ j. get_or firsts.now j 0) 2 (2 * n) out.old }
 {
     let end = 2 + 2 * n;
-    let mut j = 2;
-    while j < end {
+    for j in 2..end {
         put(out, j, firsts[j]);
-        j += 1;
     }
 }
 
@@ -181,16 +149,17 @@ fn put_table(n: usize, list: &[u16], out: &mut [u8])
     put(out, 1, (list.len() / 2) as u16);
 }
 
-// Writes the table of n processes and of the list's pairs at the front of `out` and gives its length in bytes, or refuses with the
-// number of the first check that is met and leaves `out` as it is.
-pub fn write(n: usize, list: &[u16], out: &mut [u8]) -> Writing
+// Writes the table of n processes and of the list's pairs at the front of `out` and gives its length in bytes, or refuses by the first
+// check that is met and leaves `out` as it is.
+pub fn write(n: usize, list: &[u16], out: &mut [u8]) -> Result<usize, Refusal>
     ensures value { result ≡ writing_of n list.now out.old }
     ensures out_after { out.new ≡ written n list.now out.old }
 {
-    let number = write_number(n, list, out.len());
-    if number != 0 {
-        return Writing::Refused(number);
-    }
+    check(n, list, out.len())?;
     put_table(n, list, out);
-    Writing::Written(4 + 4 * n + 8 * (list.len() / 2))
+    let sizes = Sizes {
+        n,
+        m: list.len() / 2,
+    };
+    Ok(sizes.table_length())
 }

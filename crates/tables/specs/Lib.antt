@@ -3,7 +3,7 @@
 -- Waits (what all later work cites), Chains (chains as lists). Sound is what proofs use of an accepted table;
 -- Pairs is what inner functions of the reader and the writer promise; ChainFacts and ReadingFacts have what laws of chains and of reading say.
 -- Laws stand apart: TableLaws (fields, sizes, the test of a process), ChainLaws and ChainTestLaws (the test of row 6), LayoutLaws (reading
--- is what the layout says), ReadingLaws (what an answer tells), WaitsLaws (the waits of a table), MetLaws (the chains of a right table),
+-- is what the layout says), ReadingLaws and WalkingLaws (what an answer tells), WaitsLaws (the waits of a table), MetLaws (the chains of a right table),
 -- PairLaws.
 pub mod Table
 pub mod Waits
@@ -19,6 +19,7 @@ pub mod TableLaws
 pub mod ChainLaws
 pub mod ChainTestLaws
 pub mod ReadingLaws
+pub mod WalkingLaws
 pub mod LayoutLaws
 pub mod WaitsLaws
 pub mod MetLaws

@@ -7,16 +7,17 @@
 --   unlike_before t k  == arc k agrees in both ends with no earlier arc (row 7)
 --   fields_number t    == the first of the rows 4 to 7 that is met, 0 if none is
 --   read_number bs     == the first row that is met, 0 if none is
---   answer, reading_of bs   == the answer: accepted with N and M, or refused with the number
+--   reading_of bs      == the answer: N and M, or the refusal with that number
 -- Assumes nothing.
-use Rattle.std.specs.Prelude.{ℕ, zero, suc, ◌-◌, Bool, true, false, not, ◌&&◌, List, eqb, leb, ltb, length}
+use Rattle.std.specs.Prelude.{ℕ, zero, suc, ◌-◌, Bool, true, false, not, ◌&&◌, List, Result, eqb, leb, ltb, length}
 use Rattle.base.specs.Choice.{choose}
 use Rattle.base.specs.Sums.{all_to}
+use Rattle.refusals.specs.declared.Refusal.{Refusal}
+use Rattle.refusals.specs.Numbers.{answered}
 use Rattle.tables.specs.declared.Chain.{Chain}
 use Rattle.tables.specs.declared.Chain.TheVariants.{Out, In}
-use Rattle.tables.specs.declared.Reading.{Reading}
-use Rattle.tables.specs.declared.Reading.TheVariants.{Accepted, Refused}
-use Rattle.tables.specs.Table.{Fields, field_of, n_of, m_of, sizes_fit, table_length, is_process, first, arc_at, says_wait, near, next}
+use Rattle.tables.specs.declared.Sizes.{Sizes}
+use Rattle.tables.specs.Table.{Fields, field_of, n_of, m_of, sizes_of, sizes_fit, table_length, is_process, first, arc_at, says_wait, near, next}
 
 -- a number of arcs left, or a refusal
 pub data Left : Type 0 where
@@ -83,10 +84,5 @@ read_number bs =
     (choose (not (eqb (length bs) (table_length (n_of (field_of bs)) (m_of (field_of bs))))) 3
     (fields_number (field_of bs))))
 
--- the answer for a number: accepted if it is 0
-unfoldable pub answer : ℕ → ℕ → ℕ → Reading
-answer zero n m = Accepted n m
-answer (suc r) n m = Refused (suc r)
-
-unfoldable pub reading_of : List ℕ → Reading
-reading_of bs = answer (read_number bs) (n_of (field_of bs)) (m_of (field_of bs))
+unfoldable pub reading_of : List ℕ → Result Sizes Refusal
+reading_of bs = answered (read_number bs) (sizes_of (field_of bs))

@@ -1,15 +1,23 @@
 -- What the number and the answer of reading a table tell.
 --   read_number_1 to read_number_4   == the number, by the first check that fails; from check 4 on it is that of the fields
---   accepted_told      == the answer Accepted n m tells Accepts bs n m
---   refused_told       == the answer Refused r tells Refuses bs r
+--   fields_number_low, read_number_low   == the number is one of 0 to 7
+--   reading_number     == it is that of the answer
+--   accepted_told      == the answer Ok sizes tells Accepts bs sizes.n sizes.m
+--   refused_told       == the answer Err e tells Refuses bs (number e)
 -- Assumes nothing.
-use Rattle.std.specs.Prelude.{ℕ, zero, suc, ◌≤◌, ◌<◌, true, false, List, ◌≡◌, refl, ltb, length}
-use Rattle.std.proofs.Common.{sym, ◌∙◌, ltb-true, ltb-false, lt-ltb, le-ltb, eq-eqb, ne_eqb, arith}
+use Rattle.std.specs.Prelude.{ℕ, ◌≤◌, ◌<◌, Bool, true, false, not, ◌&&◌, List, Ok, Err, ◌≡◌, eqb, ltb, length}
+use Rattle.std.proofs.Common.{sym, ap, ◌∙◌, ltb-true, ltb-false, lt-ltb, le-ltb, eq-eqb, ne_eqb, arith}
 use Rattle.base.specs.ChoiceLaws.{tested, same?}
 use Rattle.base.specs.Checks.{Tested, passed, failed, Same, same, apart}
-use Rattle.tables.specs.declared.Reading.{Reading}
-use Rattle.tables.specs.Table.{field_of, n_of, m_of, table_length}
-use Rattle.tables.specs.Reading.{sizes_right, fields_number, read_number, answer, reading_of}
+use Rattle.base.specs.Choice.{choose}
+use Rattle.base.specs.Sums.{all_to}
+use Rattle.refusals.specs.declared.Refusal.{Refusal}
+use Rattle.refusals.specs.Numbers.{number, number_of}
+use Rattle.refusals.specs.NumberLaws.{number_of_low, answered_ok, answered_err}
+use Rattle.tables.specs.declared.Chain.TheVariants.{Out, In}
+use Rattle.tables.specs.declared.Sizes.{Sizes}
+use Rattle.tables.specs.Table.{Fields, field_of, n_of, m_of, sizes_of, table_length}
+use Rattle.tables.specs.Reading.{sizes_right, ends_right, firsts_right, nexts_right, chains_right, unlike_before, fields_number, read_number, reading_of}
 use Rattle.tables.specs.ReadingFacts.{Refuses, Accepts}
 use Rattle.tables.specs.LayoutLaws.{sizes_right_P}
 
@@ -55,42 +63,54 @@ passes bs z = short (tested (ltb (length bs) 4))
     short (passed e) = absurd (wrong 1 (omega arith) (read_number_1 bs (ltb-true (length bs) 4 e)))
     short (failed e) = sizes (ltb-false (length bs) 4 e) (tested (sizes_right (field_of bs)))
 
-answer_refused : (q n m r : ℕ) → answer q n m ≡ Reading.Refused r → (q ≡ r) × (r ≡ 0 → ⊥)
-unfolding answer
-answer_refused zero n m r e = absurd (let z : ◌≡◌ {A = ℕ} 0 1 = cc in omega arith)
-answer_refused (suc q) n m r e =
-    let here : suc q ≡ r = cc in
-    (here, λ z. omega arith)
+-- ---- the answer
 
-answer_accepted : (q n m i j : ℕ) → answer q n m ≡ Reading.Accepted i j → (q ≡ 0) × (i ≡ n) × (j ≡ m)
-unfolding answer
-answer_accepted zero n m i j e =
-    let here : i ≡ n = cc in
-    let there : j ≡ m = cc in
-    (refl, here, there)
-answer_accepted (suc q) n m i j e = absurd (let z : ◌≡◌ {A = ℕ} 0 1 = cc in omega arith)
+-- a number that a failed check gives, or that of the checks after it
+choose_low : {l : ℕ} (b : Bool) {x y : ℕ} → x ≤ l → y ≤ l → choose b x y ≤ l
+choose_low true h g = h
+choose_low false h g = g
 
-pub refused_told : (bs : List ℕ) (r : ℕ) → reading_of bs ≡ Reading.Refused r → Refuses bs r
+pub fields_number_low : (t : Fields) → fields_number t ≤ 7
+unfolding fields_number
+fields_number_low t =
+    choose_low (not (all_to (m_of t) (ends_right t))) (omega arith)
+    (choose_low (not (all_to (n_of t) (firsts_right t) && all_to (m_of t) (nexts_right t))) (omega arith)
+    (choose_low (not (chains_right Out t && chains_right In t)) (omega arith)
+    (choose_low (not (all_to (m_of t) (unlike_before t))) (omega arith) (omega arith))))
+
+pub read_number_low : (bs : List ℕ) → read_number bs ≤ 7
+unfolding read_number
+read_number_low bs =
+    choose_low (ltb (length bs) 4) (omega arith)
+    (choose_low (not (sizes_right (field_of bs))) (omega arith)
+    (choose_low (not (eqb (length bs) (table_length (n_of (field_of bs)) (m_of (field_of bs))))) (omega arith)
+    (fields_number_low (field_of bs))))
+
+pub reading_number : (bs : List ℕ) → number_of (reading_of bs) ≡ read_number bs
 unfolding reading_of
-refused_told bs r e =
-    let told = answer_refused (read_number bs) (n_of (field_of bs)) (m_of (field_of bs)) r e in
-    record { number = told.0; some = told.1 }
+reading_number bs = number_of_low (read_number bs) (sizes_of (field_of bs)) (omega (arith, read_number_low bs))
 
-pub accepted_told : (bs : List ℕ) (n m : ℕ) → reading_of bs ≡ Reading.Accepted n m → Accepts bs n m
+pub refused_told : (bs : List ℕ) (e : Refusal) → reading_of bs ≡ Err e → Refuses bs (number e)
 unfolding reading_of
-accepted_told bs n m e =
-    let told = answer_accepted (read_number bs) (n_of (field_of bs)) (m_of (field_of bs)) n m e in
+refused_told bs e f =
+    let is : number e ≡ read_number bs = ap (λ a. number_of a) (sym f) ∙ reading_number bs in
+    record { number = sym is; some = λ z. answered_err (read_number bs) _ f (sym is ∙ z); low = omega (arith, is, read_number_low bs) }
+
+pub accepted_told : (bs : List ℕ) (sizes : Sizes) → reading_of bs ≡ Ok sizes → Accepts bs sizes.n sizes.m
+unfolding reading_of
+accepted_told bs sizes e =
+    let told = answered_ok (read_number bs) _ e in
     let right = passes bs told.0 in
-    let sizes = (sizes_right_P (field_of bs)).0 right.sizes in
-    let n-of : n ≡ n_of (field_of bs) = told.1 in
-    let m-of : m ≡ m_of (field_of bs) = told.2 in
+    let fit = (sizes_right_P (field_of bs)).0 right.sizes in
+    let n-of : sizes.n ≡ n_of (field_of bs) = ap (λ (z : Sizes). z.n) told.1 in
+    let m-of : sizes.m ≡ m_of (field_of bs) = ap (λ (z : Sizes). z.m) told.1 in
     record {
       number = told.0;
-      processes = told.1;
-      arcs = told.2;
-      some = omega (arith, sizes.0);
-      few = omega (arith, sizes.1);
-      arcs_few = omega (arith, sizes.2);
+      processes = n-of;
+      arcs = m-of;
+      some = omega (arith, fit.0);
+      few = omega (arith, fit.1);
+      arcs_few = omega (arith, fit.2);
       long = omega (arith, right.exact);
       fields = right.fields;
     }

@@ -1,7 +1,7 @@
 -- The fields of a wait table, as 01's section "Wait table" names them. A table is read through its fields: the same definitions
 -- serve the bytes of a table and the words of a run area, which both give the field of each number.
 --   field_of bs j      == field j of bytes: "Each field is 16 bits, unsigned, low byte first"
---   n_of t, m_of t      == "First N (processes, 1 to 128) and M (arcs, 0 to 512)"
+--   n_of t, m_of t, sizes_of t   == "First N (processes, 1 to 128) and M (arcs, 0 to 512)"
 --   most_processes, most_arcs      == the largest N and the largest M of that sentence
 --   SizesFit n m, sizes_fit n m   == N and M are in the ranges of that sentence, and the test of it
 --   IsProcess n p, is_process n p   == p is one of n processes ("Processes and arcs count from 1 in file order"), and the test of it
@@ -17,7 +17,7 @@
 use Rattle.std.specs.Prelude.{ℕ, zero, suc, ◌+◌, ◌-◌, ◌*◌, ◌≤◌}
 use mathlib.Core.{Bool.Bool, Bool.◌&&◌, List.List}
 use lib.{Dec.eqb, Dec.leb, ListN.get_or}
-use Rattle.tables.specs.declared.{Arc.Arc, Chain.Chain, Chain.TheVariants.Out, Chain.TheVariants.In}
+use Rattle.tables.specs.declared.{Arc.Arc, Chain.Chain, Chain.TheVariants.Out, Chain.TheVariants.In, Sizes.Sizes}
 
 -- the fields of a table by number, from 0
 abbrev pub Fields : Type 0
@@ -33,6 +33,9 @@ n_of t = t 0
 
 abbrev pub m_of : Fields → ℕ
 m_of t = t 1
+
+abbrev pub sizes_of : Fields → Sizes
+sizes_of t = record { n = n_of t; m = m_of t }
 
 abbrev pub most_processes : ℕ
 most_processes = 128

@@ -1,9 +1,9 @@
-// Wait tables (01, "Wait table"): what a table is (specs), its largest sizes, the types of the answers, and the one test of a process. The
-// crate `table_reader` reads and follows tables, `table_writer` writes them. It stands on the crate `base` alone.
+// Wait tables (01, "Wait table"): what a table is (specs), its sizes and the largest of them, and the one test of a process. The
+// crate `table_reader` reads and follows tables, `table_writer` writes them. Its definitions name the refusals of the crate `refusals`.
 #![tactic(auto)]
 
 ghost use Rattle.std.specs.Prelude.{◌≡◌};
-ghost use Rattle.tables.specs.Table.{is_process};
+ghost use Rattle.tables.specs.Table.{SizesFit, sizes_fit, table_length, is_process};
 
 // The largest N.
 pub const MOST_PROCESSES: usize = 128;
@@ -18,14 +18,14 @@ pub const SIDE: usize = MOST_PROCESSES + 1;
 pub const SQUARE_SIZE: usize = SIDE * SIDE;
 
 // The two chains of a process.
-#[derive(Clone, Copy)]
+#[derive(Clone, Copy, PartialEq, Eq)]
 pub enum Chain {
     Out,
     In,
 }
 
 // An arc record of a table.
-#[derive(Clone, Copy)]
+#[derive(Clone, Copy, PartialEq, Eq)]
 pub struct Arc {
     pub from: usize,
     pub to: usize,
@@ -33,33 +33,34 @@ pub struct Arc {
     pub next_in: usize,
 }
 
-// The answer of reading a table: its N and M, or the number of the refusal.
-#[derive(Clone, Copy)]
-pub enum Reading {
-    Accepted { n: usize, m: usize },
-    Refused(u32),
+// The sizes of a table: N, its processes, and M, its arcs.
+#[derive(Clone, Copy, PartialEq, Eq, Default)]
+pub struct Sizes {
+    pub n: usize,
+    pub m: usize,
 }
 
-// The answer of opening a walk: the arc that it stands at, 0 if the chain has none, or the number of the refusal.
-#[derive(Clone, Copy)]
-pub enum Opened {
-    At(usize),
-    Refused(u32),
-}
+impl Sizes {
+    // N and M are in their ranges.
+    pub fn fit(self) -> bool
+        ensures { result ≡ sizes_fit self.n self.m }
+    {
+        1 <= self.n && self.n <= MOST_PROCESSES && self.m <= MOST_ARCS
+    }
 
-// The answer of a step along a chain: the next arc, or the end.
-#[derive(Clone, Copy)]
-pub enum Next {
-    Arc(usize),
-    End,
+    // How many bytes a table of these sizes has.
+    pub fn table_length(self) -> usize
+        requires { SizesFit self.n self.m }
+        ensures { result ≡ table_length self.n self.m }
+    {
+        4 + 4 * self.n + 8 * self.m
+    }
 }
 
 // p is one of n processes.
+#[tactic(auto, unfolding(crate::specs::Table::is_process))]
 pub fn is_process(p: usize, n: usize) -> bool
     ensures { result ≡ is_process n p }
 {
-    if p == 0 {
-        return false;
-    }
-    p <= n
+    1 <= p && p <= n
 }

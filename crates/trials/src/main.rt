@@ -25,75 +25,49 @@
 mod cases;
 
 use cases::Tally;
-use drawing::families::Family;
-use drawing::{families, numbers};
+use drawing::families::{FAMILIES, Family};
+use expecting::faults::Fault;
 use std::io;
 use std::io::Write;
 
-fn print<W: Write>(to: &mut W, text: &[u8]) -> io::Result<()> {
-    streams::print(to, text)
-}
-
-fn print_number<W: Write>(to: &mut W, text: &[u8], n: u64) -> io::Result<()> {
-    print(to, text)?;
-    streams::print_number(to, n)
-}
-
-fn print_tally<W: Write>(to: &mut W, f: Family, t: Tally) -> io::Result<()> {
-    print_number(to, b"up to ", f.n as u64)?;
-    print_number(to, b" processes: cases ", t.cases)?;
-    print_number(to, b", knots ", t.first)?;
-    print_number(to, b", by the second edition ", t.second)?;
-    print_number(to, b", returned ", t.returned)?;
-    print_number(to, b", runs ", t.runs)?;
-    print_number(to, b", deliveries ", t.deliveries)?;
-    print_number(to, b", overtaking ", t.overtaking)?;
-    print_number(to, b", shuffled ", t.shuffled)?;
-    print(to, b"\n")
-}
-
-fn print_count<W: Write>(to: &mut W, text: &[u8], n: u32) -> io::Result<()> {
-    print_number(to, text, n as u64)
+fn print_tally<W: Write>(to: &mut W, family: Family, t: &Tally) -> io::Result<()> {
+    writeln!(
+        to,
+        "up to {} processes: cases {}, knots {}, by the second edition {}, returned {}, runs {}, \
+         deliveries {}, overtaking {}, shuffled {}",
+        family.n,
+        t.cases,
+        t.first,
+        t.second,
+        t.returned,
+        t.runs,
+        t.deliveries,
+        t.overtaking,
+        t.shuffled
+    )
 }
 
 // Names the first difference, in the last run of the family whose line stands above.
-fn print_difference<W: Write>(to: &mut W, t: Tally) -> io::Result<()> {
-    print_number(to, b"first difference: start ", t.start as u64)?;
-    print_number(to, b", edition ", t.edition as u64)?;
-    print_number(to, b", order ", t.order as u64)?;
-    print_count(to, b", delivery ", t.made)?;
-    print_count(to, b" of ", t.due)?;
-    print_count(to, b", number in expecting::faults ", t.fault)?;
-    print(to, b"\n")
-}
-
-// Case k + 1 of a family.
-fn one_case(number: usize, f: Family, k: usize, t: Tally) -> Tally {
-    let mut list = [0u16; 1024];
-    let case = families::case_of(number, f, k, t.seed, &mut list);
-    cases::try_case(&list, case, f.runs, t)
-}
-
-fn run_family(number: usize, f: Family) -> Tally {
-    let mut t = cases::begun(numbers::more(number));
-    let count = f.cases;
-    for k in 0..count {
-        if t.fault == 0 {
-            t = one_case(number, f, k, t);
-        }
-    }
-    t
+fn print_difference<W: Write>(to: &mut W, t: &Tally, fault: Fault) -> io::Result<()> {
+    writeln!(
+        to,
+        "first difference: start {}, edition {}, order {}, delivery {} of {}, number in expecting::faults {}",
+        t.start, t.last.edition, t.last.order, t.last.made, t.last.due, fault as u64
+    )
 }
 
 fn main(rt: HostRuntime) -> io::Result<()> {
     let mut to = io::writer(&rt);
-    for number in 0..families::FAMILIES {
-        let f = families::family_of(number);
-        let t = run_family(number, f);
-        print_tally(&mut to, f, t)?;
-        if t.fault != 0 {
-            return print_difference(&mut to, t);
+    for (seed, family) in (1..).zip(FAMILIES) {
+        let mut t = Tally {
+            seed,
+            ..Tally::default()
+        };
+        let told = t.try_family(family);
+        print_tally(&mut to, family, &t)?;
+        if let Err(fault) = told {
+            return print_difference(&mut to, &t, fault);
         }
     }
-    print(&mut to, b"no difference\n")
+    writeln!(to, "no difference")
 }

@@ -1,8 +1,9 @@
 // Prints the walks along the chains of a table, and the steps from every arc of it, as the crate `walks` makes them.
-use crate::output::{print, print_number};
+ghost use Rattle.std.specs.Prelude.{◌≤◌};
+
 use std::io;
 use std::io::Write;
-use tables::{Chain, Next};
+use tables::Chain;
 
 // A walk is followed for so many steps at most; no chain of a table has so many arcs.
 const LONGEST: u16 = 600;
@@ -10,32 +11,20 @@ const LONGEST: u16 = 600;
 // The most arcs from which steps are tried one by one: one more than a table may have.
 const MOST: usize = 513;
 
-fn print_chain<W: Write>(to: &mut W, chain: Chain) -> io::Result<()> {
+// Both chains, in the order in which they are printed.
+const CHAINS: [Chain; 2] = [Chain::Out, Chain::In];
+
+fn name_of(chain: Chain) -> &'static str {
     match chain {
-        Chain::Out => print(to, b"out"),
-        Chain::In => print(to, b"in"),
+        Chain::Out => "out",
+        Chain::In => "in",
     }
 }
 
-fn print_next<W: Write>(to: &mut W, next: Next) -> io::Result<()> {
+fn print_next<W: Write>(to: &mut W, next: Option<usize>) -> io::Result<()> {
     match next {
-        Next::Arc(k) => print_number(to, k as u64),
-        Next::End => print(to, b"end"),
-    }
-}
-
-// The arc that a walk stands at after a step that gave this.
-fn arc_of(next: Next) -> usize {
-    match next {
-        Next::Arc(k) => k,
-        Next::End => 0,
-    }
-}
-
-fn is_end(next: Next) -> bool {
-    match next {
-        Next::Arc(_) => false,
-        Next::End => true,
+        Some(k) => write!(to, "{k}"),
+        None => write!(to, "end"),
     }
 }
 
@@ -49,26 +38,12 @@ fn print_step<W: Write>(
     steps: u16,
 ) -> io::Result<bool> {
     let stood = walks::stand_after(s, chain, p, steps);
-    let next = stood.next;
-    let then = stood.then;
-    print(to, b" ")?;
-    print_number(to, stood.arc as u64)?;
-    print(to, b">")?;
-    print_next(to, next)?;
-    if arc_of(next) != then {
-        print(to, b"!")?;
-        print_number(to, then as u64)?;
+    write!(to, " {}>", stood.arc)?;
+    print_next(to, stood.next)?;
+    if stood.next.unwrap_or(0) != stood.then {
+        write!(to, "!{}", stood.then)?;
     }
-    Ok(!is_end(next))
-}
-
-// Prints the number of an opening that was refused.
-fn print_refusal<W: Write>(to: &mut W, number: u32) -> io::Result<()> {
-    if number != 0 {
-        print(to, b" refused ")?;
-        print_number(to, number as u64)?;
-    }
-    Ok(())
+    Ok(stood.next.is_some())
 }
 
 // The steps of a walk up to the end.
@@ -81,85 +56,64 @@ fn print_way<W: Write>(to: &mut W, s: &[u8], chain: Chain, p: usize) -> io::Resu
     Ok(())
 }
 
-// A line for the walk along a chain of p, from its opening to the end.
+// A line for the walk along a chain of p, from its opening, with its number if it was refused, to the end.
 fn print_walk<W: Write>(to: &mut W, s: &[u8], chain: Chain, p: usize) -> io::Result<()> {
-    print_chain(to, chain)?;
-    print(to, b" ")?;
-    print_number(to, p as u64)?;
-    print(to, b":")?;
-    print_refusal(to, walks::stand_after(s, chain, p, 0).number)?;
+    write!(to, "{} {p}:", name_of(chain))?;
+    if let Some(refusal) = walks::stand_after(s, chain, p, 0).refusal {
+        write!(to, " refused {}", u32::from(refusal))?;
+    }
     print_way(to, s, chain, p)?;
-    print(to, b"\n")
+    writeln!(to)
 }
 
 // The walks along both chains of p.
 pub fn print_both<W: Write>(to: &mut W, s: &[u8], p: usize) -> io::Result<()> {
-    print_walk(to, s, Chain::Out, p)?;
-    print_walk(to, s, Chain::In, p)
-}
-
-// The same for each process number below n.
-fn print_below<W: Write>(to: &mut W, s: &[u8], n: usize) -> io::Result<()> {
-    for p in 0..n {
-        print_both(to, s, p)?;
+    for chain in CHAINS {
+        print_walk(to, s, chain, p)?;
     }
     Ok(())
 }
 
 // The same for each of n processes, for 0 and for the number after the last.
 pub fn print_walks<W: Write>(to: &mut W, s: &[u8], n: usize) -> io::Result<()> {
-    print_below(to, s, n)?;
-    print_both(to, s, n)?;
-    if n < usize::MAX {
-        print_both(to, s, n + 1)?;
+    for p in 0..=n.saturating_add(1) {
+        print_both(to, s, p)?;
     }
     Ok(())
 }
 
 // The number of arcs that the bytes say, as far as steps are tried from them.
-fn arcs_said(s: &[u8]) -> usize {
+fn arcs_said(s: &[u8]) -> usize
+    ensures { result ≤ 513 }
+{
     if s.len() < 4 {
         return 0;
     }
-    let m = table_reader::field(s, 1);
-    if MOST < m {
-        return MOST;
-    }
-    m
+    table_reader::field(s, 1).min(MOST)
 }
 
 fn print_step_from<W: Write>(to: &mut W, s: &[u8], chain: Chain, arc: usize) -> io::Result<()> {
-    print(to, b" ")?;
+    write!(to, " ")?;
     print_next(to, walks::next_from(s, chain, arc))
-}
-
-// What steps along a chain give from each arc number below that one.
-fn print_steps_below<W: Write>(to: &mut W, s: &[u8], chain: Chain, last: usize) -> io::Result<()> {
-    for arc in 0..last {
-        print_step_from(to, s, chain, arc)?;
-    }
-    Ok(())
 }
 
 // A line for what steps along a chain give: from 0, from each arc that the bytes say, from the number after the last, and from two that
 // are past any bytes.
 fn print_steps_from<W: Write>(to: &mut W, s: &[u8], chain: Chain) -> io::Result<()> {
-    print(to, b"next ")?;
-    print_chain(to, chain)?;
-    print(to, b":")?;
-    let last = arcs_said(s);
-    print_steps_below(to, s, chain, last)?;
-    print_step_from(to, s, chain, last)?;
-    if last < usize::MAX {
-        print_step_from(to, s, chain, last + 1)?;
+    write!(to, "next {}:", name_of(chain))?;
+    let after = arcs_said(s) + 1;
+    for arc in 0..=after {
+        print_step_from(to, s, chain, arc)?;
     }
     print_step_from(to, s, chain, 65535)?;
     print_step_from(to, s, chain, usize::MAX)?;
-    print(to, b"\n")
+    writeln!(to)
 }
 
 // The same along both chains.
 pub fn print_steps<W: Write>(to: &mut W, s: &[u8]) -> io::Result<()> {
-    print_steps_from(to, s, Chain::Out)?;
-    print_steps_from(to, s, Chain::In)
+    for chain in CHAINS {
+        print_steps_from(to, s, chain)?;
+    }
+    Ok(())
 }

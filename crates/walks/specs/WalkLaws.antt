@@ -4,11 +4,14 @@
 --   opened_P        == an opening is accepted exactly if the bytes meet the layout and p is a process of the table
 --   refused_stands  == a walk whose opening was refused stands at 0
 --   steps_on_next    == one step more is a step of the walk that the others left
---   keeps           == "Steps keep to the chain named", and to the table and the number
+--   keeps           == "Steps keep to the chain named", and to the table and the refusal
 --   gives_zero, gives_over, gives_past   == "from an arc number that is 0, over M or past the lent bytes it gives the end", on any bytes
 -- Assumes nothing.
 use Prim.Native.Nat.{ℕ, zero, suc, ◌≤◌, ◌<◌}
-use Rattle.std.specs.Prelude.{Bool, true, ◌&&◌, ◌↔◌, ◌≡◌, leb, get_or}
+use Rattle.refusals.specs.declared.Refusal.{Refusal}
+use Rattle.refusals.specs.Numbers.{answered, number_of}
+use Rattle.tables.specs.WalkingLaws.{opening_number}
+use Rattle.std.specs.Prelude.{Bool, true, ◌&&◌, Option, Some, None, Result, Ok, Err, ◌↔◌, ◌≡◌, leb, get_or}
 use mathlib.Core.List.{List, ◌∷◌}
 use Rattle.std.proofs.Math.Path.{refl, ap}
 use Rattle.std.proofs.Common.{sym, ◌∙◌}
@@ -20,19 +23,17 @@ use Rattle.base.specs.Choice.{choose}
 use Rattle.base.specs.ChoiceLaws.{tested, and_left, and_right, bit_same}
 use Rattle.base.specs.Checks.{Tested, passed, failed}
 use Rattle.tables.specs.declared.Chain.{Chain}
-use Rattle.tables.specs.declared.Next.{Next}
-use Rattle.tables.specs.declared.Opened.{Opened}
 use Rattle.tables.specs.Table.{Fields, field_of, n_of, m_of, table_length, IsProcess, is_process, first, arc_at, near, next, follow, place}
 use Rattle.tables.specs.TableLaws.{is_process_P}
 use Rattle.tables.specs.Layout.{Right, MeetsLayout}
 use Rattle.tables.specs.LayoutLaws.{accepted_P}
 use Rattle.tables.specs.Reading.{read_number}
-use Rattle.tables.specs.Walking.{or_else, open_number, open_answer, opened_of, opened_number, opened_arc, arc_inside, next_answer, next_of, next_arc}
+use Rattle.tables.specs.Walking.{or_else, open_number, opened_of, opened_arc, arc_inside, next_answer, next_of, next_arc}
 use Rattle.tables.specs.Chains.{Follows, stop, go, steps, along, met, Listed}
 use Rattle.tables.specs.ChainLaws.{place_steps, follows_along, follows_steps}
 use Rattle.tables.specs.MetLaws.{met_listed}
 use Rattle.walks.specs.declared.Walk.{Walk}
-use Rattle.walks.specs.Walk.{opened_walk, gives, stepped_walk, steps_on, arcs_met, WholeWalk}
+use Rattle.walks.specs.Walk.{refusal_of, refusal_number, walk_number, opened_walk, gives, stepped_walk, steps_on, arcs_met, WholeWalk}
 
 -- ---- a step, on any bytes
 
@@ -59,24 +60,24 @@ inside_at bs k e =
       within = leb-true (table_length (n_of (field_of bs)) k) (length bs) (and_right (a && b && m) l e);
     }
 
-outside : (bs : List ℕ) (c : Chain) (k : ℕ) → (InsideAt bs k → ⊥) → next_of bs c k ≡ Next.End
+outside : (bs : List ℕ) (c : Chain) (k : ℕ) → (InsideAt bs k → ⊥) → next_of bs c k ≡ None
 unfolding next_of
 outside bs c k h = at (tested (arc_inside bs k))
   where
-    at : Tested (arc_inside bs k) → next_of bs c k ≡ Next.End
+    at : Tested (arc_inside bs k) → next_of bs c k ≡ None
     at (passed e) = absurd (h (inside_at bs k e))
     at (failed e) = rw e
 
-pub gives_zero : (w : Walk) → w.arc ≡ 0 → gives w ≡ Next.End
+pub gives_zero : (w : Walk) → w.arc ≡ 0 → gives w ≡ None
 gives_zero w e = outside w.table.now w.chain w.arc (λ i. omega arith)
 
-pub gives_over : (w : Walk) → m_of (field_of w.table.now) < w.arc → gives w ≡ Next.End
+pub gives_over : (w : Walk) → m_of (field_of w.table.now) < w.arc → gives w ≡ None
 gives_over w h = outside w.table.now w.chain w.arc (λ i. omega arith)
 
-pub gives_past : (w : Walk) → length w.table.now < table_length (n_of (field_of w.table.now)) w.arc → gives w ≡ Next.End
+pub gives_past : (w : Walk) → length w.table.now < table_length (n_of (field_of w.table.now)) w.arc → gives w ≡ None
 gives_past w h = outside w.table.now w.chain w.arc (λ i. omega arith)
 
-pub keeps : (i : ℕ) (w : Walk) → ((steps_on i w).table ≡ w.table) × ((steps_on i w).chain ≡ w.chain) × ((steps_on i w).number ≡ w.number)
+pub keeps : (i : ℕ) (w : Walk) → ((steps_on i w).table ≡ w.table) × ((steps_on i w).chain ≡ w.chain) × ((steps_on i w).refusal ≡ w.refusal)
 unfolding steps_on
 keeps zero w = (refl, refl, refl)
 keeps (suc i) w = keeps i (stepped_walk w)
@@ -88,19 +89,16 @@ steps_on_next (suc i) w = steps_on_next i (stepped_walk w)
 
 -- ---- opening
 
-open_answer_number : (n k : ℕ) → opened_number (open_answer n k) ≡ n
-unfolding open_answer
-open_answer_number zero k = refl
-open_answer_number (suc n) k = refl
+answered_stands : (n k : ℕ) → (refusal_number (refusal_of (answered n k)) ≡ 0 → ⊥) → opened_arc (answered n k) ≡ 0
+answered_stands zero k h = absurd (h refl)
+answered_stands (suc n) k h = refl
 
-open_answer_stands : (n k : ℕ) → (opened_number (open_answer n k) ≡ 0 → ⊥) → opened_arc (open_answer n k) ≡ 0
-unfolding open_answer
-open_answer_stands zero k h = absurd (h refl)
-open_answer_stands (suc n) k h = refl
+answered_number : (a : Result ℕ Refusal) → refusal_number (refusal_of a) ≡ number_of a
+answered_number (Ok k) = refl
+answered_number (Err e) = refl
 
-opening_number : (bs : List ℕ) (c : Chain) (p : ℕ) → opened_number (opened_of bs c p) ≡ open_number bs p
-unfolding opened_of
-opening_number bs c p = open_answer_number (open_number bs p) (first c (field_of bs) p)
+opened_number : (bs : List ℕ) (c : Chain) (p : ℕ) → refusal_number (refusal_of (opened_of bs c p)) ≡ open_number bs p
+opened_number bs c p = answered_number (opened_of bs c p) ∙ opening_number bs c p
 
 -- checks 1 to 8 find nothing
 record Accepts (bs : List ℕ) (p : ℕ) : Type 0 where
@@ -116,13 +114,13 @@ accepts bs p e = at (read_number bs) refl (tested (is_process (n_of (field_of bs
     at zero r (failed q) h = absurd (omega (arith, rw q at h))
     at (suc n) r q h = absurd (omega arith)
 
-opened_first : (bs : List ℕ) (c : Chain) (p : ℕ) → MeetsLayout bs → IsProcess (n_of (field_of bs)) p → opened_of bs c p ≡ Opened.At (first c (field_of bs) p)
-unfolding opened_of open_number or_else open_answer
+opened_first : (bs : List ℕ) (c : Chain) (p : ℕ) → MeetsLayout bs → IsProcess (n_of (field_of bs)) p → opened_of bs c p ≡ Ok (first c (field_of bs) p)
+unfolding opened_of open_number or_else
 opened_first bs c p good q = rw ((accepted_P bs).1 good, (is_process_P (n_of (field_of bs)) p).1 q)
 
 opened_P : (table : Bor (List ℕ)) (c : Chain) (p : ℕ)
-    → ((opened_walk table c p).number ≡ 0) ↔ (MeetsLayout table.now × IsProcess (n_of (field_of table.now)) p)
-opened_P table c p = (λ e. met (accepts bs p (sym (opening_number bs c p) ∙ e)), λ g. ap opened_number (opened_first bs c p g.0 g.1))
+    → (walk_number (opened_walk table c p) ≡ 0) ↔ (MeetsLayout table.now × IsProcess (n_of (field_of table.now)) p)
+opened_P table c p = (λ e. met (accepts bs p (sym (opened_number bs c p) ∙ e)), λ g. ap (λ (o : Result ℕ Refusal). refusal_number (refusal_of o)) (opened_first bs c p g.0 g.1))
   where
     bs : List ℕ
     bs = table.now
@@ -130,9 +128,9 @@ opened_P table c p = (λ e. met (accepts bs p (sym (opening_number bs c p) ∙ e
     met : Accepts bs p → MeetsLayout bs × IsProcess (n_of (field_of bs)) p
     met a = ((accepted_P bs).0 a.read, (is_process_P _ p).0 a.process)
 
-pub refused_stands : (table : Bor (List ℕ)) (c : Chain) (p : ℕ) → ((opened_walk table c p).number ≡ 0 → ⊥) → (opened_walk table c p).arc ≡ 0
+pub refused_stands : (table : Bor (List ℕ)) (c : Chain) (p : ℕ) → (walk_number (opened_walk table c p) ≡ 0 → ⊥) → (opened_walk table c p).arc ≡ 0
 unfolding opened_of
-refused_stands table c p h = open_answer_stands (open_number table.now p) (first c (field_of table.now) p) h
+refused_stands table c p h = answered_stands (open_number table.now p) (first c (field_of table.now) p) h
 
 -- ---- the walk on a table that meets the layout
 
@@ -141,12 +139,12 @@ unfolding next_answer
 next_arc_answer zero = refl
 next_arc_answer (suc k) = refl
 
-next_answer_arc : (k : ℕ) → 1 ≤ k → next_answer k ≡ Next.Arc k
+next_answer_arc : (k : ℕ) → 1 ≤ k → next_answer k ≡ Some k
 unfolding next_answer
 next_answer_arc zero h = absurd (omega arith)
 next_answer_arc (suc k) h = refl
 
-next_answer_end : (k : ℕ) → k ≡ 0 → next_answer k ≡ Next.End
+next_answer_end : (k : ℕ) → k ≡ 0 → next_answer k ≡ None
 unfolding next_answer
 next_answer_end zero h = refl
 next_answer_end (suc k) h = absurd (omega arith)
@@ -211,16 +209,16 @@ module _ (table : Bor (List ℕ)) (good : MeetsLayout table.now) (c : Chain) whe
   t = field_of table.now
 
   -- a walk along the chain, at arc k
-  abbrev at : ℕ → ℕ → Walk
-  at n k = record { table = table; chain = c; arc = k; number = n }
+  abbrev at : Option Refusal → ℕ → Walk
+  at n k = record { table = table; chain = c; arc = k; refusal = n }
 
-  steps_on_steps : (i n k : ℕ) → k ≤ m_of t → steps_on i (at n k) ≡ at n (steps c t k i)
+  steps_on_steps : (i : ℕ) (n : Option Refusal) (k : ℕ) → k ≤ m_of t → steps_on i (at n k) ≡ at n (steps c t k i)
   unfolding steps_on steps
   steps_on_steps zero n k high = refl
   steps_on_steps (suc i) n k high =
       ap (λ (j : ℕ). steps_on i (at n j)) (leads table.now good c k high) ∙ steps_on_steps i n (follow c t k) (follow_inside table.now good c k high)
 
-  arcs_met_along : (f n k : ℕ) → k ≤ m_of t → arcs_met f (at n k) ≡ along c t f k
+  arcs_met_along : (f : ℕ) (n : Option Refusal) (k : ℕ) → k ≤ m_of t → arcs_met f (at n k) ≡ along c t f k
   unfolding arcs_met along follow
   arcs_met_along zero n k high = refl
   arcs_met_along (suc f) n zero high = refl
@@ -230,19 +228,19 @@ module _ (table : Bor (List ℕ)) (good : MeetsLayout table.now) (c : Chain) whe
       ∙ arcs_met_along f n (next c (arc_at t (suc k))) (follow_inside table.now good c (suc k) high))
 
   module _ (p : ℕ) (own : IsProcess (n_of t) p) where
-    opened_at : opened_walk table c p ≡ at 0 (first c t p)
-    opened_at = ap (λ (o : Opened). at (opened_number o) (opened_arc o)) (opened_first table.now c p good own)
+    opened_at : opened_walk table c p ≡ at None (first c t p)
+    opened_at = ap (λ (o : Result ℕ Refusal). at (refusal_of o) (opened_arc o)) (opened_first table.now c p good own)
 
     mine : Listed c t p (met c t p)
     mine = met_listed t good.right c p own
 
     arcs_met_met : (f : ℕ) → m_of t ≤ f → arcs_met f (opened_walk table c p) ≡ met c t p
     arcs_met_met f enough =
-        ap (arcs_met f) opened_at ∙ arcs_met_along f 0 (first c t p) (good.right.firsts c p own) ∙ follows_along f mine.follows (omega (arith, mine.short))
+        ap (arcs_met f) opened_at ∙ arcs_met_along f None (first c t p) (good.right.firsts c p own) ∙ follows_along f mine.follows (omega (arith, mine.short))
 
     -- after i steps it stands at the chain's place i
-    at_place : (i : ℕ) → steps_on i (opened_walk table c p) ≡ at 0 (place c t p i)
-    at_place i = ap (steps_on i) opened_at ∙ steps_on_steps i 0 (first c t p) (good.right.firsts c p own) ∙ ap (at 0) (sym (place_steps c t p i))
+    at_place : (i : ℕ) → steps_on i (opened_walk table c p) ≡ at None (place c t p i)
+    at_place i = ap (steps_on i) opened_at ∙ steps_on_steps i None (first c t p) (good.right.firsts c p own) ∙ ap (at None) (sym (place_steps c t p i))
 
     gives_place : (i : ℕ) → gives (steps_on i (opened_walk table c p)) ≡ next_answer (place c t p (suc i))
     gives_place i = ap gives (at_place i) ∙ next_place table.now good c p own i
@@ -254,7 +252,7 @@ module _ (table : Bor (List ℕ)) (good : MeetsLayout table.now) (c : Chain) whe
           stands = λ i. ap (λ (w : Walk). w.arc) (at_place i) ∙ place_met t good.right c p own i;
           goes_on =
               λ i h. gives_place i ∙ next_answer_arc (place c t p (suc i)) (place_low t good.right c p own (suc i) h)
-              ∙ ap Next.Arc (place_met t good.right c p own (suc i));
+              ∙ ap Some (place_met t good.right c p own (suc i));
           ends = λ i h. gives_place i ∙ next_answer_end (place c t p (suc i)) (place_past t good.right c p own (suc i) h);
           order = mine.follows;
           once = λ k a e. mine.counts k a ∙ bit_same (near c (arc_at t k)) p e;

@@ -26,10 +26,7 @@ pub fn is_same(word: i32, other: i32) -> bool
 fn is_message(word: i32) -> bool
     ensures { result ≡ message_word word }
 {
-    if !is_number(word) {
-        return false;
-    }
-    steps::is_count_small(words::message_of(word))
+    is_number(word) && steps::is_count_small(words::message_of(word))
 }
 
 // The words from `from` up to `to` are 0. All of them are looked at, so that several are at once.
@@ -38,8 +35,8 @@ pub fn is_free(area: &[i32], from: usize, to: usize) -> bool
     ensures { result ≡ all_to (to - from) (λ j. is_free area.now (from + (j - 1))) }
 {
     let mut free = true;
-    for k in from..to {
-        free = free & is_same(area[k], 0);
+    for word in &area[from..to] {
+        free = free & is_same(*word, 0);
     }
     free
 }
@@ -49,8 +46,8 @@ fn are_messages(area: &[i32], i: usize, l: usize) -> bool
     requires { i + l ≤ length area.now }
     ensures { result ≡ all_to l (λ j. message_word (get_or area.now (i + (j - 1)) (pos 0))) }
 {
-    for j in 0..l {
-        if !is_message(area[i + j]) {
+    for word in &area[i..i + l] {
+        if !is_message(*word) {
             return false;
         }
     }
@@ -65,8 +62,5 @@ pub fn is_link(area: &[i32], i: usize, slots: usize, size: usize) -> bool
     ensures { result ≡ link_test slots size area.now i }
 {
     let l = words::link_length(area, i, slots);
-    if !are_messages(area, i, l) {
-        return false;
-    }
-    is_free(area, i + l, i + size)
+    are_messages(area, i, l) && is_free(area, i + l, i + size)
 }

@@ -5,17 +5,17 @@ use Rattle.tables.specs.Pairs.{square_side}
 use Rattle.beginning.proofs.Beginning.{row_kept, record_in_range, record_father, put_stage, put_room, suc_stage, suc_room, begin_made}
 use Rattle.beginning.proofs.begin.Goals as goal
 
-pub fill_row-requires-clause-by_index : goal.fill_row-requires-clause-by_index
-fill_row-requires-clause-by_index c = replicate_zero square_side
+pub fill_row-requires-clause-zeros : goal.fill_row-requires-clause-zeros
+fill_row-requires-clause-zeros c = replicate_zero square_side
 
 pub put_process-requires : goal.put_process-requires
 put_process-requires c =
     let x = c.first_record-first in
     record {
       ready = c.requires.ready;
-      le_p = c.requires.start_is_in;
-      x_value = record_in_range c.requires x.result x.ensures;
-      x_value_2 = record_father c.requires x.result x.ensures;
+      is_process = c.requires.start_is_in;
+      in_range = record_in_range c.requires x.result x.ensures;
+      father_right = record_father c.requires x.result x.ensures;
     }
 
 pub broadcast-requires : goal.broadcast-requires
@@ -24,7 +24,7 @@ broadcast-requires c =
     let first = put_stage c.requires x.result x.ensures c.put_process.new.area c.put_process.ensures in
     record {
       ready = first.ready;
-      le_b = c.requires.start_is_in;
+      is_process = c.requires.start_is_in;
       row = row_kept first _ _ c.fill_row.ensures;
       spreadable = λ q l u j. put_room c.requires first q;
     }
@@ -36,7 +36,7 @@ broadcast-requires-2 c =
     let second = suc_stage c.requires first c.broadcast.new.area c.broadcast.ensures in
     record {
       ready = second.ready;
-      le_b = c.requires.start_is_in;
+      is_process = c.requires.start_is_in;
       row = row_kept second _ _ c.fill_row.ensures;
       spreadable = λ q l u j. suc_room c.requires second q;
     }

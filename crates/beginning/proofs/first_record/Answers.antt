@@ -11,19 +11,20 @@ use Rattle.beginning.proofs.first_record.Goals as goal
 pub overflow_add-result : goal.overflow_add-result
 unfolding out_degree in_degree
 overflow_add-result c =
-    let v = (run_in c.args.area.now).waits in
+    let v = (run_in c.args.area.words.now).waits in
     omega (
       arith,
-      c.degree_in-successors.ensures,
-      c.degree_in-predecessors.ensures,
+      c.degree-successors.ensures,
+      c.degree-predecessors.ensures,
       count_to_most v.n (λ q. v.waits c.args.s q),
       count_to_most v.n (λ q. v.waits q c.args.s),
-      ready_n c.requires.ready,
-      (ready_sizes c.requires.ready).0,
+      ready_n c.args.area.ready,
+      (ready_sizes c.args.area.ready).0,
     )
 
 pub returns : goal.returns
 unfolding started
 returns c =
     let own = c.own_count in
-    rw (signed_back own.result own.type_inv, own.ensures, c.degree_in-successors.ensures, c.degree_in-predecessors.ensures)
+    let none = c.default.ensures in
+    rw (signed_back own.result own.type_inv, own.ensures, c.degree-successors.ensures, c.degree-predecessors.ensures, none.1.1.0, none.1.1.1.0, none.1.1.1.1.1.0)

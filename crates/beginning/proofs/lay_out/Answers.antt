@@ -14,11 +14,11 @@ pub returns : goal.returns
 returns c =
     let t = field_of c.args.table.now in
     let w = c.args.area.now in
-    let n = c.args.n in
-    let m = c.args.m in
-    let words = c.area_length-words in
+    let n = c.args.sizes.n in
+    let m = c.args.sizes.m in
+    let words = c.area_length in
     let clear = c.clear in
-    let fields = c.field_total-fields in
+    let fields = c.field_total in
     let copy = c.copy_fields in
     let e : area_length n m ≡ area_of t = omega arith in
     let f : field_total n m ≡ field_total_of t = omega arith in

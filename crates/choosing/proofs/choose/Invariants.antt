@@ -1,4 +1,4 @@
-use Rattle.std.proofs.Common.{ℕ, ◌+◌, ◌-◌, ◌≤◌, ◌≡◌}
+use Rattle.std.proofs.Common.{ℕ, ◌+◌, ◌-◌, ◌≤◌, ◌≡◌, None}
 use Rattle.checks.specs.Run.{Run}
 use Rattle.machine.specs.Calls.{waiting}
 use Rattle.areas.specs.Area.{run_in}
@@ -9,8 +9,8 @@ use Rattle.choosing.proofs.choose.Given as goal
 abbrev pub So : Run → ℕ → ℕ → ℕ → Type 0
 So r place b left = left + held_to (λ x y. waiting (r.link x y)) (b - 1) ≡ place
 
-abbrev pub invariant-loop-a : goal.invariant-loop-a
-invariant-loop-a l = (l.a ≡ l.first) × (l.from ≡ 0)
+abbrev pub invariant-loop-from : goal.invariant-loop-from
+invariant-loop-from l = (l.from ≡ l.first) × (l.found ≡ None)
 
 abbrev pub invariant-scan : goal.invariant-scan
-invariant-scan l = (1 ≤ l.b) × (l.from ≡ 0) × So (run_in l.area) l.place l.b l.left
+invariant-scan l = (1 ≤ l.to) × (l.found ≡ None) × So (run_in l.area.words.now) l.place l.to l.left

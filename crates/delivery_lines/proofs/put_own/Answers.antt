@@ -10,18 +10,18 @@ use Rattle.delivery_lines.proofs.put_own.Goals as goal
 
 pub overflow_cast-from : goal.overflow_cast-from
 overflow_cast-from c =
-    let small : (c.in-Delivered.from ≤ most_processes) × (c.in-Delivered.to ≤ most_processes) = left_small lowest lowest_names c.requires.running (c.deliver_next.ensures.value, (c.deliver_next.ensures.area_after, (c.deliver_next.ensures.remembers_2, c.deliver_next.ensures.running_2))) c.in-Delivered.is in
+    let small : (c.in-Ok.field-0.from ≤ most_processes) × (c.in-Ok.field-0.to ≤ most_processes) = left_small lowest lowest_names c.requires.running (c.deliver_next.ensures.told, (c.deliver_next.ensures.area_after, (c.deliver_next.ensures.remembers_after, c.deliver_next.ensures.running_after))) c.in-Ok.is in
     omega (arith, small.0)
 
 pub overflow_cast-to : goal.overflow_cast-to
 overflow_cast-to c =
-    let small : (c.in-Delivered.from ≤ most_processes) × (c.in-Delivered.to ≤ most_processes) = left_small lowest lowest_names c.requires.running (c.deliver_next.ensures.value, (c.deliver_next.ensures.area_after, (c.deliver_next.ensures.remembers_2, c.deliver_next.ensures.running_2))) c.in-Delivered.is in
+    let small : (c.in-Ok.field-0.from ≤ most_processes) × (c.in-Ok.field-0.to ≤ most_processes) = left_small lowest lowest_names c.requires.running (c.deliver_next.ensures.told, (c.deliver_next.ensures.area_after, (c.deliver_next.ensures.remembers_after, c.deliver_next.ensures.running_after))) c.in-Ok.is in
     omega (arith, small.1)
 
-pub returns-in-Refused-clause-made_value : goal.returns-in-Refused-clause-made_value
-returns-in-Refused-clause-made_value c =
+pub returns-in-Err-clause-made : goal.returns-in-Err-clause-made
+returns-in-Err-clause-made c =
     sym
     (ap delivery_made
     (left-refusal lowest lowest_names c.requires.running
-    (c.deliver_next.ensures.value, (c.deliver_next.ensures.area_after, (c.deliver_next.ensures.remembers_2, c.deliver_next.ensures.running_2)))
-    c.in-Refused.is))
+    (c.deliver_next.ensures.told, (c.deliver_next.ensures.area_after, (c.deliver_next.ensures.remembers_after, c.deliver_next.ensures.running_after)))
+    c.in-Err.is))

@@ -6,6 +6,7 @@ use Rattle.checks.specs.Lists.{passed}
 use Rattle.areas.specs.Area.{run_in}
 use Rattle.lenses.specs.Ready.{Ready}
 use Rattle.area_calls.specs.AreaCalls.{pick_answer, pick_area}
+use Rattle.tables.specs.declared.Sizes.{Sizes}
 use Rattle.inputs.specs.declared.Pick.{Pick}
 use Rattle.inputs.specs.Input.{picks_in, pick_from, pick_to, pick_in}
 use Rattle.program_text.specs.Program.{picks_on, pick_calls, pick_line, picks_text}
@@ -20,7 +21,7 @@ module _ (bs : List ℕ) (picks : ℕ) (w : List ℤ) where
 
   module _ (j : ℕ) (v : List ℤ) (r : Rest bs picks w j v) where
     -- pick j is made
-    rest_next : {n m : ℕ} → Ready v n m → j < picks → (p : Pick) → p ≡ pick_in bs j → (u : List ℤ)
+    rest_next : {s : Sizes} → Ready v s → j < picks → (p : Pick) → p ≡ pick_in bs j → (u : List ℤ)
         → u ≡ pick_area v p.from p.to 1 → Rest bs picks w (j + 1) u
     unfolding picks_on in_turn pick_in
     rest_next y h p e u f =
@@ -35,35 +36,30 @@ module _ (bs : List ℕ) (picks : ℕ) (w : List ℤ) where
     unfolding picks_on in_turn
     rest_none h = let z : picks - j ≡ 0 = omega arith in sym (r ∙ ap (λ (k : ℕ). (passed (picks_on bs j k) (run_in v)).left) z)
 
-pub put_pick-at-requires-clause-to_in_bounds : goal.put_pick-at-requires-clause-to_in_bounds
-put_pick-at-requires-clause-to_in_bounds c =
+pub put_pick-requires-clause-room : goal.put_pick-requires-clause-room
+put_pick-requires-clause-room c =
     let inv = c.loop-j.invariant in
-    let y = inv.3 in
-    let this = c.pick_at-pick.result in
+    let y = inv.2 in
+    let this = c.pick_at.result in
     let v = pick_area c.loop-j.area this.from this.to 1 in
-    let line = picks_next _ _ _ y c.loop-j-test.true this c.pick_at-pick.ensures refl in
-    let rest = picks_text c.args.input.now (c.loop-j.j + 1) (c.args.picks - (c.loop-j.j + 1)) (run_in v) in
-    partly_room (pick_line this.from this.to (pick_answer c.loop-j.area this.from this.to 1)) rest inv.5 line (omega (arith, c.requires.area_in_bounds))
+    let line = picks_next _ _ _ y c.loop-j-test.true this c.pick_at.ensures refl in
+    let rest = picks_text c.args.input.now (c.loop-j.j + 1) (c.args.begun.picks - (c.loop-j.j + 1)) (run_in v) in
+    partly_room (pick_line this.from this.to (pick_answer c.loop-j.area this.from this.to 1)) rest inv.4 line c.requires.room
 
 pub loop-j-preserved : goal.loop-j-preserved
 loop-j-preserved c =
     let inv = c.loop-j.invariant in
-    let this = c.pick_at-pick.result in
+    let this = c.pick_at.result in
     let test = c.loop-j-test.true in (
       omega arith,
-      c.put_pick-at.auto.area ∙ inv.1,
-      c.put_pick-at.auto.out ∙ inv.2,
-      c.put_pick-at.ensures.ready_2,
-      rest_next _ _ _ _ _ inv.4 inv.3 test this c.pick_at-pick.ensures _ c.put_pick-at.ensures.area_after,
-      partly_next inv.5 (picks_next _ _ _ inv.3 test this c.pick_at-pick.ensures c.put_pick-at.ensures.area_after) c.put_pick-at.ensures.put,
+      c.put_pick.auto.area ∙ inv.1,
+      c.put_pick.ensures.ready_after,
+      rest_next _ _ _ _ _ inv.3 inv.2 test this c.pick_at.ensures _ c.put_pick.ensures.area_after,
+      partly_next inv.4 (picks_next _ _ _ inv.2 test this c.pick_at.ensures c.put_pick.ensures.area_after) c.put_pick.ensures.put,
     )
 
 pub returns-clause-put : goal.returns-clause-put
-returns-clause-put c =
-    let inv = c.loop-j.invariant in
-    partly_last inv.5 (picks_none _ _ _ _ c.loop-j-test.false)
+returns-clause-put c = partly_last c.loop-j.invariant.4 (picks_none _ _ _ _ c.loop-j-test.false)
 
 pub returns-clause-area_after : goal.returns-clause-area_after
-returns-clause-area_after c =
-    let inv = c.loop-j.invariant in
-    rest_none _ _ _ _ _ inv.4 c.loop-j-test.false
+returns-clause-area_after c = rest_none _ _ _ _ _ c.loop-j.invariant.3 c.loop-j-test.false

@@ -4,4 +4,4 @@ use Rattle.end_lines.proofs.Rows.{Rows}
 use Rattle.end_lines.proofs.put_processes.Given as goal
 
 abbrev pub invariant-loop-p : goal.invariant-loop-p
-invariant-loop-p l = (1 ≤ l.p) × (l.p ≤ l.n + 1) × Rows (run_in l.area) l.p l.initial.out l.at l.out l.place
+invariant-loop-p l = (l.p ≤ l.area.sizes.n + 1) × Rows (run_in l.area.words.now) l.p l.initial.page l.page

@@ -1,14 +1,14 @@
 -- `marks::count_down` meets its contract.
-use Rattle.std.proofs.Common.{refl}
-use Rattle.marks.proofs.Marking.{down_same, down_turned, down_asks}
+use Rattle.marks.proofs.Marking.{down_same, down_turned, down_word}
 use Rattle.marks.proofs.count_down.Goals as goal
 
-pub returns-then-count-ne0 : goal.returns-then-count-ne0
-returns-then-count-ne0 c = down_same c.args.memory.now c.args.b c.count_at-at.ensures c.if-count-ne0.true
+pub strike-requires-clause-digit_taken : goal.strike-requires-clause-digit_taken
+strike-requires-clause-digit_taken c =
+    down_word c.args.numbers.now c.args.b c.count_at-at.ensures c.requires.marked c.requires.receiver c.requires.counted
 
-pub strike-requires-clause-p_bound : goal.strike-requires-clause-p_bound
-strike-requires-clause-p_bound c =
-    (down_asks c.args.memory.now c.args.b c.count_at-at.ensures c.requires.marked c.requires.process c.requires.bound refl).1.1.1
+pub returns-then-numbers-at-eq0 : goal.returns-then-numbers-at-eq0
+returns-then-numbers-at-eq0 c =
+    down_turned c.args.numbers.now c.args.b c.count_at-at.ensures c.requires.marked c.requires.receiver c.if-numbers-at-eq0.true c.strike.ensures
 
-pub returns : goal.returns
-returns c = down_turned c.args.memory.now c.args.b c.count_at-at.ensures c.if-count-ne0.false c.strike.ensures
+pub returns-else-numbers-at-eq0 : goal.returns-else-numbers-at-eq0
+returns-else-numbers-at-eq0 c = down_same c.args.numbers.now c.args.b c.count_at-at.ensures c.requires.marked c.requires.receiver c.if-numbers-at-eq0.false

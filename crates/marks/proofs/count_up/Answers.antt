@@ -1,20 +1,21 @@
 -- `marks::count_up` meets its contract.
-use Rattle.std.proofs.Common.{arith, get_or, ap, refl, ℕ}
+use Rattle.std.proofs.Common.{arith, get_or, ap, ℕ}
 use Rattle.marks.specs.MarkLaws.{marks_few}
-use Rattle.marks.proofs.Marking.{up_same, up_turned, up_asks}
+use Rattle.marks.proofs.Marking.{up_same, up_turned, up_word}
 use Rattle.marks.proofs.count_up.Goals as goal
 
-pub overflow_add-memory : goal.overflow_add-memory
-overflow_add-memory c =
-    let e = ap (λ (i : ℕ). get_or c.args.memory.now i 0) c.count_at-at.ensures in
-    omega (arith, e, marks_few c.requires.marked.1.rows c.args.b c.requires.process)
+pub overflow_add-numbers : goal.overflow_add-numbers
+overflow_add-numbers c =
+    let e = ap (λ (i : ℕ). get_or c.args.numbers.now i 0) c.count_at-at.ensures in
+    omega (arith, e, marks_few c.requires.marked.1.rows c.args.b c.requires.receiver)
 
-pub returns-then-count-ne0 : goal.returns-then-count-ne0
-returns-then-count-ne0 c = up_same c.args.memory.now c.args.b c.count_at-at.ensures c.if-count-ne0.true
+pub add-requires-clause-digit_free : goal.add-requires-clause-digit_free
+add-requires-clause-digit_free c =
+    up_word c.args.numbers.now c.args.b c.count_at-at.ensures c.requires.marked c.requires.receiver c.if-numbers-at-eq1.true
 
-pub add-requires-clause-p_bound : goal.add-requires-clause-p_bound
-add-requires-clause-p_bound c =
-    (up_asks c.args.memory.now c.args.b c.count_at-at.ensures c.requires.marked c.requires.process c.if-count-ne0.false refl).1.1.1
+pub returns-then-numbers-at-eq1 : goal.returns-then-numbers-at-eq1
+returns-then-numbers-at-eq1 c =
+    up_turned c.args.numbers.now c.args.b c.count_at-at.ensures c.requires.marked c.requires.receiver c.if-numbers-at-eq1.true c.add.ensures
 
-pub returns : goal.returns
-returns c = up_turned c.args.memory.now c.args.b c.count_at-at.ensures c.if-count-ne0.false c.add.ensures
+pub returns-else-numbers-at-eq1 : goal.returns-else-numbers-at-eq1
+returns-else-numbers-at-eq1 c = up_same c.args.numbers.now c.args.b c.count_at-at.ensures c.requires.marked c.requires.receiver c.if-numbers-at-eq1.false

@@ -8,43 +8,43 @@ use Rattle.one_step.proofs.take_turn.Goals as goal
 pub set_succeeding-requires : goal.set_succeeding-requires
 set_succeeding-requires c =
     let x = c.args.process in
-    let h = lent c.args.message c.args.out_degree c.args.in_degree x c.requires.process_value in
+    let h = lent c.args.message c.args.out_degree c.args.in_degree x c.requires.lent_fits in
     record {
-      out_degree_le_most_processes = omega arith;
-      num_le_most_num = rw (c.rule1.ensures, rule1_num c.args.sender x) (in_range_P x h.process).num;
-      second_value = rw c.rule1.ensures (rule1_second c.args.sender x h.process);
+      degree_in_range = omega arith;
+      num_in_range = rw (c.rule1.ensures, rule1_num c.args.sender x) (in_range_P x h.process).num;
+      second_small = rw c.rule1.ensures (rule1_second c.args.sender x h.process);
     }
 
 pub rule3-requires : goal.rule3-requires
 rule3-requires c =
     let x = c.args.process in
-    let h = lent c.args.message c.args.out_degree c.args.in_degree x c.requires.process_value in
+    let h = lent c.args.message c.args.out_degree c.args.in_degree x c.requires.lent_fits in
     let r = set_succeeding_ready _ (rule1 c.args.sender x) (rule1_ready c.args.sender x h.process) in
-    rw (c.set_succeeding.ensures, c.rule1.ensures) (record { addable = r.0; succeeding_bound = r.1.0; preceding_bound = r.1.1 })
+    rw (c.set_succeeding.ensures, c.rule1.ensures) (record { addable = r.0; succeeding_flag = r.1.0; preceding_flag = r.1.1 })
 
 pub set_preceding-requires : goal.set_preceding-requires
 set_preceding-requires c =
     let x = c.args.process in
-    let h = lent c.args.message c.args.out_degree c.args.in_degree x c.requires.process_value in
+    let h = lent c.args.message c.args.out_degree c.args.in_degree x c.requires.lent_fits in
     record {
-      in_degree_le_most_processes = omega arith;
-      num_le_most_num = rw (c.rule1-in-Pre.ensures, rule1_num c.args.sender x) (in_range_P x h.process).num;
+      degree_in_range = omega arith;
+      num_in_range = rw (c.rule1-in-Pre.ensures, rule1_num c.args.sender x) (in_range_P x h.process).num;
     }
 
 pub rule3-requires-in-Pre : goal.rule3-requires-in-Pre
 rule3-requires-in-Pre c =
     let x = c.args.process in
-    let h = lent c.args.message c.args.out_degree c.args.in_degree x c.requires.process_value in
+    let h = lent c.args.message c.args.out_degree c.args.in_degree x c.requires.lent_fits in
     let r = set_preceding_ready _ (rule1 c.args.sender x) (rule1_ready c.args.sender x h.process) in
-    rw (c.set_preceding.ensures, c.rule1-in-Pre.ensures) (record { addable = r.0; succeeding_bound = r.1.0; preceding_bound = r.1.1 })
+    rw (c.set_preceding.ensures, c.rule1-in-Pre.ensures) (record { addable = r.0; succeeding_flag = r.1.0; preceding_flag = r.1.1 })
 
 pub acknowledged-requires : goal.acknowledged-requires
 acknowledged-requires c =
     let x = c.args.process in
     let m = c.args.message in
-    let h = lent m c.args.out_degree c.args.in_degree x c.requires.process_value in
-    let a = acknowledgeable m c.in-Ack.counts x c.in-Ack.is h.process h.count c.requires.process_value_2 in
-    record { counts_value = a.0; process_value = a.1.0; le_num = a.1.1 }
+    let h = lent m c.args.out_degree c.args.in_degree x c.requires.lent_fits in
+    let a = acknowledgeable m c.in-Ack.counts x c.in-Ack.is h.process h.count c.requires.num_fits in
+    record { counts_small = a.0; sums_small = a.1.0; awaits = a.1.1 }
 
 pub returns-in-Suc : goal.returns-in-Suc
 unfolding turn

@@ -1,5 +1,5 @@
 -- What was read is the front of what the reader had, as much of it as an answer looks at.
-use Rattle.std.proofs.Common.{◌≡◌, ℕ, ◌+◌, ◌-◌, ◌≤◌, ◌<◌, List, [], ◌++◌, length, take, Option, None, Some, IfSome, sym, ap, ◌∙◌, arith, subst, append-nil}
+use Rattle.std.proofs.Common.{◌≡◌, ℕ, ◌+◌, ◌≤◌, ◌<◌, List, [], ◌++◌, length, take, Option, None, Some, IfSome, sym, ap, ◌∙◌, arith, subst, append-nil}
 use Rattle.std.proofs.Math.Seq.{take_at, take_all}
 use Rattle.std.proofs.lemmas.List.{length-take-le}
 use Rattle.std.specs.Io.KnownBytes.{Appends, Consumes, IsAtEnd}
@@ -27,8 +27,7 @@ whole (Some bs) None wo wn input n h l e f a = absurd e
 whole (Some bs) (Some ys) wo wn input n h l e f a =
     subst (λ (t : List ℕ). Appends wo wn (program_text t)) (sym (ap (λ (k : ℕ). take k bs) (sym l) ∙ front bs ys input n h e f)) a
 
-pub returns-then-print_check-clause-printed : goal.returns-then-print_check-clause-printed
-returns-then-print_check-clause-printed g c = λ _.
-    let r = c.read_input-failed in
-    let z : r.result.length - 0 ≡ r.result.length = omega arith in
-    whole _ _ _ _ r.new.input r.result.length r.ensures.length_in_bounds r.auto.input r.ensures.taken (r.ensures.ended c.if-failed.false) (rw z at (c.print_check.ensures c.if-print_check.true))
+pub returns-in-Ok-print_check-clause-printed : goal.returns-in-Ok-print_check-clause-printed
+returns-in-Ok-print_check-clause-printed g c =
+    let read = c.in-Ok.ensures in
+    whole _ _ _ _ c.read_input.new.input c.in-Ok.length read.length_in_bounds c.read_input.auto.input read.taken read.ended c.in-Ok-print_check.ensures

@@ -1,35 +1,39 @@
--- What is written is the text, and no longer than what is lent.
-use Rattle.std.proofs.Common.{◌≡◌, ℕ, ◌-◌, List, length, take, drop, sym, ap, ◌∙◌, arith, subst, true, Ok, Err, OnOk, Result}
+-- The whole text is formed in what is lent, and written.
+use Rattle.std.proofs.Common.{◌≡◌, refl, ℕ, ◌≤◌, List, length, take, drop, sym, ap, ◌∙◌, arith, subst, Ok, OnOk}
 use Rattle.std.specs.Io.KnownBytes.{Appends}
-use Rattle.std.specs.Result.{is_ok}
 use Rattle.std.proofs.Math.Seq.{take_at}
-use Rattle.base.specs.ChoiceLaws.{below?}
-use Rattle.base.specs.Checks.{Below, below, beyond}
+use Rattle.std.proofs.lemmas.List.{length-take-le}
+use borrow.Author.Tests.{le-ltb}
 use Rattle.program_text.specs.Program.{program_text}
 use Rattle.program_text.specs.Longest.{longest_output}
-use Rattle.printing.specs.declared.Text.TheVariants.{Formed, Refused}
 use Rattle.printing.specs.Form.{form_of, formed_in}
-use Rattle.printing.specs.FormLaws.{form_within}
+use Rattle.printing.specs.FormLaws.{form_enough, form_within}
 use Rattle.printing.proofs.print_check.Goals as goal
 
 -- the text stands at the front of what was lent
-form_text : (bs out : List ℕ) (k : ℕ) → Formed k ≡ form_of bs out → take k (formed_in bs out) ≡ program_text bs
-unfolding form_of formed_in
-form_text bs out k e = at (below? (length out) longest_output) e
-  where
-    at : Below (length out) longest_output → Formed k ≡ form_of bs out → take k (formed_in bs out) ≡ program_text bs
-    at (below _ q) f = let no : Formed k ≡ Refused 11 = rw q at f in absurd (let z : ◌≡◌ {A = ℕ} 0 1 = cc in omega arith)
-    at (beyond _ q) f = let is : Formed k ≡ Formed (length (program_text bs)) = rw q at f in let z : k ≡ length (program_text bs) = cc in rw q (take_at (program_text bs) (drop (length (program_text bs)) out) k (sym z))
+form_text : (bs out : List ℕ) {k : ℕ} → longest_output ≤ length out → form_of bs out ≡ Ok k → take k (formed_in bs out) ≡ program_text bs
+unfolding formed_in
+form_text bs out {k} h e =
+    let is : Ok (length (program_text bs)) ≡ Ok k = sym (form_enough bs out h) ∙ e in
+    let z : k ≡ length (program_text bs) = cc in
+    rw (le-ltb (length out) longest_output h) (take_at (program_text bs) (drop (length (program_text bs)) out) k (sym z))
 
-if_ok : {A E P : Type 0} (r : Result A E) → OnOk r P → is_ok r ≡ true → P
-if_ok (Ok x) h e = h
-if_ok (Err x) h e = absurd (cc)
+pub unwrap-length-requires : goal.unwrap-length-requires
+unwrap-length-requires g c =
+    let is = c.form.ensures.answer ∙ form_enough c.args.input.now _ (omega arith) in
+    rw is refl
+
+pub slice_bounds-output-end : goal.slice_bounds-output-end
+slice_bounds-output-end g c =
+    omega (arith, form_within c.args.input.now _ (λ i. (c.type_inv.input i).fits) (sym c.form.ensures.answer ∙ c.unwrap-length.ensures))
 
 pub slice_bounds-print-end : goal.slice_bounds-print-end
-slice_bounds-print-end g c = omega (arith, form_within c.args.input.now _ (λ i. (c.type_inv.input i).fits) (sym c.in-Formed.ensures.answer))
+slice_bounds-print-end g c =
+    let within = form_within c.args.input.now _ (λ i. (c.type_inv.input i).fits) (sym c.form.ensures.answer ∙ c.unwrap-length.ensures) in
+    omega (arith, length-take-le c.unwrap-length.result c.form.new.out (omega (arith, within)))
 
-pub returns-in-Formed : goal.returns-in-Formed
-returns-in-Formed g c =
-    let z : c.in-Formed.length - 0 ≡ c.in-Formed.length = omega arith in
-    let t = form_text c.args.input.now _ _ c.in-Formed.ensures.answer in
-    λ e. subst (λ (l : List ℕ). Appends (g.W.Write.contents c.args.to.now) (g.W.Write.contents c.print.new.to) l) (ap (take c.in-Formed.length) c.in-Formed.ensures.out ∙ t) (if_ok _ (rw z at c.print.ensures) (sym c.is_ok.ensures.value ∙ e))
+pub returns : goal.returns
+returns g c =
+    let text = form_text c.args.input.now _ (omega arith) (sym c.form.ensures.answer ∙ c.unwrap-length.ensures) in
+    subst (λ (l : List ℕ). OnOk c.print.result (Appends (g.W.Write.contents c.args.to.now) (g.W.Write.contents c.print.new.to) l))
+    (ap (take c.unwrap-length.result) c.form.ensures.out ∙ text) c.print.ensures

@@ -23,12 +23,12 @@ returns-then-not-is_number c =
     let parts : Tells (numbers_test c.args.area.now c.args.k) (NumberParts c.args.area.now c.args.k) = numbers_test_parts c.args.area.now c.args.k in
     sym (tells_no parts (λ s. failing flags-sign c.if-not-is_number.true s.flags))
 
-pub returns-then-number-gt7 : goal.returns-then-number-gt7
-returns-then-number-gt7 c =
-    let flags : let a = c.args in c.number.result ≡ number_at a.area.now (a.k + flags_place) = let a = c.args in
-    word_read nat_abs (get_or a.area.now (a.k + flags_place) (pos 0)) (omega arith) c.number.ensures in
+pub returns-then-unsigned_abs-gt7 : goal.returns-then-unsigned_abs-gt7
+returns-then-unsigned_abs-gt7 c =
+    let flags : let a = c.args in c.unsigned_abs.result ≡ number_at a.area.now (a.k + flags_place) = let a = c.args in
+    word_read nat_abs (get_or a.area.now (a.k + flags_place) (pos 0)) (omega arith) c.unsigned_abs.ensures.value in
     let parts : Tells (numbers_test c.args.area.now c.args.k) (NumberParts c.args.area.now c.args.k) = numbers_test_parts c.args.area.now c.args.k in
-    sym (tells_no parts (λ s. omega (arith, flags, c.if-number-gt7.true, s.bits)))
+    sym (tells_no parts (λ s. omega (arith, flags, c.if-unsigned_abs-gt7.true, s.bits)))
 
 pub returns-then-not-is_number-2 : goal.returns-then-not-is_number-2
 returns-then-not-is_number-2 c =
@@ -40,15 +40,15 @@ returns-then-not-is_number-2 c =
 pub returns : goal.returns
 returns c =
     let flags-sign : let a = c.args in c.is_number.result ≡ counts a.area.now (a.k + flags_place) = let a = c.args in sign a.area.now (a.k + flags_place) (omega arith) c.is_number.ensures in
-    let flags : let a = c.args in c.number.result ≡ number_at a.area.now (a.k + flags_place) = let a = c.args in
-    word_read nat_abs (get_or a.area.now (a.k + flags_place) (pos 0)) (omega arith) c.number.ensures in
+    let flags : let a = c.args in c.unsigned_abs.result ≡ number_at a.area.now (a.k + flags_place) = let a = c.args in
+    word_read nat_abs (get_or a.area.now (a.k + flags_place) (pos 0)) (omega arith) c.unsigned_abs.ensures.value in
     let num-sign : let a = c.args in c.is_number-2.result ≡ counts a.area.now (a.k + num_place) = let a = c.args in
     sign a.area.now (a.k + num_place) (omega arith) c.is_number-2.ensures in
     let parts : Tells (numbers_test c.args.area.now c.args.k) (NumberParts c.args.area.now c.args.k) = numbers_test_parts c.args.area.now c.args.k in
     let last = sign c.args.area.now (c.args.k + father_place) (omega arith) c.is_number-3.ensures in
     tells_last parts (λ t. record {
       flags = sym flags-sign ∙ c.if-not-is_number.false;
-      bits = omega (arith, flags, c.if-number-gt7.false);
+      bits = omega (arith, flags, c.if-unsigned_abs-gt7.false);
       num_word = sym num-sign ∙ c.if-not-is_number-2.false;
       father_word = sym last ∙ t;
     }) (λ t. last ∙ t.father_word)

@@ -20,6 +20,6 @@ unfolding edition_test
 returns c =
     let sign : c.is_number.result ≡ counts c.args.area.now edition_place = word_read (λ z. same_word z (pos (nat_abs z))) (get_or c.args.area.now edition_place (pos 0)) (omega arith)
     c.is_number.ensures in
-    let number : c.number-edition.result ≡ number_at c.args.area.now edition_place = let w = c.args.area.now in
-    word_read nat_abs (get_or w edition_place (pos 0)) (omega arith) c.number-edition.ensures in
+    let number : c.unsigned_abs-edition.result ≡ number_at c.args.area.now edition_place = let w = c.args.area.now in
+    word_read nat_abs (get_or w edition_place (pos 0)) (omega arith) c.unsigned_abs-edition.ensures.value in
     rw (sym sign ∙ c.if-not-is_number.false) (c.is_edition.ensures ∙ ap is_edition number)

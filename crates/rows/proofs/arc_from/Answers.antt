@@ -10,23 +10,23 @@ use Rattle.rows.proofs.arc_from.Goals as goal
 
 pub loop-k-init : goal.loop-k-init
 loop-k-init c =
-    sought_first (ready_right c.requires.ready) (ready_process c.requires.ready c.requires.le_a) (ready_process c.requires.ready c.requires.le_b) c.first_in-k.ensures
+    sought_first (ready_right c.args.area.ready) (ready_process c.args.area.ready c.requires.a_is_process) (ready_process c.args.area.ready c.requires.b_is_process) c.first-k.ensures
 
 pub returns-then-arc-a : goal.returns-then-arc-a
 returns-then-arc-a c =
-    let from_is : c.arc_in-arc.result.from ≡ (arc_at (fields_in c.args.area.now) c.loop-k.k).from = ap (λ (x : Arc). x.from) c.arc_in-arc.ensures in
-    sought_here (ready_right c.requires.ready) c.loop-k.invariant c.loop-k-test.true (sym from_is ∙ c.if-arc-a.true)
+    let from_is : c.arc-arc.result.from ≡ (arc_at (fields_in c.args.area.words.now) c.loop-k.k).from = ap (λ (x : Arc). x.from) c.arc-arc.ensures in
+    sought_here (ready_right c.args.area.ready) c.loop-k.invariant c.loop-k-test.true (sym from_is ∙ c.if-arc-a.true)
 
 pub loop-k-smaller : goal.loop-k-smaller
 loop-k-smaller c =
-    let here : Ahead In (fields_in c.args.area.now) c.args.b c.loop-k.k = left_on (ready_right c.requires.ready) c.loop-k.k c.loop-k.invariant.here c.loop-k-test.true in
-    rw (next_is In (fields_in c.args.area.now) c.loop-k.k c.arc_in-arc.ensures c.next_of-k.ensures) (omega (arith, here.less))
+    let here : Ahead In (fields_in c.args.area.words.now) c.args.b c.loop-k.k = left_on (ready_right c.args.area.ready) c.loop-k.k c.loop-k.invariant.here c.loop-k-test.true in
+    rw (next_is In (fields_in c.args.area.words.now) c.loop-k.k c.arc-arc.ensures c.next_of-k.ensures) (omega (arith, here.less))
 
 pub loop-k-preserved : goal.loop-k-preserved
 loop-k-preserved c =
-    let from_is : c.arc_in-arc.result.from ≡ (arc_at (fields_in c.args.area.now) c.loop-k.k).from = ap (λ (x : Arc). x.from) c.arc_in-arc.ensures in
-    rw (next_is In (fields_in c.args.area.now) c.loop-k.k c.arc_in-arc.ensures c.next_of-k.ensures)
-    (sought_next (ready_right c.requires.ready) c.loop-k.invariant c.loop-k-test.true (λ z. c.if-arc-a.false (from_is ∙ z)))
+    let from_is : c.arc-arc.result.from ≡ (arc_at (fields_in c.args.area.words.now) c.loop-k.k).from = ap (λ (x : Arc). x.from) c.arc-arc.ensures in
+    rw (next_is In (fields_in c.args.area.words.now) c.loop-k.k c.arc-arc.ensures c.next_of-k.ensures)
+    (sought_next (ready_right c.args.area.ready) c.loop-k.invariant c.loop-k-test.true (λ z. c.if-arc-a.false (from_is ∙ z)))
 
 pub returns : goal.returns
-returns c = sought_none (ready_right c.requires.ready) c.loop-k.invariant c.loop-k-test.false
+returns c = sought_none (ready_right c.args.area.ready) c.loop-k.invariant c.loop-k-test.false

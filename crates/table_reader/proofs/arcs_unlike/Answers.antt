@@ -1,13 +1,16 @@
 -- `table_reader::arcs_unlike` meets its contract: before process p no two arcs of a process before it agree in both ends, and only chains before
 -- that of p are noted.
-use Rattle.std.proofs.Common.{ℕ, ◌+◌, Bool, ◌≡◌, sym, subst, arith, replicate}
+use Rattle.std.proofs.Common.{ℕ, ◌+◌, ◌<◌, List, Bool, true, ◌≡◌, sym, subst, arith, replicate}
 use lib.ListN.{length-replicate}
 use Rattle.base.specs.ChoiceLaws.{same?}
 use Rattle.base.specs.Checks.{Same, same, apart}
 use Rattle.base.specs.CountLaws.{replicate_zero}
-use Rattle.tables.specs.Table.{Fields, field_of}
+use Rattle.base.specs.Sums.{all_to}
+use Rattle.tables.specs.declared.Sizes.{Sizes}
+use Rattle.tables.specs.Table.{Fields, field_of, m_of}
+use Rattle.tables.specs.Reading.{unlike_before}
 use Rattle.tables.specs.Pairs.{square_side}
-use Rattle.table_reader.specs.Inner.{LastMet, Distinct, ChainTold}
+use Rattle.table_reader.specs.Inner.{HoldsTable, Chained, LastMet, Distinct, ChainTold}
 use Rattle.table_reader.proofs.Clashes.{told_all, told_clash}
 use Rattle.table_reader.proofs.arcs_unlike.Invariants.{DistinctBefore}
 use Rattle.table_reader.proofs.arcs_unlike.Goals as goal
@@ -26,8 +29,13 @@ more t {p} h d q l u = at (same? p q)
     at (same e _) = rw (← e) d
     at (apart e _) = h q l (omega arith)
 
+-- the chains of all processes are walked
+all_told : {bs : List ℕ} {sizes : Sizes} {p : ℕ} → HoldsTable bs sizes → Chained (field_of bs) → sizes.n < p → DistinctBefore (field_of bs) p
+    → true ≡ all_to (m_of (field_of bs)) (unlike_before (field_of bs))
+all_told h z u d = sym (told_all _ (omega (arith, h.processes, h.few)) z (λ q r. d q r.0 (omega (arith, r.1, h.processes))))
+
 pub loop-p-init : goal.loop-p-init
-loop-p-init c = (omega arith, omega arith, none_met, λ q l u. absurd (omega arith))
+loop-p-init c = (omega arith, none_met, λ q l u. absurd (omega arith))
 
 pub returns-then-not-chain_unlike : goal.returns-then-not-chain_unlike
 returns-then-not-chain_unlike c =
@@ -39,10 +47,13 @@ loop-p-preserved c =
     let t = field_of c.args.s.now in
     let loop = c.loop-p in
     let yes = c.if-not-chain_unlike.false in
-    (omega arith, omega arith, c.chain_unlike.ensures.last_met_2 yes, more t loop.invariant.3 (told t loop.p yes c.chain_unlike.ensures.chain_told))
+    (omega arith, c.chain_unlike.ensures.noted yes, more t loop.invariant.2 (told t loop.p yes c.chain_unlike.ensures.chain_told))
 
 pub returns : goal.returns
-returns c =
-    let n = c.requires.holds_table in
-    sym (told_all (field_of c.args.s.now) (omega (arith, n.processes, n.few)) c.requires.chained
-    (λ p r. c.loop-p.invariant.3 p r.0 (omega (arith, r.1, n.processes))))
+returns c = all_told c.requires.holds_table c.requires.chained (omega arith) c.loop-p.invariant.2
+
+pub returns-else-not-chain_unlike : goal.returns-else-not-chain_unlike
+returns-else-not-chain_unlike c =
+    let t = field_of c.args.s.now in
+    all_told c.requires.holds_table c.requires.chained (omega arith)
+    (more t c.loop-p.invariant.2 (told t c.loop-p.p c.if-not-chain_unlike.false c.chain_unlike.ensures.chain_told))

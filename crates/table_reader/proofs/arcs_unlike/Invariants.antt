@@ -1,4 +1,4 @@
-use Rattle.std.proofs.Common.{ℕ, ◌≤◌, ◌<◌}
+use Rattle.std.proofs.Common.{ℕ, ◌+◌, ◌≤◌, ◌<◌}
 use Rattle.tables.specs.Table.{Fields, field_of}
 use Rattle.table_reader.specs.Inner.{LastMet, Distinct}
 use Rattle.table_reader.proofs.arcs_unlike.Given as goal
@@ -8,4 +8,4 @@ abbrev pub DistinctBefore : Fields → ℕ → Type 0
 DistinctBefore t p = (q : ℕ) → 1 ≤ q → q < p → Distinct t q
 
 abbrev pub invariant-loop-p : goal.invariant-loop-p
-invariant-loop-p l = (1 ≤ l.p) × (l.p ≤ l.end) × LastMet l.p l.last × DistinctBefore (field_of l.s) l.p
+invariant-loop-p l = (l.p ≤ l.sizes.n + 1) × LastMet l.p l.last × DistinctBefore (field_of l.s) l.p

@@ -2,6 +2,7 @@
 -- ends. The measure is what is left of the chain.
 use Rattle.std.proofs.Common.{ℕ, ◌≤◌, ◌<◌, List, ◌≡◌, arith, length, get_or, set}
 use Rattle.tables.specs.declared.Arc.{Arc}
+use Rattle.tables.specs.declared.Sizes.{Sizes}
 use Rattle.tables.specs.declared.Chain.TheVariants.{Out}
 use Rattle.tables.specs.Table.{field_of, n_of, most_processes, arc_at, next}
 use Rattle.tables.specs.Pairs.{square_side}
@@ -10,7 +11,7 @@ use Rattle.table_reader.proofs.Clashes.{to_go, Going, Ahead, arc_to, going_first
 use Rattle.table_reader.proofs.chain_unlike.Goals as goal
 
 -- what the bytes hold has at most 384 processes
-module _ {bs : List ℕ} {n : ℕ} (h : HoldsTable bs n) where
+module _ {bs : List ℕ} {sizes : Sizes} (h : HoldsTable bs sizes) where
   few : n_of (field_of bs) ≤ most_processes
   few = omega (arith, h.processes, h.few)
 
@@ -34,7 +35,7 @@ module _ {bs : List ℕ} {n : ℕ} (h : HoldsTable bs n) where
 pub loop-k-init : goal.loop-k-init
 loop-k-init c =
     going_first _ (few c.requires.holds_table) c.requires.chained _
-    (c.requires.process.0, omega (arith, c.requires.holds_table.processes, c.requires.process.1)) c.requires.last_met c.first_of-k.ensures
+    (c.requires.process.0, omega (arith, c.requires.holds_table.processes, c.requires.process.1)) c.requires.noted c.first_of-k.ensures
 
 pub offset_bounds-last-to : goal.offset_bounds-last-to
 offset_bounds-last-to c = omega (arith, inside c.requires.holds_table c.requires.chained c.loop-k.invariant c.loop-k-test.true c.arc_at-a.ensures)

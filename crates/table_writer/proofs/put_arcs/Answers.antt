@@ -1,40 +1,28 @@
 -- `put_arcs` puts the arcs in list order. The loop's invariant: the first k arcs are put, and `firsts` holds the fronts that they leave.
-use Rattle.std.proofs.Common.{ℕ, ◌+◌, ◌≤◌, ◌<◌, refl, ◌∙◌, arith}
-use Rattle.tables.specs.declared.Chain.TheVariants.{Out, In}
-use Rattle.tables.specs.Table.{most_processes, most_arcs}
-use Rattle.table_writer.specs.Putting.{put_fields}
+use Rattle.std.proofs.Common.{refl, arith}
+use Rattle.tables.specs.Table.{most_processes}
+use Rattle.table_writer.specs.Putting.{EntriesUpTo, put_fields}
+use Rattle.table_writer.proofs.ByPairs.{from_here, to_here, small_from, small_to}
 use Rattle.table_writer.proofs.PuttingLaws.{arc_put, fronts_next}
 use Rattle.table_writer.proofs.put_arcs.Goals as goal
 
--- what a turn knows of its pair
-record Small (from to k : ℕ) : Type 0 where
-  from_small : from ≤ most_processes
-  to_small : to ≤ most_processes
-  k_small : k < most_arcs
-
 pub loop-k-init : goal.loop-k-init
 unfolding put_fields
-loop-k-init c = (omega arith, refl, refl, c.requires.fronts)
+loop-k-init c = (refl, c.requires.fronts)
 
 pub loop-k-preserved : goal.loop-k-preserved
 loop-k-preserved c =
-    let small : Small c.from_of-from.result c.to_of-to.result c.loop-k.k = let fit = c.requires.fit in
-    let k : ℕ = c.loop-k.k in
-    record {
-      from_small = omega (arith, fit.sizes.1, c.from_of-from.ensures, (fit.ends Out (k + 1) (omega arith) (omega arith)).1);
-      to_small = omega (arith, fit.sizes.1, c.to_of-to.ensures, (fit.ends In (k + 1) (omega arith) (omega arith)).1);
-      k_small = omega (arith, fit.sizes.2);
-    } in
-    let start = c.args in
+    let a = c.args in
     let at = c.loop-k in
-    let from = c.from_of-from in
-    let to = c.to_of-to in
-    let bounds = small in
-    let put = c.put_arc in (
-      omega arith,
-      put.auto.out ∙ at.invariant.1,
-      rw put.ensures (arc_put start.n start.list.now at.k from.result to.result at.firsts start.out.now at.out
-          bounds.from_small bounds.to_small from.ensures to.ensures at.invariant.3 at.invariant.2),
-      fronts_next start.list.now at.k from.result to.result at.firsts bounds.from_small bounds.to_small from.ensures
-          to.ensures at.invariant.3,
+    let fit = c.requires.fit in
+    let pairs = c.pairs_of-from-items.ensures in
+    let low : EntriesUpTo a.list.now most_processes = λ e k l u. omega (arith, fit.sizes.1, (fit.ends e k l u).1) in
+    let from = c.from-at_out.ensures in
+    let to = c.from.ensures in
+    let from_small = small_from pairs (omega arith) from low in
+    let to_small = small_to pairs (omega arith) from to low in
+    let from_is = from_here pairs (omega arith) from in
+    let to_is = to_here pairs (omega arith) from to in (
+      rw (c.put_arc.ensures, ← from, ← to) (arc_put a.n a.list.now at.k _ _ at.firsts a.out.now at.out from_small to_small from_is to_is at.invariant.1 at.invariant.0),
+      fronts_next a.list.now at.k _ _ at.firsts from_small to_small from_is to_is at.invariant.1,
     )

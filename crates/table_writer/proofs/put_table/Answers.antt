@@ -10,5 +10,5 @@ put_arcs-requires-clause-fronts c = fronts_none _ slots _ refl refl
 pub returns : goal.returns
 returns c =
     let fit = c.requires in
-    table_over_of _ _ _ _ _ _ _ _ fit.sizes.1 fit.room c.put_arcs.ensures.fronts_2 c.put_arcs.ensures.out_after c.put_firsts.ensures
+    table_over_of _ _ _ _ _ _ _ _ fit.sizes.1 fit.room c.put_arcs.ensures.fronts_after c.put_arcs.ensures.out_after c.put_firsts.ensures
     c.put.ensures c.put-2.ensures

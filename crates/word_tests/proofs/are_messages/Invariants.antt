@@ -7,5 +7,5 @@ use Rattle.word_tests.proofs.are_messages.Given as goal
 abbrev pub message : List ℤ → ℕ → ℕ → Bool
 message w i j = message_word (get_or w (i + (j - 1)) (pos 0))
 
-abbrev pub invariant-loop-j : goal.invariant-loop-j
-invariant-loop-j l = (l.j ≤ l.l) × (all_to l.j (message l.area l.i) ≡ true)
+abbrev pub invariant-loop-word : goal.invariant-loop-word
+invariant-loop-word l = (l.word-index ≤ l.l) × (all_to l.word-index (message l.area l.i) ≡ true)

@@ -7,5 +7,5 @@ use Rattle.word_tests.proofs.is_free.Given as goal
 abbrev pub test : List ℤ → ℕ → ℕ → Bool
 test w from j = is_free w (from + (j - 1))
 
-abbrev pub invariant-loop-k : goal.invariant-loop-k
-invariant-loop-k l = (l.from ≤ l.k) × (l.k ≤ l.to) × (l.free ≡ all_to (l.k - l.from) (test l.area l.from))
+abbrev pub invariant-loop-word : goal.invariant-loop-word
+invariant-loop-word l = (l.word-index ≤ l.to - l.from) × (l.free ≡ all_to l.word-index (test l.area l.from))

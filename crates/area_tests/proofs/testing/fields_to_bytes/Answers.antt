@@ -30,9 +30,9 @@ more w j e h =
 pub loop-j-init : goal.loop-j-init
 loop-j-init c = (
   omega arith,
-  c.requires.table_len,
+  c.requires.long,
   sym (all_to_none (field c.args.area.now)),
-  λ e. copied_none c.args.area.now c.args.table.now c.requires.by_index,
+  λ e. copied_none c.args.area.now c.args.table.now c.requires.zeros,
 )
 
 pub loop-j-preserved : goal.loop-j-preserved
@@ -42,11 +42,11 @@ loop-j-preserved c =
     let j = loop.j in
     let is = c.field_place.ensures in
     let test = tests w j is (omega arith) c.is_field-right.ensures in
-    let number = size w j is (omega arith) c.number-x.ensures in (
+    let number = size w j is (omega arith) c.unsigned_abs-x.ensures.value in (
       omega arith,
       simp length-set loop.invariant.1,
       more w j loop.invariant.2 test,
-      λ e. copied_more loop.table j c.number-x.result (omega arith) w number
-          (field_test_small w j c.number-x.result number (sym test ∙ and_right loop.right c.is_field-right.result e))
+      λ e. copied_more loop.table j c.unsigned_abs-x.result (omega arith) w number
+          (field_test_small w j c.unsigned_abs-x.result number (sym test ∙ and_right loop.right c.is_field-right.result e))
           (loop.invariant.3 (and_left loop.right c.is_field-right.result e)),
     )

@@ -26,10 +26,10 @@ module _ (t : Fields) (l : List ℕ) (right : Right t) (k : ℕ) (low : 1 ≤ k)
       rw (f, arc_is, q) (arcs_more t l right (k - 1) (omega arith) h)
 
 pub loop-k-init : goal.loop-k-init
-loop-k-init c = (omega arith, omega arith, arcs_none _ _ c.requires.waits_len c.requires.by_index)
+loop-k-init c = (omega arith, omega arith, arcs_none _ _ c.requires.long c.requires.zeros)
 
-pub add-requires-clause-p_bound : goal.add-requires-clause-p_bound
-add-requires-clause-p_bound c =
+pub add-requires-clause-digit_free : goal.add-requires-clause-digit_free
+add-requires-clause-digit_free c =
     let loop = c.loop-k in
     (asks (field_of c.args.table.now) loop.waits c.requires.right loop.k (omega arith) (omega arith) loop.invariant.2 c.arc_at-a.ensures).1.1.1
 
@@ -46,3 +46,10 @@ pub returns : goal.returns
 returns c =
     let loop = c.loop-k in
     arcs_all (field_of c.args.table.now) loop.waits (loop.k - 1) (omega arith) loop.invariant.2
+
+pub returns-2 : goal.returns-2
+returns-2 c =
+    let loop = c.loop-k in
+    let t = field_of c.args.table.now in
+    arcs_all t _ (loop.k + 1 - 1) (omega arith)
+    (more t loop.waits c.requires.right loop.k (omega arith) (omega arith) loop.invariant.2 c.arc_at-a.ensures c.add.ensures)

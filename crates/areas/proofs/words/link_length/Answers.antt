@@ -1,44 +1,57 @@
--- `areas::words::link_length` meets its contract. The loop's invariant: as many messages as the link has are the `l` passed and those from there on.
--- The measure is what is left of its slots.
-use Rattle.std.proofs.Common.{ℕ, suc, ◌+◌, ◌-◌, ◌^◌, ◌<◌, List, ◌≡◌, ap, arith, ℤ, pos, nat_abs, length, get_or, w32, of_z}
-use lib.Signed.{mag}
-use Rattle.areas.specs.Area.{messages_at}
-use Rattle.areas.specs.LinkLaws.{messages_at_stop, messages_at_more, messages_at_length}
-use Rattle.areas.proofs.Signs.{word_is, word_zero}
+-- `areas::words::link_length` meets its contract: as many messages as the link has stand before its first word that is 0.
+use Rattle.std.proofs.Common.{ℕ, zero, suc, ◌+◌, ◌-◌, ◌≤◌, ◌≡◌, List, ◌∷◌, [], refl, sym, ap, Bool, true, false, Option, Some, None, nat_lt, eq-eqb, ne_eqb, ◌∙◌, cond, not, arith, ℤ, pos, negsuc, nat_abs, eqb, length, get_or, take, drop, length-take, length-drop}
+use Rattle.std.proofs.Math.Seq.{drop-cons}
+use Rattle.std.proofs.lemmas.Bool.{false≢true}
+use Rattle.std.proofs.lemmas.Bool.Decides.{Decides-int_eq}
+use Rattle.std.specs.List.{position, position_or_len}
+use Rattle.std.specs.Option.{unwrap_or}
+use Rattle.std.specs.Ordering.{int_eq}
+use Rattle.base.specs.Choice.{choose}
+use Rattle.base.specs.ChoiceLaws.{below?}
+use Rattle.base.specs.Checks.{Below, below, beyond}
+use Rattle.steps.specs.declared.Message.{Message}
+use Rattle.areas.specs.Area.{messages_at, message_of}
+use Rattle.areas.specs.LinkLaws.{messages_at_length}
 use Rattle.areas.proofs.words.link_length.Goals as goal
 
-module _ (w : List ℤ) (i s l : ℕ) (u : l < s) where
-  left : s - l ≡ suc (s - (l + 1))
-  left = omega arith
+-- one word before the others
+before : (z : ℤ) {n : ℕ} (m : Message) (ms : List Message) → n ≡ length ms
+    → cond (not (int_eq z (pos 0))) (1 + n) 0 ≡ length (choose (eqb (nat_abs z) 0) [] (m ∷ ms))
+before z {n} m ms e = at (int_eq z (pos 0)) refl
+  where
+    none : (y : ℤ) → nat_abs y ≡ 0 → y ≡ pos 0
+    none (pos k) f = ap pos f
+    none (negsuc k) f = absurd (omega (arith, f))
 
-  stop : mag (get_or w (i + l) (pos 0)) < 2 ^ 31 → of_z w32 (get_or w (i + l) (pos 0)) ≡ 0 → length (messages_at w (i + l) (s - l)) ≡ 0
-  stop h e = rw (left, messages_at_stop w (i + l) (s - (l + 1)) (ap nat_abs (word_is (get_or w (i + l) (pos 0)) 0 h (omega arith) e)))
+    at : (t : Bool) → int_eq z (pos 0) ≡ t → cond (not (int_eq z (pos 0))) (1 + n) 0 ≡ length (choose (eqb (nat_abs z) 0) [] (m ∷ ms))
+    at true f = rw (f, eq-eqb (nat_abs z) 0 (ap nat_abs ((Decides-int_eq z (pos 0)).0 f)))
+    at false f =
+        rw (f, ne_eqb (nat_abs z) 0 (λ g. false≢true (sym f ∙ (Decides-int_eq z (pos 0)).1 (none z g))))
+        (omega (arith, e))
 
-  more : (of_z w32 (get_or w (i + l) (pos 0)) ≡ 0 → ⊥) → length (messages_at w (i + l) (s - l)) ≡ suc (length (messages_at w (i + (l + 1)) (s - (l + 1))))
-  more h =
-      let q : i + (l + 1) ≡ suc (i + l) = omega arith in
-      rw (left, q, messages_at_more w (i + l) (s - (l + 1)) (λ e. h (word_zero (get_or w (i + l) (pos 0)) e)))
+passed : (w : List ℤ) (i s : ℕ) → i + s ≤ length w
+    → position_or_len (λ z. int_eq z (pos 0)) (take s (drop i w)) ≡ length (messages_at w i s)
+unfolding messages_at
+passed w i zero u = refl
+passed w i (suc s) u =
+    rw (drop-cons w i (pos 0) (omega (arith, u)))
+    (before (get_or w i (pos 0)) (message_of (get_or w i (pos 0))) (messages_at w (suc i) s) (passed w (suc i) s (omega (arith, u))))
 
-pub returns-then-area-i-eq0 : goal.returns-then-area-i-eq0
-returns-then-area-i-eq0 c =
-    let a = c.args in
-    let l = c.loop-l.l in
-    omega (
-      arith,
-      c.loop-l.invariant.1,
-      stop a.area.now a.i a.slots l c.loop-l-test.true (omega arith)
-          c.if-area-i-eq0.true,
-    )
-
-pub loop-l-preserved : goal.loop-l-preserved
-loop-l-preserved c =
-    let a = c.args in
-    let l = c.loop-l.l in (
-      omega arith,
-      omega (arith, c.loop-l.invariant.1, more a.area.now a.i a.slots l c.loop-l-test.true c.if-area-i-eq0.false),
-    )
+-- where it stands, or so many as there are
+found : {q s n : ℕ} → n ≡ s → q ≤ s → unwrap_or (cond (nat_lt q n) (Some q) None) s ≡ q
+found {q} {s} {n} e u = at (below? q n)
+  where
+    at : Below q n → unwrap_or (cond (nat_lt q n) (Some q) None) s ≡ q
+    at (below _ t) = rw t
+    at (beyond v t) = rw t (omega (arith, e, u, v))
 
 pub returns : goal.returns
 returns c =
     let a = c.args in
-    omega (arith, c.loop-l.invariant.1, messages_at_length a.area.now (a.i + c.loop-l.l) (a.slots - c.loop-l.l))
+    let words = take a.slots (drop a.i a.area.now) in
+    let p = passed a.area.now a.i a.slots c.requires in
+    let long : length words ≡ a.slots = simp (length-take, length-drop) (omega (arith, c.requires)) in
+    let back : a.i + a.slots - a.i ≡ a.slots = omega arith in
+    let there : c.first_zero.result ≡ position (λ z. int_eq z (pos 0)) words = rw back at c.first_zero.ensures in
+    c.unwrap_or.ensures ∙ ap (λ (r : Option ℕ). unwrap_or r a.slots) there
+    ∙ found long (rw p (messages_at_length a.area.now a.i a.slots)) ∙ p

@@ -8,17 +8,17 @@ use Rattle.steps.specs.StepLaws.{in_range_P}
 use Rattle.areas.proofs.Signs.{word_number}
 use Rattle.areas.proofs.words.put_record.Goals as goal
 
-pub overflow_cast-num : goal.overflow_cast-num
-overflow_cast-num c =
-    let h = in_range_P c.args.x c.requires.x_value in
+pub overflow_cast-area : goal.overflow_cast-area
+overflow_cast-area c =
+    let h = in_range_P c.args.x c.requires.in_range in
     omega arith
 
 pub returns : goal.returns
 unfolding record_words words_to
 returns c =
     let x = c.args.x in
-    let h = in_range_P x c.requires.x_value in
-    let flags = c.flags_of-flags in
+    let h = in_range_P x c.requires.in_range in
+    let flags = c.flags_of in
     rw (
       signed_back flags.result flags.type_inv,
       flags.ensures,

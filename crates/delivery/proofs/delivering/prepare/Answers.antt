@@ -1,25 +1,19 @@
 -- `delivery::delivering::prepare` meets its contract: 24, 31, or the delivery of the message at that place.
+use Rattle.std.proofs.Common.{◌∙◌, ◌≡◌, rules, Err}
 use Rattle.lenses.specs.ReadyLaws.{ready_near}
-use Rattle.delivery.proofs.Deliveries.{nothing_waits, none_there, message_small, message_prepared}
+use Rattle.delivery.proofs.Deliveries.{none_there, message_small, message_prepared}
 use Rattle.delivery.proofs.delivering.prepare.Goals as goal
 
-pub prepare_message-requires-clause-b_value : goal.prepare_message-requires-clause-b_value
-prepare_message-requires-clause-b_value c =
-    let small = message_small c.requires.ready _ _ _ c.at_place.ensures c.in-Message.is in
-    let near = ready_near _ _ _ c.requires.linked.joined in
-    near
+pub prepare_message-requires-clause-neighbours : goal.prepare_message-requires-clause-neighbours
+prepare_message-requires-clause-neighbours c = ready_near _ _ _ c.requires.linked.joined
 
-pub prepare_message-requires-clause-message_value : goal.prepare_message-requires-clause-message_value
-prepare_message-requires-clause-message_value c =
-    let small = message_small c.requires.ready _ _ _ c.at_place.ensures c.in-Message.is in
-    let near = ready_near _ _ _ c.requires.linked.joined in
-    small
+pub prepare_message-requires-clause-small_counts : goal.prepare_message-requires-clause-small_counts
+prepare_message-requires-clause-small_counts c = message_small c.args.area.ready _ _ _ c.at_place.ensures c.in_ok-message.was
 
-pub returns-in-Nothing : goal.returns-in-Nothing
-returns-in-Nothing c = nothing_waits c.requires.ready _ _ _ c.at_place.ensures c.in-Nothing.is
+pub returns-in_err-message : goal.returns-in_err-message
+returns-in_err-message c =
+    let told : c.from_residual.result ≡ Err c.in_err-message.field-0.0 = search rules in
+    told ∙ none_there c.args.area.ready _ _ _ c.at_place.ensures c.in_err-message.was
 
-pub returns-in-Beyond : goal.returns-in-Beyond
-returns-in-Beyond c = none_there c.requires.ready _ _ _ c.at_place.ensures c.in-Beyond.is
-
-pub returns-in-Message : goal.returns-in-Message
-returns-in-Message c = message_prepared c.requires.ready _ _ _ c.at_place.ensures c.in-Message.is c.prepare_message.ensures
+pub returns : goal.returns
+returns c = message_prepared c.args.area.ready _ _ _ c.at_place.ensures c.in_ok-message.was c.prepare_message.ensures

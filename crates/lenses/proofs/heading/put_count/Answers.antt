@@ -8,4 +8,4 @@ pub bounds-area-2 : goal.bounds-area-2
 bounds-area-2 c = omega (arith, long c.requires.ready)
 
 pub returns : goal.returns
-returns c = rw (word_number c.args.count (omega (arith, c.requires.count_le_most_deliveries))) (store_count c.requires.ready c.args.count)
+returns c = rw (word_number c.args.count (omega (arith, c.requires.within_most_deliveries))) (store_count c.requires.ready c.args.count)

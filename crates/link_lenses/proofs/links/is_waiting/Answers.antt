@@ -9,18 +9,18 @@ use Rattle.link_lenses.proofs.LinkStores.{link_small, link_within}
 use Rattle.link_lenses.proofs.LinkLookups.{waits_here, none_waits}
 use Rattle.link_lenses.proofs.links.is_waiting.Goals as goal
 
-pub offset_bounds-area-i : goal.offset_bounds-area-i
-offset_bounds-area-i c = omega (arith, link_small c.requires.ready c.requires.linked)
+pub offset_bounds-area-link : goal.offset_bounds-area-link
+offset_bounds-area-link c = omega (arith, link_small c.args.area.ready c.requires)
 
-pub bounds-area-i : goal.bounds-area-i
-bounds-area-i c = omega (arith, link_within c.requires.ready c.requires.linked)
+pub bounds-area-link : goal.bounds-area-link
+bounds-area-link c = omega (arith, link_within c.args.area.ready c.requires)
 
 pub returns : goal.returns
 returns c =
-    at (same? (of_z w32 (get_or c.args.area.now c.args.i (pos 0))) 0)
+    at (same? (of_z w32 (get_or c.args.area.words.now c.args.link.at (pos 0))) 0)
   where
-    at : Same (of_z w32 (get_or c.args.area.now c.args.i (pos 0))) 0
-        → not (eqb (of_z w32 (get_or c.args.area.now c.args.i (pos 0))) 0)
-        ≡ waiting ((run_in c.args.area.now).link c.args.a c.args.b)
-    at (same e q) = rw q (sym (none_waits c.requires.ready c.requires.linked (word_none _ (omega arith) e)))
-    at (apart e q) = rw q (sym (waits_here c.requires.ready c.requires.linked (word_some _ e)))
+    at : Same (of_z w32 (get_or c.args.area.words.now c.args.link.at (pos 0))) 0
+        → not (eqb (of_z w32 (get_or c.args.area.words.now c.args.link.at (pos 0))) 0)
+        ≡ waiting ((run_in c.args.area.words.now).link c.args.link.from c.args.link.to)
+    at (same e q) = rw q (sym (none_waits c.args.area.ready c.requires (word_none _ (omega arith) e)))
+    at (apart e q) = rw q (sym (waits_here c.args.area.ready c.requires (word_some _ e)))

@@ -9,14 +9,14 @@ use Rattle.link_lenses.proofs.Spreads.{sending_first, sending_last, sending_arc,
 use Rattle.link_lenses.proofs.sending.broadcast.Goals as goal
 
 pub loop-k-init : goal.loop-k-init
-loop-k-init c = sending_first c.requires.ready c.args.c c.args.b c.requires.le_b c.first_in-k.ensures
+loop-k-init c = sending_first c.requires.ready c.args.c c.args.b c.requires.is_process c.first-k.ensures
 
-pub arc_in-arc-requires-clause-ready : goal.arc_in-arc-requires-clause-ready
-arc_in-arc-requires-clause-ready c = let l = c.loop-k in holding_ready c.requires.ready l.invariant.holds
+pub invariant_of-arc : goal.invariant_of-arc
+invariant_of-arc c = record { ready = holding_ready c.requires.ready c.loop-k.invariant.holds }
 
 pub cell_of-requires : goal.cell_of-requires
 cell_of-requires c =
-    let arc_is = sending_arc c.requires.ready c.args.c c.args.b c.requires.le_b c.requires.spreadable c.loop-k.invariant c.loop-k-test.true c.arc_in-arc.ensures in
+    let arc_is = sending_arc c.requires.ready c.args.c c.args.b c.requires.is_process c.requires.spreadable c.loop-k.invariant c.loop-k-test.true c.arc-arc.ensures in
     let to_is = far_is c.args.c (fields_in c.args.area.now) c.loop-k.k arc_is c.far_of-q.ensures in
     let l = c.loop-k in
     let u = (ahead_far c.requires.ready (left_on (ready_right c.requires.ready) l.k l.invariant.here c.loop-k-test.true)).1 in
@@ -24,30 +24,30 @@ cell_of-requires c =
 
 pub push-requires : goal.push-requires
 push-requires c =
-    let arc_is = sending_arc c.requires.ready c.args.c c.args.b c.requires.le_b c.requires.spreadable c.loop-k.invariant c.loop-k-test.true c.arc_in-arc.ensures in
+    let arc_is = sending_arc c.requires.ready c.args.c c.args.b c.requires.is_process c.requires.spreadable c.loop-k.invariant c.loop-k-test.true c.arc-arc.ensures in
     let to_is = far_is c.args.c (fields_in c.args.area.now) c.loop-k.k arc_is c.far_of-q.ensures in
     let l = c.loop-k in
-    let room = sending_room c.requires.ready c.args.c c.args.b c.requires.le_b c.requires.spreadable l.invariant c.loop-k-test.true c.probe.ensures to_is in
+    let room = sending_room c.requires.ready c.args.c c.args.b c.requires.is_process c.requires.spreadable l.invariant c.loop-k-test.true c.probe.ensures to_is in
     record {
       ready = holding_ready c.requires.ready l.invariant.holds;
-      linked = sending_link c.requires.ready c.args.c c.args.b c.requires.le_b c.requires.spreadable l.invariant c.loop-k-test.true c.requires.row to_is c.cell_of.ensures.is c.place-i.ensures;
-      message_value = room.0;
+      linked = sending_link c.requires.ready c.args.c c.args.b c.requires.is_process c.requires.spreadable l.invariant c.loop-k-test.true c.requires.row to_is c.cell_of.ensures.is c.place-at.ensures;
+      small_counts = room.0;
       has_slot = room.1;
     }
 
 pub loop-k-smaller : goal.loop-k-smaller
 loop-k-smaller c =
-    let arc_is = sending_arc c.requires.ready c.args.c c.args.b c.requires.le_b c.requires.spreadable c.loop-k.invariant c.loop-k-test.true c.arc_in-arc.ensures in
+    let arc_is = sending_arc c.requires.ready c.args.c c.args.b c.requires.is_process c.requires.spreadable c.loop-k.invariant c.loop-k-test.true c.arc-arc.ensures in
     let next_arc = next_is c.args.c (fields_in c.args.area.now) c.loop-k.k arc_is c.next_of-k.ensures in
-    sending_less c.requires.ready c.args.c c.args.b c.requires.le_b c.requires.spreadable c.loop-k.invariant c.loop-k-test.true next_arc
+    sending_less c.requires.ready c.args.c c.args.b c.requires.is_process c.requires.spreadable c.loop-k.invariant c.loop-k-test.true next_arc
 
 pub loop-k-preserved : goal.loop-k-preserved
 loop-k-preserved c =
-    let arc_is = sending_arc c.requires.ready c.args.c c.args.b c.requires.le_b c.requires.spreadable c.loop-k.invariant c.loop-k-test.true c.arc_in-arc.ensures in
+    let arc_is = sending_arc c.requires.ready c.args.c c.args.b c.requires.is_process c.requires.spreadable c.loop-k.invariant c.loop-k-test.true c.arc-arc.ensures in
     let to_is = far_is c.args.c (fields_in c.args.area.now) c.loop-k.k arc_is c.far_of-q.ensures in
     let next_arc = next_is c.args.c (fields_in c.args.area.now) c.loop-k.k arc_is c.next_of-k.ensures in
-    sending_on c.requires.ready c.args.c c.args.b c.requires.le_b c.requires.spreadable c.loop-k.invariant c.loop-k-test.true c.probe.ensures
+    sending_on c.requires.ready c.args.c c.args.b c.requires.is_process c.requires.spreadable c.loop-k.invariant c.loop-k-test.true c.probe.ensures
     to_is c.push.ensures next_arc
 
 pub returns : goal.returns
-returns c = sending_last c.requires.ready c.args.c c.args.b c.requires.le_b c.loop-k.invariant c.loop-k-test.false
+returns c = sending_last c.requires.ready c.args.c c.args.b c.requires.is_process c.loop-k.invariant c.loop-k-test.false

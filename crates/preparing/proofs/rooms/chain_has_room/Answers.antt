@@ -30,52 +30,51 @@ goes_to : (w : List ℤ) {c : Chain} {b k q : ℕ} → Ahead c (fields_in w) b k
 goes_to w {c} {b} {k} {q} h e = sym (goes_along (run_in w).waits c b q) ∙ by_table w c b q ∙ rw e h.joined
 
 pub loop-k-init : goal.loop-k-init
-loop-k-init c = walked_first (ready_right c.requires.ready) _ (ready_process c.requires.ready c.requires.le_b) c.first_in-k.ensures
+loop-k-init c = walked_first (ready_right c.args.area.ready) _ (ready_process c.args.area.ready c.requires.is_process) c.first-k.ensures
 
 pub room_for-requires : goal.room_for-requires
 room_for-requires c =
-    let ahead = left_on (ready_right c.requires.ready) c.loop-k.k c.loop-k.invariant.here c.loop-k-test.true in
-    let to_is = far_is c.args.c (fields_in c.args.area.now) c.loop-k.k c.arc_in-arc.ensures c.far_of-q.ensures in
+    let ahead = left_on (ready_right c.args.area.ready) c.loop-k.k c.loop-k.invariant.here c.loop-k-test.true in
+    let to_is = far_is c.args.c (fields_in c.args.area.words.now) c.loop-k.k c.arc-arc.ensures c.far_of-q.ensures in
     let a = c.args in
     record {
-      ready = c.requires.ready;
       row = c.requires.row;
-      q_le_n = rw to_is (ahead_far c.requires.ready ahead).1;
-      q_value = rw to_is (joins_neighbours a.c (waits_of (fields_in a.area.now)) a.b (far a.c (arc_at (fields_in a.area.now) c.loop-k.k)) ahead.joined);
-      le_sent = search rules;
+      is_number = rw to_is (ahead_far c.args.area.ready ahead).1;
+      are_neighbours = rw to_is (joins_neighbours a.c (waits_of (fields_in a.area.words.now)) a.b (far a.c (arc_at (fields_in a.area.words.now) c.loop-k.k)) ahead.joined);
+      one_or_two = search rules;
     }
 
 pub returns-then-not-room_for : goal.returns-then-not-room_for
 returns-then-not-room_for c =
-    let ahead = left_on (ready_right c.requires.ready) c.loop-k.k c.loop-k.invariant.here c.loop-k-test.true in
-    let to_is = far_is c.args.c (fields_in c.args.area.now) c.loop-k.k c.arc_in-arc.ensures c.far_of-q.ensures in
+    let ahead = left_on (ready_right c.args.area.ready) c.loop-k.k c.loop-k.invariant.here c.loop-k-test.true in
+    let to_is = far_is c.args.c (fields_in c.args.area.words.now) c.loop-k.k c.arc-arc.ensures c.far_of-q.ensures in
     let a = c.args in
-    let has = probe_room a.area.now a.a a.b (probes_of a.c) a.reply c.far_of-q.result c.is_for.result c.one_or_two.ensures c.room_for.ensures (goes_to _ ahead to_is) c.is_for.ensures in
-    let tested = has ∙ ap (room a.area.now a.c a.a a.b a.reply) to_is in
-    walked_fails (ready_right c.requires.ready) (room a.area.now a.c a.a a.b a.reply) a.n c.requires.ready.n_is
-    (λ q. joins a.c (run_in a.area.now).waits a.b q) (λ q u. by_table a.area.now a.c a.b q) c.loop-k.invariant c.loop-k-test.true
+    let has = probe_room a.area.words.now a.a a.b (probes_of a.c) a.reply c.far_of-q.result c.is_for.result c.one_or_two.ensures c.room_for.ensures (goes_to _ ahead to_is) c.is_for.ensures in
+    let tested = has ∙ ap (room a.area.words.now a.c a.a a.b a.reply) to_is in
+    walked_fails (ready_right c.args.area.ready) (room a.area.words.now a.c a.a a.b a.reply) a.area.sizes.n c.args.area.ready.n_is
+    (λ q. joins a.c (run_in a.area.words.now).waits a.b q) (λ q u. by_table a.area.words.now a.c a.b q) c.loop-k.invariant c.loop-k-test.true
     (sym tested ∙ c.if-not-room_for.true)
 
 pub loop-k-smaller : goal.loop-k-smaller
 loop-k-smaller c =
-    let ahead = left_on (ready_right c.requires.ready) c.loop-k.k c.loop-k.invariant.here c.loop-k-test.true in
-    let next_arc = next_is c.args.c (fields_in c.args.area.now) c.loop-k.k c.arc_in-arc.ensures c.next_of-k.ensures in
+    let ahead = left_on (ready_right c.args.area.ready) c.loop-k.k c.loop-k.invariant.here c.loop-k-test.true in
+    let next_arc = next_is c.args.c (fields_in c.args.area.words.now) c.loop-k.k c.arc-arc.ensures c.next_of-k.ensures in
     rw next_arc (omega (arith, ahead.less))
 
 pub loop-k-preserved : goal.loop-k-preserved
 loop-k-preserved c =
-    let ahead = left_on (ready_right c.requires.ready) c.loop-k.k c.loop-k.invariant.here c.loop-k-test.true in
-    let to_is = far_is c.args.c (fields_in c.args.area.now) c.loop-k.k c.arc_in-arc.ensures c.far_of-q.ensures in
-    let next_arc = next_is c.args.c (fields_in c.args.area.now) c.loop-k.k c.arc_in-arc.ensures c.next_of-k.ensures in
+    let ahead = left_on (ready_right c.args.area.ready) c.loop-k.k c.loop-k.invariant.here c.loop-k-test.true in
+    let to_is = far_is c.args.c (fields_in c.args.area.words.now) c.loop-k.k c.arc-arc.ensures c.far_of-q.ensures in
+    let next_arc = next_is c.args.c (fields_in c.args.area.words.now) c.loop-k.k c.arc-arc.ensures c.next_of-k.ensures in
     let a = c.args in
-    let has = probe_room a.area.now a.a a.b (probes_of a.c) a.reply c.far_of-q.result c.is_for.result c.one_or_two.ensures c.room_for.ensures (goes_to _ ahead to_is) c.is_for.ensures in
-    let tested = has ∙ ap (room a.area.now a.c a.a a.b a.reply) to_is in
+    let has = probe_room a.area.words.now a.a a.b (probes_of a.c) a.reply c.far_of-q.result c.is_for.result c.one_or_two.ensures c.room_for.ensures (goes_to _ ahead to_is) c.is_for.ensures in
+    let tested = has ∙ ap (room a.area.words.now a.c a.a a.b a.reply) to_is in
     rw next_arc
-    (walked_next (ready_right c.requires.ready) (room a.area.now a.c a.a a.b a.reply) c.loop-k.invariant c.loop-k-test.true
+    (walked_next (ready_right c.args.area.ready) (room a.area.words.now a.c a.a a.b a.reply) c.loop-k.invariant c.loop-k-test.true
     (sym tested ∙ c.if-not-room_for.false))
 
 pub returns : goal.returns
 returns c =
     let a = c.args in
-    walked_all (ready_right c.requires.ready) _ a.n c.requires.ready.n_is (λ q. joins a.c (run_in a.area.now).waits a.b q)
-    (λ q u. by_table a.area.now a.c a.b q) c.loop-k.invariant c.loop-k-test.false
+    walked_all (ready_right c.args.area.ready) _ a.area.sizes.n c.args.area.ready.n_is (λ q. joins a.c (run_in a.area.words.now).waits a.b q)
+    (λ q u. by_table a.area.words.now a.c a.b q) c.loop-k.invariant c.loop-k-test.false

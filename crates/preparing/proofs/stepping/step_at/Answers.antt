@@ -1,12 +1,13 @@
 -- `preparing::stepping::step_at` meets its contract: the record, the degrees and the sender are those of the run.
-use Rattle.std.proofs.Common.{ℕ, ◌≤◌, true, List, ◌≡◌, sym, ap, ◌∙◌, arith, ne_eqb, ℤ}
+use Rattle.std.proofs.Common.{ℕ, ◌≤◌, true, List, ◌≡◌, sym, ap, ◌∙◌, arith, ne_eqb, ℤ, Result}
 use Rattle.tables.specs.Table.{most_processes, IsProcess}
 use Rattle.tables.specs.Waits.{out_degree, in_degree}
 use Rattle.steps.specs.declared.Message.{Message}
 use Rattle.steps.specs.declared.Process.{Process}
-use Rattle.steps.specs.declared.Stepped.{Stepped}
-use Rattle.steps.specs.Step.{count_small, lent_in_range, stepped}
+use Rattle.refusals.specs.declared.Refusal.{Refusal}
+use Rattle.steps.specs.Step.{Turn, count_small, lent_in_range, stepped}
 use Rattle.areas.specs.Area.{run_in}
+use Rattle.tables.specs.declared.Sizes.{Sizes}
 use Rattle.lenses.specs.Ready.{Ready}
 use Rattle.lenses.specs.ReadyLaws.{right_storable, ready_n, ready_sizes}
 use Rattle.steps.specs.Effect.{out_needed, in_needed}
@@ -16,7 +17,7 @@ use Rattle.lenses.proofs.Lookups.{process_right}
 use Rattle.preparing.proofs.stepping.step_at.Goals as goal
 
 -- the step by the degrees that it needs, of which no other is known
-module _ {w : List ℤ} {n m : ℕ} (y : Ready w n m) (v : Message) (b : ℕ) (k : IsProcess n b) {x : Process}
+module _ {w : List ℤ} {z : Sizes} (y : Ready w z) (v : Message) (b : ℕ) (k : IsProcess z.n b) {x : Process}
     (e : x ≡ (run_in w).process b) {o i : ℕ} (f : o ≡ out_needed v x (out_degree (run_in w).waits b))
     (g : i ≡ in_needed v x (in_degree (run_in w).waits b)) where
   abbrev out : ℕ
@@ -38,30 +39,30 @@ module _ {w : List ℤ} {n m : ℕ} (y : Ready w n m) (v : Message) (b : ℕ) (k
       (lent_needed v out into x out_few in_few ∙ ap (lent_in_range v out into) e
       ∙ lent (run_in w) h.formed h.sound b (k.0, omega (arith, k.1, ready_n y)) v c)
 
-  step_is : (p : ℕ) {r : Stepped} → r ≡ stepped v o i p x → r ≡ stepped v out into p ((run_in w).process b)
+  step_is : (p : ℕ) {r : Result Turn Refusal} → r ≡ stepped v o i p x → r ≡ stepped v out into p ((run_in w).process b)
   step_is p h =
       h ∙ rw (f, g) (stepped_needed v out into p x out_few in_few) ∙ ap (stepped v out into p) e
 
 pub overflow_cast-a : goal.overflow_cast-a
-overflow_cast-a c = omega (arith, ready_sizes c.requires.ready, c.requires.le_a)
+overflow_cast-a c = omega (arith, ready_sizes c.args.area.ready, c.requires.a_is_process)
 
-pub start_step-requires-clause-process_value : goal.start_step-requires-clause-process_value
-start_step-requires-clause-process_value c =
-    rw c.process-x.ensures (process_right c.requires.ready c.args.b c.requires.le_b.0 c.requires.le_b.1)
+pub start_step-requires-clause-process_fits : goal.start_step-requires-clause-process_fits
+start_step-requires-clause-process_fits c =
+    rw c.process-x.ensures (process_right c.args.area.ready c.args.b c.requires.b_is_process.0 c.requires.b_is_process.1)
 
 pub overflow_cast-a-2 : goal.overflow_cast-a-2
-overflow_cast-a-2 c = omega (arith, ready_sizes c.requires.ready, c.requires.le_a)
+overflow_cast-a-2 c = omega (arith, ready_sizes c.args.area.ready, c.requires.a_is_process)
 
-pub other_step-requires-clause-process_value : goal.other_step-requires-clause-process_value
-other_step-requires-clause-process_value c =
-    in_range_is c.requires.ready c.args.message c.args.b c.requires.le_b c.process-x.ensures c.out_needed-out_degree.ensures
-    c.in_needed-in_degree.ensures c.requires.message_value
+pub other_step-requires-clause-lent_fits : goal.other_step-requires-clause-lent_fits
+other_step-requires-clause-lent_fits c =
+    in_range_is c.args.area.ready c.args.message c.args.b c.requires.b_is_process c.process-x.ensures c.needed-out_degree.ensures
+    c.needed-in_degree.ensures c.requires.small_counts
 
-pub other_step-requires-clause-process : goal.other_step-requires-clause-process
-other_step-requires-clause-process c = (c.requires.le_a.0, omega (arith, ready_sizes c.requires.ready, c.requires.le_a))
+pub other_step-requires-clause-sender_is_process : goal.other_step-requires-clause-sender_is_process
+other_step-requires-clause-sender_is_process c = (c.requires.a_is_process.0, omega (arith, ready_sizes c.args.area.ready, c.requires.a_is_process))
 
 pub returns : goal.returns
 returns c =
-    rw (ne_eqb c.args.b (run_in c.args.area.now).start (λ e. c.if-b-start_of.false (e ∙ sym c.start_of.ensures)))
-    (step_is c.requires.ready c.args.message c.args.b c.requires.le_b c.process-x.ensures c.out_needed-out_degree.ensures
-    c.in_needed-in_degree.ensures c.args.a c.other_step.ensures)
+    rw (ne_eqb c.args.b (run_in c.args.area.words.now).start (λ e. c.if-b-start.false (e ∙ sym c.start.ensures)))
+    (step_is c.args.area.ready c.args.message c.args.b c.requires.b_is_process c.process-x.ensures c.needed-out_degree.ensures
+    c.needed-in_degree.ensures c.args.a c.other_step.ensures)

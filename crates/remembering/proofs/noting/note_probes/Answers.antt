@@ -24,14 +24,14 @@ module _ (w : Waits) (b : ℕ) {y : Probes} {l : List ℕ} where
     pres e t = rw e t
 
 pub returns-in-Nothing : goal.returns-in-Nothing
-returns-in-Nothing c = let a = c.args in nothing (run_in a.area.now).waits a.b c.in-Nothing.is
+returns-in-Nothing c = let a = c.args in nothing (run_in a.area.words.now).waits a.b c.in-Nothing.is
 
 pub returns-in-Sucs : goal.returns-in-Sucs
 returns-in-Sucs c =
     let a = c.args in
-    sucs (run_in a.area.now).waits a.b c.in-Sucs.is c.note_chain.ensures
+    sucs (run_in a.area.words.now).waits a.b c.in-Sucs.is c.note_chain.ensures
 
 pub returns-in-Pres : goal.returns-in-Pres
 returns-in-Pres c =
     let a = c.args in
-    pres (run_in a.area.now).waits a.b c.in-Pres.is c.note_chain-in-Pres.ensures
+    pres (run_in a.area.words.now).waits a.b c.in-Pres.is c.note_chain-in-Pres.ensures

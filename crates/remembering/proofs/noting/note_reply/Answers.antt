@@ -1,23 +1,21 @@
 -- `remembering::noting::note_reply` meets its contract.
-use Rattle.std.proofs.Common.{ℕ, true, List, ◌≡◌}
+use Rattle.std.proofs.Common.{ℕ, true, List, ◌≡◌, Option, Some, None}
 use Rattle.steps.specs.declared.Reply.{Reply}
-use Rattle.steps.specs.declared.Reply.TheVariants.{To}
-use Rattle.steps.specs.declared.TwoCounts.{TwoCounts}
 use Rattle.preparing.specs.Receiving.{reply_goes}
 use Rattle.marks.specs.Changes.{turned, Turns}
 use Rattle.remembering.specs.Noting.{sent_marks}
 use Rattle.remembering.proofs.Following.{sent_nobody, sent_one}
 use Rattle.remembering.proofs.noting.note_reply.Goals as goal
 
-nothing : (b : ℕ) {z : Reply} → z ≡ Reply.Nothing → {l : List ℕ} → Turns l (λ held. sent_marks held b (reply_goes z)) l
+nothing : (b : ℕ) {z : Option Reply} → z ≡ None → {l : List ℕ} → Turns l (λ held. sent_marks held b (reply_goes z)) l
 nothing b e = rw e (sent_nobody b)
 
-one : (b p : ℕ) (c : TwoCounts) {z : Reply} → z ≡ To p c → {l k : List ℕ} → Turns l (λ held. turned held b p true) k
+one : (b : ℕ) (y : Reply) {z : Option Reply} → z ≡ Some y → {l k : List ℕ} → Turns l (λ held. turned held b y.to true) k
     → Turns l (λ held. sent_marks held b (reply_goes z)) k
-one b p c e t = rw e (sent_one b p t)
+one b y e t = rw e (sent_one b y.to t)
 
-pub returns-in-Nothing : goal.returns-in-Nothing
-returns-in-Nothing c = nothing c.args.b c.in-Nothing.is
+pub returns-in_default : goal.returns-in_default
+returns-in_default c = nothing c.args.b c.in_default.is
 
-pub returns-in-To : goal.returns-in-To
-returns-in-To c = one c.args.b _ _ c.in-To.is c.mark.ensures
+pub returns-in-Some : goal.returns-in-Some
+returns-in-Some c = one c.args.b _ c.in-Some.is c.mark.ensures

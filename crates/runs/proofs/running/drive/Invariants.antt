@@ -5,8 +5,8 @@ use Rattle.remembering.specs.Memory.{Remembers}
 use Rattle.runs.proofs.Turns.{Turn}
 use Rattle.runs.proofs.running.drive.Given as goal
 
-abbrev pub invariant-loop-n : goal.invariant-loop-n
-invariant-loop-n l = Turn shuffled_order l.seed l.initial.area l.k l.area l.made l.state × Remembers (run_in l.area) l.memory
+abbrev pub invariant-loop-sizes : goal.invariant-loop-sizes
+invariant-loop-sizes l = Turn shuffled_order l.seed l.initial.area l.k l.area l.made l.state × Remembers (run_in l.area) l.memory
 
-abbrev pub decreases-loop-n : goal.decreases-loop-n
-decreases-loop-n l = l.k - l.made
+abbrev pub decreases-loop-sizes : goal.decreases-loop-sizes
+decreases-loop-sizes l = l.k - l.made

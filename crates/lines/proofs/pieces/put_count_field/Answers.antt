@@ -1,9 +1,0 @@
--- `lines::pieces::put_count_field` meets its contract: a space, and then the number.
-use Rattle.steps.proofs.Counts.{signed_back}
-use Rattle.lines.specs.Text.{count_field}
-use Rattle.lines.specs.AddingLaws.{◌put-then◌}
-use Rattle.lines.proofs.pieces.put_count_field.Goals as goal
-
-pub returns : goal.returns
-unfolding count_field
-returns c = c.put_word-end.ensures put-then (rw (signed_back c.args.z c.ranges.z.sfits) at c.put_signed.ensures)

@@ -1,8 +1,0 @@
--- `lines::put_delivery` meets its contract: the link, the message and the end of the line.
-use Rattle.lines.specs.Text.{delivery_line}
-use Rattle.lines.specs.AddingLaws.{◌put-then◌}
-use Rattle.lines.proofs.put_delivery.Goals as goal
-
-pub returns : goal.returns
-unfolding delivery_line
-returns c = c.put_link-end.ensures put-then c.put_message-end.ensures put-then c.put_word.ensures

@@ -1,0 +1,2 @@
+-- How many bytes a reading got: Taken.
+pub mod Taken

@@ -1,7 +1,0 @@
-use Rattle.std.proofs.Common.{◌-◌, ◌≤◌, true, ◌≡◌}
-use Rattle.base.specs.Sums.{all_to}
-use Rattle.region_tests.specs.RegionTests.{arc_test}
-use Rattle.region_tests.proofs.are_arcs.Given as goal
-
-abbrev pub invariant-loop-k : goal.invariant-loop-k
-invariant-loop-k l = (1 ≤ l.k) × (l.k ≤ l.end) × (all_to (l.k - 1) (arc_test l.area) ≡ true)
