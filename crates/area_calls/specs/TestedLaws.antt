@@ -56,6 +56,9 @@ module _ (w : List ℤ) (x : Result Sizes Refusal) (e : x ≡ sizes_of (area_rig
             m_is = ap (λ (t : Sizes). t.m) is ∙ sym (fields_in_m w);
           }
 
+  pub right_area : (s : Sizes) → x ≡ Ok s → area_right w ≡ true
+  right_area s f = (right_ready s f).right
+
 pub ready_process : {w : List ℤ} {s : Sizes} → Ready w s → (p : ℕ) {b : Bool} → b ≡ is_process s.n p → b ≡ is_process (run_in w).waits.n p
 ready_process y p e = rw (ready_n y) e
 

@@ -5,6 +5,7 @@ ghost use Rattle.std.specs.Prelude.{◌≡◌, ◌≤◌, take};
 const MOST: usize = 1024;
 
 // A list of pairs, two entries a wait: who waits and for whom. No pair is in it twice.
+// Stays: no heap is a rule of the project, so the entries stand in fixed memory with their number beside them.
 #[derive(Clone, Copy)]
 pub struct Waits {
     entries: [u16; MOST],

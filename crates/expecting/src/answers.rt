@@ -21,17 +21,6 @@ pub fn reported(report: Result<Report, Refusal>, c: &Course) -> Result<(), Fault
     expect(is_told(report, c), Fault::Over)
 }
 
-// What a pick is refused with, if it is: 25 for no link, 23 if all deliveries are made, else 24 or, past that, 31.
-fn refusal(found: &Found, pick: Pick, c: &Course) -> Refusal {
-    if !found.is_link(pick.from, pick.to) {
-        Refusal::NoLink
-    } else if c.made == c.due {
-        Refusal::Over
-    } else {
-        Refusal::NoMessage
-    }
-}
-
 // Whether a second sum or count can be: in cs's range, and never below 0 in a run made by start and deliveries (02, N3).
 fn is_second(second: i32) -> bool {
     (0..=128).contains(&second)
@@ -46,56 +35,84 @@ fn are_counts(counts: TwoCounts, from_start: bool) -> bool {
     }
 }
 
-// A message that can be on a link: a suc along a wait, a pre against one, an acknowledgement with counts that can be.
-fn is_message(found: &Found, pick: Pick, message: Message, start: usize) -> bool {
-    match message {
-        Message::Suc => found.is_wait(pick.from, pick.to),
-        Message::Pre => found.is_wait(pick.to, pick.from),
-        Message::Ack(counts) => are_counts(counts, pick.from == start),
-    }
+// A pick, with what the search found and how the run stood before it.
+#[derive(Clone, Copy)]
+struct Tried<'a> {
+    found: &'a Found,
+    pick: Pick,
+    course: &'a Course,
 }
 
-// A pick that could be refused with 24 is, unless a message is known to wait on its link, or with 31, unless its place is 1 (02, N5).
-fn is_refused(pick: Pick, given: Refusal, expected: Refusal, c: &Course) -> bool {
-    if expected != Refusal::NoMessage {
-        return given == expected;
-    }
-    match given {
-        Refusal::NoMessage => pick.own.is_none() || c.lower == 0,
-        Refusal::Place => pick.place != 1,
-        _ => false,
-    }
-}
-
-// It may deliver a message, from a place that a link has.
-fn is_picked(found: &Found, pick: Pick, answer: Result<Message, Refusal>, c: &Course) -> bool {
-    let expected = refusal(found, pick, c);
-    match answer {
-        Ok(message) => {
-            expected == Refusal::NoMessage
-                && (1..=4).contains(&pick.place)
-                && is_message(found, pick, message, c.start)
+impl Tried<'_> {
+    // What it is refused with, if it is: 25 for no link, 23 if all deliveries are made, else 24 or, past that, 31.
+    fn refusal(self) -> Refusal {
+        if !self.found.is_link(self.pick.from, self.pick.to) {
+            Refusal::NoLink
+        } else if self.course.made == self.course.due {
+            Refusal::Over
+        } else {
+            Refusal::NoMessage
         }
-        Err(given) => is_refused(pick, given, expected, c),
     }
-}
 
-// The message at the place of a pick before the first delivery, if there is one: "s sends suc to each successor, then pre to each predecessor".
-// A link from another process is empty.
-fn first_message(found: &Found, pick: Pick, start: usize) -> Option<Message> {
-    let suc = pick.from == start && found.is_wait(start, pick.to);
-    let pre = pick.from == start && found.is_wait(pick.to, start);
-    match pick.place {
-        1 if suc => Some(Message::Suc),
-        1 if pre => Some(Message::Pre),
-        2 if suc && pre => Some(Message::Pre),
-        _ => None,
+    // A message that can be on its link: a suc along a wait, a pre against one, an acknowledgement with counts that can be.
+    fn is_message(self, message: Message) -> bool {
+        let Pick { from, to, .. } = self.pick;
+        match message {
+            Message::Suc => self.found.is_wait(from, to),
+            Message::Pre => self.found.is_wait(to, from),
+            Message::Ack(counts) => are_counts(counts, from == self.course.start),
+        }
     }
-}
 
-// Whether a pick before the first delivery took what the start sent.
-fn is_sent(found: &Found, pick: Pick, answer: Result<Message, Refusal>, c: &Course) -> bool {
-    c.made > 0 || answer.ok() == first_message(found, pick, c.start)
+    // If it could be refused with 24 it is, unless a message is known to wait on its link, or with 31, unless its place is 1 (02, N5).
+    fn is_refused(self, given: Refusal) -> bool {
+        let expected = self.refusal();
+        if expected != Refusal::NoMessage {
+            return given == expected;
+        }
+        match given {
+            Refusal::NoMessage => self.pick.own.is_none() || self.course.lower == 0,
+            Refusal::Place => self.pick.place != 1,
+            _ => false,
+        }
+    }
+
+    // It may deliver a message, from a place that a link has.
+    fn is_picked(self, answer: Result<Message, Refusal>) -> bool {
+        match answer {
+            Ok(message) => {
+                self.refusal() == Refusal::NoMessage
+                    && (1..=4).contains(&self.pick.place)
+                    && self.is_message(message)
+            }
+            Err(given) => self.is_refused(given),
+        }
+    }
+
+    // The message at its place before the first delivery, if there is one: "s sends suc to each successor, then pre to each predecessor". A link
+    // from another process is empty.
+    fn first_message(self) -> Option<Message> {
+        let Pick {
+            from,
+            to,
+            place,
+            ..
+        } = self.pick;
+        let suc = from == self.course.start && self.found.is_wait(from, to);
+        let pre = from == self.course.start && self.found.is_wait(to, from);
+        match place {
+            1 if suc => Some(Message::Suc),
+            1 if pre => Some(Message::Pre),
+            2 if suc && pre => Some(Message::Pre),
+            _ => None,
+        }
+    }
+
+    // Whether it took what the start sent, if it came before the first delivery.
+    fn is_sent(self, answer: Result<Message, Refusal>) -> bool {
+        self.course.made > 0 || answer.ok() == self.first_message()
+    }
 }
 
 // How many places are below that of the order's own pick, 0 below place 1 and for another pick.
@@ -138,7 +155,12 @@ pub fn picked(
     answer: Result<Message, Refusal>,
     c: &mut Course,
 ) -> Result<(), Fault> {
-    let right = is_picked(found, pick, answer, c) && is_sent(found, pick, answer, c);
+    let tried = Tried {
+        found,
+        pick,
+        course: c,
+    };
+    let right = tried.is_picked(answer) && tried.is_sent(answer);
     match answer {
         Ok(message) => delivered(pick, message, c),
         Err(given) => missed(pick, given, c),

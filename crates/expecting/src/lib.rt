@@ -32,8 +32,8 @@ pub struct Expected {
 impl Expected {
     // "start needs 8N + 20M + 16"
     pub fn needed(self) -> usize
-        ensures words { result ≡ 8 * self.n + 20 * self.m + 16 }
-        ensures bound { result < 2 ^ 24 }
+        ensures sum { result ≡ 8 * self.n + 20 * self.m + 16 }
+        ensures small { result < 2 ^ 24 }
     {
         8 * usize::from(self.n) + 20 * usize::from(self.m) + 16
     }

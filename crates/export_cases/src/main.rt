@@ -242,6 +242,7 @@ fn make_call<W: Write>(
     table: &mut [u8],
     area: &mut [i32],
 ) -> io::Result<()> {
+    // Stays: the input names a call by its number, which may not change, so the numbers stand here.
     match word(case, 0) {
         1 => write!(to, "version {}", pickledune::pickledune_version()),
         2 => write!(to, "layout {}", pickledune::pickledune_layout()),
@@ -262,18 +263,17 @@ fn make_call<W: Write>(
     writeln!(to)
 }
 
-// Makes all calls. Nothing says that the input ends, so the loop counts its turns, up to a number that no run uses up.
 fn main(rt: HostRuntime) -> io::Result<()> {
     let mut from = rt.reader();
     let mut to = io::writer(&rt);
     let mut table = [0u8; 96];
     let mut area = [0i32; 256];
     let mut case = [0u8; 72];
-    for _ in 0..u64::MAX {
-        if !streams::next_case(&mut from, &mut to, &mut case)? {
-            break;
+    streams::each_case(|_| {
+        let is_call = streams::next_case(&mut from, &mut to, &mut case)?;
+        if is_call {
+            make_call(&mut to, &case, &mut table, &mut area)?;
         }
-        make_call(&mut to, &case, &mut table, &mut area)?;
-    }
-    Ok(())
+        Ok(is_call)
+    })
 }

@@ -7,7 +7,7 @@
 
 pub mod parts;
 
-ghost use Rattle.std.specs.Prelude.{◌≡◌, true, false, List, ℕ, ◌≤◌};
+ghost use Rattle.std.specs.Prelude.{◌≡◌, true, false, List, ℕ, ◌≤◌, ◌<◌, ◌^◌, sum};
 ghost use Rattle.tables.specs.Table.{most_processes, IsProcess};
 ghost use Rattle.sets.specs.Sets.{Ranked};
 ghost use Rattle.marks.specs.Marks.{Marks};
@@ -65,6 +65,14 @@ fn count_down(numbers: &mut [usize; parts::MEMORY_SIZE], b: usize)
     }
 }
 
+// The sum of some counts.
+fn total(counts: &[usize]) -> usize
+    requires { sum counts.now < 2 ^ 64 }
+    ensures { result ≡ sum counts.now }
+{
+    counts.iter().sum()
+}
+
 impl Memory {
     // No link holds a message.
     pub fn new() -> Self
@@ -73,13 +81,6 @@ impl Memory {
         Memory {
             numbers: [0; parts::MEMORY_SIZE],
         }
-    }
-
-    // No link holds a message any more.
-    pub fn clear(&mut self)
-        ensures { Marks (λ a b. false) self.new }
-    {
-        self.numbers = [0; parts::MEMORY_SIZE];
     }
 
     // The link from a to b holds a message, whether it did before or not.
@@ -120,11 +121,7 @@ impl Memory {
     fn held_in_all(&self) -> usize
         ensures { Held self.now result }
     {
-        let mut held = 0;
-        for count in &self.numbers[parts::GROUPS_AT..] {
-            held += *count;
-        }
-        held
+        total(&self.numbers[parts::GROUPS_AT..])
     }
 
     // The place that a state points to among the links with a message: state 0 to the first, without counting them.
@@ -142,6 +139,7 @@ impl Memory {
     }
 
     // The lowest receiver for the first place; for the others that behind the groups whose links all stand before it.
+    // Stays: a receiver past all processes if there is none: what may not change needs it, `Begins` (specs/Changes) speaks of a number.
     pub fn begin_at(&self, place: usize) -> Beginning
         ensures { Begins self.now place result.receiver result.left }
     {
@@ -164,6 +162,7 @@ impl Memory {
     }
 
     // The sender to j that has so many of them below it, if there is one; for j 0 the receiver.
+    // Stays: a number past all processes for none: what may not change needs it, `Ranked` (sets, specs/Sets) speaks of a number.
     pub fn ranked_in(&self, j: usize, rank: usize) -> usize
         requires { j ≤ most_processes }
         ensures { Ranked self.now j rank result }

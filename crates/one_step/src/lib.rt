@@ -14,6 +14,7 @@ use steps::{Message, Probes, Process, Reply, Sent, Turn, TwoCounts};
 const MOST_PROCESSES: u32 = tables::MOST_PROCESSES as u32;
 
 // "record or count out of range, father over 128 or a degree over 128" is not met.
+// Stays: message and degrees one by one, as `step` and `other_step` take them: a struct for the inner two would be built there to be taken apart here.
 #[tactic(auto, unfolding(steps::specs::Step::lent_in_range))]
 fn is_lent_in_range(process: Process, message: Message, out_degree: u32, in_degree: u32) -> bool
     ensures { result ≡ lent_in_range message out_degree in_degree process }

@@ -190,7 +190,7 @@ pub struct Way<'a> {
 // How a run stands: its start; A of 01; D, as the search found it; the sucs and pres that picks delivered, how many deliveries overtook, and how
 // many running on with a seed made; the last random number; the link tried last, as its place in the list, and how many places are below the
 // one tried there, 0 if no message is known to wait on that link; the receiver of the last delivery by a pick, before it the start, and the
-// tries since; after the end, which call past it is next.
+// tries since; after the end, how many calls past it were made.
 #[derive(Clone, Copy)]
 pub struct Course {
     pub start: usize,
@@ -406,41 +406,41 @@ impl<'a> Way<'a> {
         }
     }
 
-    // The calls past the end that come up in every run, from 1 on: running on, picks along the list's first wait, against it and of no link, also
+    // The calls past the end that come up in every run: running on, picks along the list's first wait, against it and of no link, also
     // at places that no message has, readings of no process, and running on with seed 0 and with another one.
-    fn fixed_call(self, number: usize, c: &Course) -> Call {
+    fn fixed_calls(self, c: &Course) -> [Call; FIXED] {
         let p = self.sender(0);
         let q = self.receiver(0);
         let past = self.n.saturating_add(1);
-        match number {
-            1 => Call::RunOn { k: 0 },
-            2 => Call::RunOn { k: 5 },
-            3 => other_pick(p, q, 1),
-            4 => other_pick(q, p, 1),
-            5 => other_pick(0, p, 1),
-            6 => other_pick(p, past, 1),
-            7 => other_pick(p, 129, 1),
-            8 => Call::Read { p: 0 },
-            9 => Call::Read { p: past },
-            10 => other_pick(p, q, 0),
-            11 => other_pick(q, p, 5),
-            12 => other_pick(0, p, 0),
-            13 => other_pick(p, 129, usize::MAX),
-            14 => Call::Read { p: 129 },
-            15 => Call::RunShuffled { k: 0, seed: 0 },
-            16 => Call::RunShuffled { k: 5, seed: 0 },
-            _ => Call::RunShuffled {
+        [
+            Call::RunOn { k: 0 },
+            Call::RunOn { k: 5 },
+            other_pick(p, q, 1),
+            other_pick(q, p, 1),
+            other_pick(0, p, 1),
+            other_pick(p, past, 1),
+            other_pick(p, 129, 1),
+            Call::Read { p: 0 },
+            Call::Read { p: past },
+            other_pick(p, q, 0),
+            other_pick(q, p, 5),
+            other_pick(0, p, 0),
+            other_pick(p, 129, usize::MAX),
+            Call::Read { p: 129 },
+            Call::RunShuffled { k: 0, seed: 0 },
+            Call::RunShuffled { k: 5, seed: 0 },
+            Call::RunShuffled {
                 k: u32::MAX,
                 seed: seed_of(c.seed),
             },
-        }
+        ]
     }
 
     // The next call: the order's own, but for one in sixteen before the end, though not on the way down a link. After the end the fixed ones,
     // then every second one the order's own.
     pub fn next_call(self, c: &Course) -> Call {
         match c.past {
-            Some(number) if number <= FIXED => self.fixed_call(number, c),
+            Some(number) if number < FIXED => self.fixed_calls(c)[number],
             Some(_) if c.seed % 2 == 1 => self.other_call(c),
             _ if c.seed % 16 == 5 && c.lower == 0 => self.other_call(c),
             _ => self.own_call(c),
@@ -457,7 +457,7 @@ impl<'a> Way<'a> {
     pub fn is_done(self, c: &Course) -> bool {
         match c.past {
             None => c.made >= c.due || self.is_still(c),
-            Some(number) => number > FIXED + DRAWN,
+            Some(number) => number >= FIXED + DRAWN,
         }
     }
 }
@@ -487,7 +487,7 @@ impl Course {
 
     // At the end, before the calls past it.
     pub fn end(&mut self) {
-        self.past = Some(1);
+        self.past = Some(0);
     }
 
     // Whether the words are compared before and after a call, in an area of so many words: past the end and in small areas always, else now

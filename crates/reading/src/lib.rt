@@ -23,6 +23,7 @@ pub fn read_input<R: Read>(from: &mut R, input: &mut [u8]) -> Result<usize, Fail
     ensures ended { IfOk result (λ n. n < length input.new → IsAtEnd (R.remaining from.new)) }
 {
     let mut done = 0;
+    // Stays: a read gives any number of bytes, so nothing steps through them one by one.
     while done < input.len() {
         match from.read(&mut input[done..]) {
             Ok(0) => break,

@@ -4,12 +4,13 @@
 --   listed_back      == the number of the refusal with a listed number is that number
 --   number_of_answered   == the number of an answer is the number that it was made of
 --   number_of_low    == so it is where that number is one of 0 to 13, by which what was given is refused
+--   answered_number  == a refusal that answers has the number that it was made of
 --   answered_ok, answered_err   == an answer that is a value was made of 0 and of that value; one that is a refusal, of another number
 --   passed_on        == that refusal is the answer for the same number, whatever the value would be: so a `?` hands it on
 -- Assumes nothing.
 use Rattle.std.specs.Prelude.{ℕ, zero, suc, ◌≤◌, Ok, Err, ◌≡◌}
 use Rattle.std.proofs.Common.{arith}
-use Rattle.std.proofs.Math.Path.{refl, ap}
+use Rattle.std.proofs.Math.Path.{refl, ap, sym, ◌∙◌}
 use Rattle.refusals.specs.declared.Refusal.{Refusal}
 use Rattle.refusals.specs.declared.Refusal.TheVariants.{TableShort, Sizes, TableLength, Ends, ChainField, Chain, ArcTwice, Process, AreaShort, ListOdd, OutputShort, BytesLeft, InputLong}
 use Rattle.refusals.specs.declared.Refusal.TheVariants.{NotWellFormed, OutOfRange, Over, NoMessage, NoLink, NotOver, Edition, Place, Seed}
@@ -50,6 +51,9 @@ module _ {A : Type 0} where
   pub number_of_answered : (k : ℕ) (x : A) → Listed k → number_of (answered k x) ≡ k
   number_of_answered zero x l = refl
   number_of_answered (suc k) x l = listed_back l
+
+  pub answered_number : (k : ℕ) (x : A) {e : Refusal} → Listed k → answered k x ≡ Err e → k ≡ number e
+  answered_number k x l e = sym (number_of_answered k x l) ∙ ap number_of e
 
   pub number_of_low : (k : ℕ) (x : A) → k ≤ 13 → number_of (answered k x) ≡ k
   number_of_low zero x h = refl

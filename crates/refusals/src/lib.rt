@@ -3,7 +3,7 @@
 #![tactic(auto)]
 
 ghost use Rattle.std.specs.Prelude.{◌≡◌};
-ghost use Rattle.refusals.specs.Numbers.{number};
+ghost use Rattle.refusals.specs.Numbers.{number, number_of};
 
 // Why a call was refused, by its number: 1 to 13, 30 and 37 because of what was given, 21 to 26 and 31 because of the state.
 #[derive(Clone, Copy, PartialEq, Eq)]
@@ -38,5 +38,15 @@ impl From<Refusal> for u32 {
 
     fn from(refusal: Refusal) -> u32 {
         refusal as u32
+    }
+}
+
+// 01's number for the answer of a call that may be refused: 0 where nothing is refused.
+pub fn number_of<A>(answer: &Result<A, Refusal>) -> u32
+    ensures { result ≡ number_of answer.now }
+{
+    match answer {
+        Ok(_) => 0,
+        Err(refusal) => u32::from(*refusal),
     }
 }

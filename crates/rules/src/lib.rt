@@ -100,6 +100,7 @@ pub fn set_succeeding(out_degree: u32, turn: Turn) -> Turn
 }
 
 // Rule 2: "A pre probe does the same with preceding and predecessors."
+// Stays: a twin of set_succeeding is no plainer as one: the flag and the probes would be chosen by the chain, and the second sum is of the one alone.
 #[tactic(auto, using(steps::proofs::Counts::signed_back), unfolding(steps::specs::Step::set_preceding))]
 pub fn set_preceding(in_degree: u32, turn: Turn) -> Turn
     requires degree_in_range { in_degree ≤ most_processes }

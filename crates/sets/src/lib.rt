@@ -10,8 +10,7 @@ ghost use Rattle.sets.specs.Sets.{sets_size, word_digits, set_at, word_at, digit
 ghost use Rattle.sets.specs.Sets.{word, is_in, added_to, struck_from, lowest_of, lowest_in, Ranked};
 
 // Two words for each process, and for 0.
-// Stays: the sets are words of a lent array, not a struct of their own: what may not change needs it, `Rows` and `Marks` of the crate `marks` speak of
-// one list of numbers with the sets in front and counts behind.
+// Stays: words of a lent array, no struct: what may not change needs it, `Rows` and `Marks` (marks) speak of one list, the counts behind the sets.
 pub const SETS_SIZE: usize = 2 * tables::SIDE;
 
 // How many processes a word has digits for.
@@ -97,6 +96,7 @@ pub fn strike(words: &mut [usize], j: usize, p: usize)
 }
 
 // The lowest process of a set in two words, or a number past all processes.
+// Stays: a number for none, here and in the two below: what may not change needs it, `lowest_of` and `Nth` (specs/Sets) speak of a number.
 pub fn lowest_of(low: usize, high: usize) -> usize
     ensures is { result ≡ lowest_of low high }
     ensures low { 1 ≤ result }

@@ -1,8 +1,13 @@
--- An accepted start.
+-- The number of a start, and an accepted one.
+--   start_low                == the number is one of 0 to 13, or 30
+--   start_said               == it is the number of start's answer
 --   start_number_startable   == what a start that no row refuses says of its table, its process and its words
 -- Assumes nothing.
-use Rattle.std.specs.Prelude.{ℕ, ◌≤◌, not, List, ◌≡◌, refl, eqb, ltb, length, ℤ}
-use Rattle.std.proofs.Common.{arith, ltb-false}
+use Rattle.std.specs.Prelude.{ℕ, ◌≤◌, Bool, true, false, not, List, ◌⊎◌, ◌≡◌, refl, eqb, ltb, length, ℤ}
+use Rattle.std.proofs.Common.{inl, inr, arith, ltb-false}
+use Rattle.refusals.specs.Numbers.{answered, number_of}
+use Rattle.refusals.specs.NumberLaws.{number_of_low}
+use Rattle.tables.specs.ReadingLaws.{read_number_low}
 use Rattle.tables.specs.TableLaws.{is_process_P}
 use Rattle.base.specs.Choice.{choose}
 use Rattle.base.specs.ChoiceLaws.{tested, same?}
@@ -13,8 +18,32 @@ use Rattle.tables.specs.LayoutLaws.{accepted_P}
 use Rattle.checks.specs.Run.{is_edition}
 use Rattle.checks.specs.RunLaws.{is_edition_P}
 use Rattle.areas.specs.Places.{area_length}
-use Rattle.starting.specs.StartCall.{start_number}
+use Rattle.starting.specs.StartCall.{start_number, start_answer}
 use Rattle.beginning.specs.Starting.{Startable}
+
+-- the numbers of the rows that a start checks
+abbrev pub Low : ℕ → Type 0
+Low k = (k ≤ 13) ⊎ (k ≡ 30)
+
+pub choose_low : (b : Bool) (m n : ℕ) → Low m → Low n → Low (choose b m n)
+choose_low true m n p q = p
+choose_low false m n p q = q
+
+pub low_said : {A : Type 0} (k : ℕ) (x : A) → Low k → number_of (answered k x) ≡ k
+low_said k x (inl h) = number_of_low k x h
+low_said k x (inr e) = rw e
+
+pub start_low : (bs : List ℕ) (s ed : ℕ) (w : List ℤ) → Low (start_number bs s ed w)
+unfolding start_number
+start_low bs s ed w =
+    choose_low (not (eqb (read_number bs) 0)) _ _ (inl (omega (arith, read_number_low bs)))
+    (choose_low (not (is_process (n_of (field_of bs)) s)) _ _ (inl (omega arith))
+    (choose_low (not (is_edition ed)) _ _ (inr refl)
+    (choose_low (ltb (length w) (area_length (n_of (field_of bs)) (m_of (field_of bs)))) _ _ (inl (omega arith)) (inl (omega arith)))))
+
+pub start_said : (bs : List ℕ) (s ed : ℕ) (w : List ℤ) → number_of (start_answer bs s ed w) ≡ start_number bs s ed w
+unfolding start_answer
+start_said bs s ed w = low_said _ _ (start_low bs s ed w)
 
 pub start_number_startable : (bs : List ℕ) (s ed : ℕ) (w : List ℤ) → start_number bs s ed w ≡ 0
     → Startable bs (n_of (field_of bs)) (m_of (field_of bs)) s ed w

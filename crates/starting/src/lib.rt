@@ -6,8 +6,7 @@ ghost use Rattle.std.specs.Prelude.{◌≡◌};
 ghost use Rattle.tables.specs.Table.{field_of};
 ghost use Rattle.areas.specs.Area.{stored};
 ghost use Rattle.beginning.specs.Starting.{Startable, start_of};
-ghost use Rattle.starting.specs.Rows.{row_met};
-ghost use Rattle.starting.specs.StartCall.{started_by, start_answer, start_area};
+ghost use Rattle.starting.specs.StartCall.{start_answer, start_area};
 
 use areas::places;
 use refusals::Refusal;
@@ -22,32 +21,21 @@ fn set_up(table: &[u8], sizes: Sizes, s: usize, edition: usize, area: &mut [i32]
     beginning::begin(area, sizes, s);
 }
 
-// The first of the rows 8, 30 and 9 that is met.
-fn row_met(process: bool, named: bool, short: bool) -> Result<(), Refusal>
-    ensures { result ≡ started_by (row_met process named short) }
-{
-    if !process {
-        return Err(Refusal::Process);
-    }
-    if !named {
-        return Err(Refusal::Edition);
-    }
-    if short {
-        return Err(Refusal::AreaShort);
-    }
-    Ok(())
-}
-
 // Starts a check at process s under an edition: checks 1 to 8, 30, 9, in order, on any bytes and any words.
 pub fn start(table: &[u8], s: usize, edition: usize, area: &mut [i32]) -> Result<(), Refusal>
     ensures answer { result ≡ start_answer table.now s edition area.old }
     ensures area { area.new ≡ start_area table.now s edition area.old }
 {
     let sizes = table_reader::read(table)?;
-    let process = is_process(s, sizes.n);
-    let named = checks::is_edition(edition);
-    let short = area.len() < places::area_length(sizes);
-    row_met(process, named, short)?;
+    if !is_process(s, sizes.n) {
+        return Err(Refusal::Process);
+    }
+    if !checks::is_edition(edition) {
+        return Err(Refusal::Edition);
+    }
+    if area.len() < places::area_length(sizes) {
+        return Err(Refusal::AreaShort);
+    }
     set_up(table, sizes, s, edition, area);
     Ok(())
 }

@@ -2,6 +2,7 @@
 --   signed_back                    == a signed local read back is the number that was put there
 --   small_back                     == what is_small says of a count that was read back, it says of the count
 --   mag_abs, small_fits            == a count in range fits 32 bits
+--   small_below, small_test        == what the two tests of the range say of it
 --   small_sum                      == the sum of two counts in range fits 32 bits
 --   small_change                   == new minus old of two flags is a count in range
 --   flag_back                      == a flag cast to a signed number is that number
@@ -10,17 +11,17 @@
 --   new_subordinate_product         == of two flags it is succeeding times (1 minus preceding)
 -- Assumes nothing.
 use Prim.Native.Nat.{ℕ, zero, suc, ◌+◌, ◌-◌, ◌*◌, ◌^◌, ◌≤◌, ◌<◌}
-use mathlib.Core.Bool.{Bool, true, false, cond, ◌&&◌}
-use mathlib.Core.Path.{◌≡◌}
+use mathlib.Core.Bool.{Bool, true, false, false≢true, cond, ◌&&◌}
+use mathlib.Core.Path.{◌≡◌, refl, sym}
 use native.Mathlib.Nat.{mul-add}
 use native.Mathlib.Omega.{arith}
 use lib.Dec.{eqb, ltb}
 use lib.IntN.{ℤ, pos, negsuc, sub_ℕ, ◌+ℤ◌, ◌-ℤ◌, nat_abs}
-use lib.Signed.{mag}
+use lib.Signed.{mag, lt_z, le_z}
 use mir.Syntax.{w32}
 use mir.Val.{to_z, of_z}
 use mir.Facts.{to_z-of_z}
-use borrow.Author.Tests.{leb-true, le-leb, ltb-true}
+use borrow.Author.Tests.{leb-true, le-leb, lt-leb, ltb-true, ltb-false}
 use Rattle.base.specs.ChoiceLaws.{tested, and_left, and_right}
 use Rattle.base.specs.Checks.{Tested, passed, failed}
 use Rattle.base.specs.Choice.{choose}
@@ -45,6 +46,16 @@ mag_abs (negsuc n) = omega arith
 
 pub small_fits : (z : ℤ) → small z ≡ true → mag z < 2 ^ 31
 small_fits z e = omega (arith, small_mag z e, mag_abs z)
+
+pub small_below : (z : ℤ) → lt_z z (negsuc (most_count - 1)) ≡ true → small z ≡ false
+unfolding small
+small_below (pos n) e = absurd (false≢true e)
+small_below (negsuc n) e = lt-leb (suc n) most_count (omega (arith, ltb-true (most_count - 1) n e))
+
+pub small_test : (z : ℤ) → lt_z z (negsuc (most_count - 1)) ≡ false → le_z z (pos most_count) ≡ small z
+unfolding small
+small_test (pos n) e = refl
+small_test (negsuc n) e = sym (le-leb (suc n) most_count (omega (arith, ltb-false (most_count - 1) n e)))
 
 sub_abs : (a b : ℕ) → nat_abs (sub_ℕ a b) ≤ a + b
 sub_abs a b = at (tested (ltb a b))

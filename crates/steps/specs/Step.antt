@@ -7,6 +7,8 @@
 --   idle                == "All values 0"
 --   Turn                == what a step leaves: the record, the probes it broadcasts, the acknowledgement it sends
 --   acknowledgement p c == the acknowledgement to p with counts c, as what is sent
+--   probe_of c, probes_of c   == the probe that goes along a chain, suc to successors and pre to predecessors, and the broadcast of it
+--   chain_of y          == the chain along which the broadcast y goes, if it goes along one
 --   rule1, set_succeeding, set_preceding, rule3, rule4   == the four rules of "Another process i receives a probe from p"
 --   turn m o i p x      == the step of a process other than the start, with o successors and i predecessors, on message m from p
 --   start_turn m p x     == the step of the start process
@@ -17,6 +19,7 @@
 use Rattle.std.specs.Prelude.{ℕ, ◌+◌, ◌-◌, Bool, true, not, ◌&&◌, ◌||◌, eqb, leb, ltb, ℤ, pos, ◌+ℤ◌, ◌-ℤ◌, nat_abs, Option, Some, None, Result}
 use Rattle.base.specs.Choice.{choose, bit}
 use Rattle.tables.specs.Table.{most_processes}
+use Rattle.tables.specs.declared.{Chain.Chain, Chain.TheVariants.Out, Chain.TheVariants.In}
 use Rattle.steps.specs.declared.{Message.Message, Message.TheVariants.Suc, Message.TheVariants.Pre, Message.TheVariants.Ack, Process.Process}
 use Rattle.steps.specs.declared.TwoCounts.{TwoCounts}
 use Rattle.steps.specs.declared.{Probes.Probes, Probes.TheVariants.Sucs, Probes.TheVariants.Pres, Reply.Reply}
@@ -96,6 +99,20 @@ Turn = Rattle.steps.specs.declared.Turn.Turn
 -- the acknowledgement to p with counts c, as what is sent
 abbrev pub acknowledgement : ℕ → TwoCounts → Option Reply
 acknowledgement p c = Some (record { to = p; counts = c })
+
+-- "sends suc to all successors", along the out-chain; "the same with preceding and predecessors", along the in-chain
+abbrev pub probe_of : Chain → Message
+probe_of Out = Suc
+probe_of In = Pre
+
+abbrev pub probes_of : Chain → Probes
+probes_of Out = Sucs
+probes_of In = Pres
+
+abbrev pub chain_of : Probes → Option Chain
+chain_of Probes.Nothing = None
+chain_of Sucs = Some Out
+chain_of Pres = Some In
 
 -- "If num is 0, father becomes p. Otherwise it acknowledges to p with cs, and cs becomes 0.", the second sum with it
 unfoldable pub rule1 : ℕ → Process → Turn

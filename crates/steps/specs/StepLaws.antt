@@ -7,8 +7,10 @@
 --   own_count_small    == the 1 or 0 that a process adds to its second sum is a count in range
 --   inRange-P         == what `in_range x` says of the values of a record
 --   stepped_inside    == a step of what is in range, from a process: 22, or the turn
+--   stepped_said, start_stepped_said   == the number of a step's answer is the number that its checks come to
+--   chain_none, chain_some   == a broadcast that goes along no chain is none, and one that goes along a chain is that chain's
 -- Assumes nothing.
-use Rattle.std.specs.Prelude.{ℕ, zero, suc, ◌+◌, ◌*◌, ◌≤◌, Bool, true, not, ◌&&◌, ◌≡◌, refl, eqb, leb, nat_abs, None}
+use Rattle.std.specs.Prelude.{ℕ, zero, suc, ◌+◌, ◌*◌, ◌≤◌, Bool, true, not, ◌&&◌, ◌||◌, ◌≡◌, refl, eqb, leb, ltb, nat_abs, None, Some}
 use Rattle.std.proofs.Math.Bool.{false}
 use Rattle.std.proofs.Common.{leb-true, le-leb, ne_eqb, le-ltb}
 use Rattle.std.proofs.Math.Path.{ap, sym}
@@ -20,11 +22,15 @@ use Rattle.base.specs.Checks.{Same, same, apart, Tested, passed, failed}
 use Rattle.steps.specs.declared.Message.{Message}
 use Rattle.steps.specs.declared.Message.TheVariants.{Suc, Pre, Ack}
 use Rattle.steps.specs.declared.Process.{Process}
+use Rattle.steps.specs.declared.Probes.{Probes}
+use Rattle.steps.specs.declared.Probes.TheVariants.{Sucs, Pres}
 use Rattle.steps.specs.declared.TwoCounts.{TwoCounts}
 use Rattle.tables.specs.Table.{most_processes}
+use Rattle.tables.specs.declared.Chain.{Chain}
+use Rattle.tables.specs.declared.Chain.TheVariants.{Out, In}
 use Rattle.steps.specs.Step.{small, in_range, Turn, acknowledgement, new_subordinate, rule1, set_succeeding, set_preceding, rule3, rule4, turn}
-use Rattle.steps.specs.Step.{most_count, most_num, own_count, lent_in_range, fitting, step_number, stepped}
-use Rattle.refusals.specs.Numbers.{answered}
+use Rattle.steps.specs.Step.{most_count, most_num, own_count, lent_in_range, fitting, step_number, stepped, start_turn, start_stepped, probes_of, chain_of}
+use Rattle.refusals.specs.Numbers.{answered, number_of}
 use Rattle.steps.specs.Effect.{RecordInRange, sucs_of, pres_of, receiver, counts_replied}
 use Rattle.steps.specs.Effect.{both, out_needed, in_needed}
 
@@ -118,6 +124,39 @@ pub stepped_inside :
     stepped m o i p x ≡ answered (choose (not (fitting m x (turn m o i p x))) 22 0) (turn m o i p x)
 unfolding stepped step_number
 stepped_inside m o i p x e n h = rw (e, ne_eqb p 0 n, le-ltb most_processes p h)
+
+-- ---- the number of an answer
+
+-- .. where a test chooses what it is made of
+chosen_said : (b : Bool) (k l : ℕ) (t : Turn) → number_of (answered k t) ≡ k → number_of (answered l t) ≡ l
+    → number_of (answered (choose b k l) t) ≡ choose b k l
+chosen_said true k l t h g = h
+chosen_said false k l t h g = g
+
+pub stepped_said : (m : Message) (o i p : ℕ) (x : Process) → number_of (stepped m o i p x) ≡ step_number m o i p x
+unfolding stepped step_number
+stepped_said m o i p x =
+    let t : Turn = turn m o i p x in
+    chosen_said (not (lent_in_range m o i x)) 21 _ t refl
+    (chosen_said (eqb p 0 || ltb most_processes p) 25 _ t refl
+    (chosen_said (not (fitting m x t)) 22 0 t refl refl))
+
+pub start_stepped_said :
+    (m : Message) (p : ℕ) (x : Process) → number_of (start_stepped m p x) ≡ choose (not (fitting m x (start_turn m p x))) 22 0
+unfolding start_stepped
+start_stepped_said m p x = chosen_said (not (fitting m x (start_turn m p x))) 22 0 (start_turn m p x) refl refl
+
+-- ---- a broadcast
+
+pub chain_none : (y : Probes) → chain_of y ≡ None → y ≡ Probes.Nothing
+chain_none Probes.Nothing e = refl
+chain_none Sucs e = let clash : ◌≡◌ {A = ℕ} 0 1 = cc in absurd (omega arith)
+chain_none Pres e = let clash : ◌≡◌ {A = ℕ} 0 1 = cc in absurd (omega arith)
+
+pub chain_some : (y : Probes) (c : Chain) → chain_of y ≡ Some c → y ≡ probes_of c
+chain_some Probes.Nothing c e = let clash : ◌≡◌ {A = ℕ} 0 1 = cc in absurd (omega arith)
+chain_some Sucs c e = let is : Out ≡ c = cc in ap probes_of is
+chain_some Pres c e = let is : In ≡ c = cc in ap probes_of is
 
 -- ---- an acknowledgement
 

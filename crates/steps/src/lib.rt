@@ -3,7 +3,9 @@
 #![tactic(auto)]
 
 ghost use Rattle.std.specs.Prelude.{◌≡◌, pos};
-ghost use Rattle.steps.specs.Step.{small, both_small, in_range, count_small, own_count};
+ghost use Rattle.steps.specs.Step.{small, both_small, in_range, count_small, own_count, probe_of, chain_of};
+
+use tables::Chain;
 
 // "cs (−128 to 128)": the largest sum, which is the largest count too; the least is as far below 0
 pub const MOST_COUNT: i32 = 128;
@@ -26,7 +28,20 @@ pub enum Message {
     Ack(TwoCounts),
 }
 
+// The probe that goes along a chain.
+impl From<Chain> for Message {
+    ghost from_gives = { λ chain message. message ≡ probe_of chain };
+
+    fn from(chain: Chain) -> Message {
+        match chain {
+            Chain::Out => Message::Suc,
+            Chain::In => Message::Pre,
+        }
+    }
+}
+
 // A process's record: "succeeding, preceding, subordinate .., cs .., num .. and father", and the second sum (02, N3). "All values 0" by default.
+// Stays: flags and father as numbers, since a lent record may hold any, and what is out of range is refused with 21, not unsayable (01, "Steps").
 #[derive(Clone, Copy, PartialEq, Eq, Default)]
 pub struct Process {
     pub succeeding: u32,
@@ -45,6 +60,19 @@ pub enum Probes {
     Nothing,
     Sucs,
     Pres,
+}
+
+impl Probes {
+    // The chain along which they go, if there are any.
+    pub fn chain(self) -> Option<Chain>
+        ensures { result ≡ chain_of self }
+    {
+        match self {
+            Probes::Nothing => None,
+            Probes::Sucs => Some(Chain::Out),
+            Probes::Pres => Some(Chain::In),
+        }
+    }
 }
 
 // An acknowledgement that a step sends: to whom and with which counts.

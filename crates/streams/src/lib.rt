@@ -18,6 +18,7 @@ pub fn print<W: Write>(to: &mut W, text: &[u8]) -> io::Result<()>
 }
 
 // Writes a number in decimal digits, or fails.
+// Stays: README says of this crate that it prints text and numbers.
 pub fn print_number<W: Write>(to: &mut W, n: u64) -> io::Result<()>
     ensures { OnOk result (Appends (W.contents to.old) (W.contents to.new) (decimal n)) }
 {
@@ -30,16 +31,20 @@ pub fn read_full<R: Read>(from: &mut R, bytes: &mut [u8]) -> io::Result<usize>
     ensures taken { IfOk result (λ n. Consumes (R.remaining from.old) (R.remaining from.new) (take n bytes.new)) }
     ensures ended { IfOk result (λ n. n < length bytes.new → IsAtEnd (R.remaining from.new)) }
 {
-    let mut done = 0;
-    // Stays: each turn goes on by as many bytes as the reader gave, so there is no slice or range to go over.
-    while done < bytes.len() {
-        let got = from.read(&mut bytes[done..])?;
-        if got == 0 {
-            return Ok(done);
-        }
-        done += got;
+    reading::read_input(from, bytes).map_err(|failed| failed.error)
+}
+
+// Whether so many bytes that were read fill a case or its rest. If not, the input ends early, and a last line says so.
+fn fills<W: Write>(to: &mut W, got: usize, bytes: &[u8]) -> io::Result<bool>
+    ensures whole { IfOk result (λ whole. whole ≡ true → got ≡ length bytes.now) }
+    ensures silent { IfOk result (λ whole. whole ≡ true → to.new ≡ to.old) }
+    ensures early { IfOk result (λ whole. whole ≡ false → (got ≡ length bytes.now) → ⊥) }
+{
+    let whole = got == bytes.len();
+    if !whole {
+        print(to, b"input ends early\n")?;
     }
-    Ok(done)
+    Ok(whole)
 }
 
 // Fills the bytes with what follows a heading, and gives whether it did. If the input ends before, a last line says so.
@@ -53,11 +58,7 @@ pub fn rest_of_case<R: Read, W: Write>(
     ensures ended { IfOk result (λ whole. whole ≡ false → IsAtEnd (R.remaining from.new)) }
 {
     let got = read_full(from, rest)?;
-    let whole = got == rest.len();
-    if !whole {
-        print(to, b"input ends early\n")?;
-    }
-    Ok(whole)
+    fills(to, got, rest)
 }
 
 // Fills the bytes with the next case of the input, or with its heading, and gives whether it did: not at the input's end. If bytes are left that fill
@@ -68,11 +69,23 @@ pub fn next_case<R: Read, W: Write>(from: &mut R, to: &mut W, case: &mut [u8]) -
     ensures ended { IfOk result (λ whole. whole ≡ false → IsAtEnd (R.remaining from.new)) }
 {
     let got = read_full(from, case)?;
-    let whole = got == case.len();
-    if 0 < got && !whole {
-        print(to, b"input ends early\n")?;
+    if got == 0 {
+        return Ok(case.is_empty());
     }
-    Ok(whole)
+    fills(to, got, case)
+}
+
+// Takes one step after another, which counts them from 1, until one says that it was the last. Nothing says that an input ends, so the count has a
+// last number, which no run comes to.
+pub fn each_case<F: FnMut(u64) -> io::Result<bool>>(mut step: F) -> io::Result<()>
+    requires { F.IsAlwaysCallable step }
+{
+    for k in 1..=u64::MAX {
+        if !step(k)? {
+            break;
+        }
+    }
+    Ok(())
 }
 
 // Word k of a case, counted from 0, of four bytes, low byte first; 0 if the case has no such word.

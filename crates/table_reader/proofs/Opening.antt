@@ -24,9 +24,9 @@ use Rattle.tables.specs.Walking.{or_else, open_number, opened_of}
 use Rattle.tables.specs.ReadingLaws.{accepted_told, refused_told}
 use Rattle.tables.specs.ReadingFacts.{Accepts, Refuses}
 
-answered_refused : {A : Type 0} (q : ℕ) (x : A) (e : Refusal) → q ≡ number e → (q ≡ 0 → ⊥) → Err e ≡ answered q x
-answered_refused zero x e f d = absurd (d (λ i. 0))
-answered_refused (suc q) x e f d = ap Err (sym (ap numbered f ∙ number_back e))
+open_answer_refused : (q r k : ℕ) → q ≡ r → (r ≡ 0 → ⊥) → Err (numbered r) ≡ answered q k
+open_answer_refused zero r k e d = absurd (d (sym e))
+open_answer_refused (suc q) r k e d = ap (λ (j : ℕ). Err (numbered j)) (sym e)
 
 or_else_first : (q r s : ℕ) → q ≡ r → (r ≡ 0 → ⊥) → or_else q s ≡ r
 unfolding or_else
@@ -38,8 +38,8 @@ module _ (bs : List ℕ) (c : Chain) (p : ℕ) (w : Result Sizes Refusal) (ew : 
   unfolding opened_of open_number
   opened_of_read e f =
       let told : Refuses bs (number e) = refused_told bs e (sym ew ∙ f) in
-      let first-is : open_number bs p ≡ number e = or_else_first (read_number bs) (number e) _ told.number told.some in
-      answered_refused (open_number bs p) (first c (field_of bs) p) e first-is (λ z. told.some (sym first-is ∙ z))
+      ap Err (sym (number_back e))
+      ∙ open_answer_refused (open_number bs p) (number e) (first c (field_of bs) p) (or_else_first (read_number bs) (number e) _ told.number told.some) told.some
 
   module _ (sizes : Sizes) (e : w ≡ Ok sizes) (b : Bool) (eb : b ≡ is_process sizes.n p) where
     told : Accepts bs sizes.n sizes.m

@@ -257,7 +257,7 @@ pub fn check_fields(s: &[u8], sizes: Sizes) -> Result<(), Refusal>
 }
 
 // Reads a table: checks 1 to 7, in order, on any bytes.
-#[tactic(auto, using(crate::proofs::Answers::reading_short, crate::proofs::Answers::reading_sizes, crate::proofs::Answers::reading_length, crate::proofs::Answers::reading_refused, crate::proofs::Answers::reading_accepted))]
+#[tactic(auto, using(crate::proofs::Answers::reading_of_1, crate::proofs::Answers::reading_sizes, crate::proofs::Answers::reading_of_3, crate::proofs::Answers::reading_of_4, crate::proofs::Answers::reading_of_0))]
 pub fn read(s: &[u8]) -> Result<Sizes, Refusal>
     ensures { result ≡ reading_of s.now }
 {

@@ -164,6 +164,7 @@ fn write_case<W: Write>(to: &mut W, s: &[u8]) -> io::Result<()> {
     write_list(to, n, &list[..count], space)
 }
 
+// Stays: the input names a kind by its letter, which may not change, so the letters stand here.
 fn run_case<W: Write>(to: &mut W, kind: u8, s: &[u8]) -> io::Result<()> {
     match kind {
         b'R' => print_reading(to, s),
@@ -188,14 +189,8 @@ fn next_case<R: Read, W: Write>(from: &mut R, to: &mut W) -> io::Result<bool> {
     Ok(true)
 }
 
-// Runs all cases. Nothing says that the input ends, so the loop counts its turns, up to a number that no run uses up.
 fn main(rt: HostRuntime) -> io::Result<()> {
     let mut from = rt.reader();
     let mut to = io::writer(&rt);
-    for _ in 0..u64::MAX {
-        if !next_case(&mut from, &mut to)? {
-            break;
-        }
-    }
-    Ok(())
+    streams::each_case(|_| next_case(&mut from, &mut to))
 }

@@ -3,9 +3,10 @@
 --   write_number_10 .. write_number_0    == the number, from the values of the tests
 --   ends_fit_..                        == the tests' values, from facts
 --   writing_.., written_..             == the answer and the output, from the number
+--   write_number_low, writing_said      == the number is one of 0 to 13, and it is that of the answer
 -- Assumes nothing.
 use Prim.Native.Nat.{ℕ, zero, suc, ◌-◌, ◌%◌, ◌≤◌, ◌<◌}
-use Rattle.std.specs.Prelude.{Bool, true, false, not, ◌&&◌, List, Ok, ◌↔◌, ◌≡◌, refl, eqb, ltb, length}
+use Rattle.std.specs.Prelude.{Bool, true, false, not, ◌&&◌, List, Ok, Err, ◌↔◌, ◌≡◌, refl, eqb, ltb, length}
 use Rattle.std.proofs.lemmas.Bool.{false≢true}
 use Rattle.std.proofs.Common.{sym, ◌∙◌, arith}
 use borrow.Author.Tests.{ltb-false, eqb-true, lt-ltb, le-ltb, eq-eqb, ne_eqb, not-true, not-false}
@@ -15,6 +16,8 @@ use Rattle.base.specs.Checks.{Tested, passed, failed}
 use Rattle.base.specs.Sums.{all_to}
 use Rattle.base.specs.SumLaws.{all_to_at, all_to_of, any_to_of, any_to_found}
 use Rattle.base.specs.Sums.{Found}
+use Rattle.refusals.specs.Numbers.{numbered, number_of}
+use Rattle.refusals.specs.NumberLaws.{number_of_low}
 use Rattle.tables.specs.declared.Chain.{Chain}
 use Rattle.tables.specs.declared.Chain.TheVariants.{Out, In}
 use Rattle.tables.specs.Table.{SizesFit, sizes_fit, table_length, IsProcess, is_process}
@@ -142,8 +145,33 @@ unfolding output_for
 output_kept zero new old h = absurd (h refl)
 output_kept (suc r) new old h = refl
 
+-- a number that a check met gives, or that of the checks after it
+choose_low : (b : Bool) {x y : ℕ} → x ≤ 13 → y ≤ 13 → choose b x y ≤ 13
+choose_low true h g = h
+choose_low false h g = g
+
+pub write_number_low : (n : ℕ) (list : List ℕ) (space : ℕ) → write_number n list space ≤ 13
+unfolding write_number
+write_number_low n list space =
+    let m : ℕ = pairs list in
+    choose_low (not (eqb (length list % 2) 0)) (omega arith)
+    (choose_low (not (sizes_fit n m)) (omega arith)
+    (choose_low (not (all_to m (ends_fit n list))) (omega arith)
+    (choose_low (not (all_to m (unlike list))) (omega arith)
+    (choose_low (ltb space (table_length n m)) (omega arith) (omega arith)))))
+
 -- the outcome for a number that is 0, and for one that is not
 module _ (n : ℕ) (list out : List ℕ) where
+  pub writing_said : number_of (writing_of n list out) ≡ write_number n list (length out)
+  unfolding writing_of
+  writing_said =
+      number_of_low (write_number n list (length out)) (table_length n (pairs list)) (write_number_low n list (length out))
+
+  pub writing_refused : (r : ℕ) → r ≡ write_number n list (length out) → (r ≡ 0 → ⊥) → Err (numbered r) ≡ writing_of n list out
+  unfolding writing_of
+  writing_refused zero e h = absurd (h refl)
+  writing_refused (suc r) e h = rw (← e)
+
   pub written_refused : (write_number n list (length out) ≡ 0 → ⊥) → out ≡ written n list out
   unfolding written
   written_refused h = output_kept (write_number n list (length out)) (table_over n list out) out h

@@ -9,7 +9,6 @@ use Rattle.tables.specs.Reading.{fields_number, read_number}
 pub record Refuses (bs : List ℕ) (r : ℕ) : Type 0 where
   pub number : read_number bs ≡ r
   pub some : r ≡ 0 → ⊥
-  pub low : r ≤ 7
 
 pub record Accepts (bs : List ℕ) (n m : ℕ) : Type 0 where
   pub number : read_number bs ≡ 0

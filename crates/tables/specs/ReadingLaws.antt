@@ -12,7 +12,7 @@ use Rattle.base.specs.Checks.{Tested, passed, failed, Same, same, apart}
 use Rattle.base.specs.Choice.{choose}
 use Rattle.base.specs.Sums.{all_to}
 use Rattle.refusals.specs.declared.Refusal.{Refusal}
-use Rattle.refusals.specs.Numbers.{number, number_of}
+use Rattle.refusals.specs.Numbers.{number, answered, number_of}
 use Rattle.refusals.specs.NumberLaws.{number_of_low, answered_ok, answered_err}
 use Rattle.tables.specs.declared.Chain.TheVariants.{Out, In}
 use Rattle.tables.specs.declared.Sizes.{Sizes}
@@ -90,20 +90,30 @@ pub reading_number : (bs : List ℕ) → number_of (reading_of bs) ≡ read_numb
 unfolding reading_of
 reading_number bs = number_of_low (read_number bs) (sizes_of (field_of bs)) (omega (arith, read_number_low bs))
 
+answer_refused : (q : ℕ) (x : Sizes) (e : Refusal) → q ≤ 13 → answered q x ≡ Err e → (q ≡ number e) × (number e ≡ 0 → ⊥)
+answer_refused q x e h f =
+    let here : q ≡ number e = sym (number_of_low q x h) ∙ ap (λ a. number_of a) f in
+    (here, λ z. answered_err q x f (here ∙ z))
+
+answer_accepted : (q : ℕ) (x y : Sizes) → answered q x ≡ Ok y → (q ≡ 0) × (y.n ≡ x.n) × (y.m ≡ x.m)
+answer_accepted q x y e =
+    let told = answered_ok q x e in
+    (told.0, ap (λ (z : Sizes). z.n) told.1, ap (λ (z : Sizes). z.m) told.1)
+
 pub refused_told : (bs : List ℕ) (e : Refusal) → reading_of bs ≡ Err e → Refuses bs (number e)
 unfolding reading_of
 refused_told bs e f =
-    let is : number e ≡ read_number bs = ap (λ a. number_of a) (sym f) ∙ reading_number bs in
-    record { number = sym is; some = λ z. answered_err (read_number bs) _ f (sym is ∙ z); low = omega (arith, is, read_number_low bs) }
+    let told = answer_refused (read_number bs) (sizes_of (field_of bs)) e (omega (arith, read_number_low bs)) f in
+    record { number = told.0; some = told.1 }
 
 pub accepted_told : (bs : List ℕ) (sizes : Sizes) → reading_of bs ≡ Ok sizes → Accepts bs sizes.n sizes.m
 unfolding reading_of
 accepted_told bs sizes e =
-    let told = answered_ok (read_number bs) _ e in
+    let told = answer_accepted (read_number bs) (sizes_of (field_of bs)) sizes e in
     let right = passes bs told.0 in
     let fit = (sizes_right_P (field_of bs)).0 right.sizes in
-    let n-of : sizes.n ≡ n_of (field_of bs) = ap (λ (z : Sizes). z.n) told.1 in
-    let m-of : sizes.m ≡ m_of (field_of bs) = ap (λ (z : Sizes). z.m) told.1 in
+    let n-of : sizes.n ≡ n_of (field_of bs) = told.1 in
+    let m-of : sizes.m ≡ m_of (field_of bs) = told.2 in
     record {
       number = told.0;
       processes = n-of;

@@ -14,6 +14,7 @@ const MOST: usize = 513;
 // Both chains, in the order in which they are printed.
 const CHAINS: [Chain; 2] = [Chain::Out, Chain::In];
 
+// Stays: a Display would have to stand in tables, for two words that only this crate prints, and be no shorter.
 fn name_of(chain: Chain) -> &'static str {
     match chain {
         Chain::Out => "out",

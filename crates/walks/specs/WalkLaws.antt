@@ -10,7 +10,8 @@
 use Prim.Native.Nat.{ℕ, zero, suc, ◌≤◌, ◌<◌}
 use Rattle.refusals.specs.declared.Refusal.{Refusal}
 use Rattle.refusals.specs.Numbers.{answered, number_of}
-use Rattle.tables.specs.WalkingLaws.{opening_number}
+use Rattle.refusals.specs.NumberLaws.{number_of_low}
+use Rattle.tables.specs.WalkingLaws.{open_number_low}
 use Rattle.std.specs.Prelude.{Bool, true, ◌&&◌, Option, Some, None, Result, Ok, Err, ◌↔◌, ◌≡◌, leb, get_or}
 use mathlib.Core.List.{List, ◌∷◌}
 use Rattle.std.proofs.Math.Path.{refl, ap}
@@ -89,9 +90,16 @@ steps_on_next (suc i) w = steps_on_next i (stepped_walk w)
 
 -- ---- opening
 
-answered_stands : (n k : ℕ) → (refusal_number (refusal_of (answered n k)) ≡ 0 → ⊥) → opened_arc (answered n k) ≡ 0
-answered_stands zero k h = absurd (h refl)
-answered_stands (suc n) k h = refl
+open_answer_number : (n k : ℕ) → n ≤ 13 → number_of (answered n k) ≡ n
+open_answer_number n k h = number_of_low n k h
+
+open_answer_stands : (n k : ℕ) → (number_of (answered n k) ≡ 0 → ⊥) → opened_arc (answered n k) ≡ 0
+open_answer_stands zero k h = absurd (h refl)
+open_answer_stands (suc n) k h = refl
+
+opening_number : (bs : List ℕ) (c : Chain) (p : ℕ) → number_of (opened_of bs c p) ≡ open_number bs p
+unfolding opened_of
+opening_number bs c p = open_answer_number (open_number bs p) (first c (field_of bs) p) (omega (arith, open_number_low bs p))
 
 answered_number : (a : Result ℕ Refusal) → refusal_number (refusal_of a) ≡ number_of a
 answered_number (Ok k) = refl
@@ -130,7 +138,8 @@ opened_P table c p = (λ e. met (accepts bs p (sym (opened_number bs c p) ∙ e)
 
 pub refused_stands : (table : Bor (List ℕ)) (c : Chain) (p : ℕ) → (walk_number (opened_walk table c p) ≡ 0 → ⊥) → (opened_walk table c p).arc ≡ 0
 unfolding opened_of
-refused_stands table c p h = answered_stands (open_number table.now p) (first c (field_of table.now) p) h
+refused_stands table c p h =
+    open_answer_stands (open_number table.now p) (first c (field_of table.now) p) (λ e. h (answered_number (opened_of table.now c p) ∙ e))
 
 -- ---- the walk on a table that meets the layout
 

@@ -26,17 +26,18 @@ pub fn is_same(word: i32, other: i32) -> bool
 fn is_message(word: i32) -> bool
     ensures { result ≡ message_word word }
 {
-    is_number(word) && steps::is_count_small(words::message_of(word))
+    word >= 0 && steps::is_count_small(words::message_of(word))
 }
 
 // The words from `from` up to `to` are 0. All of them are looked at, so that several are at once.
+// Stays: `fold(true, ..)` with the same `&` is no plainer, and `all`, which leaves at the first, is compiled to a test of each word (PROVING.md).
 pub fn is_free(area: &[i32], from: usize, to: usize) -> bool
     requires { (from ≤ to) × (to ≤ length area.now) }
     ensures { result ≡ all_to (to - from) (λ j. is_free area.now (from + (j - 1))) }
 {
     let mut free = true;
     for word in &area[from..to] {
-        free = free & is_same(*word, 0);
+        free = free & (*word == 0);
     }
     free
 }
@@ -46,12 +47,7 @@ fn are_messages(area: &[i32], i: usize, l: usize) -> bool
     requires { i + l ≤ length area.now }
     ensures { result ≡ all_to l (λ j. message_word (get_or area.now (i + (j - 1)) (pos 0))) }
 {
-    for word in &area[i..i + l] {
-        if !is_message(*word) {
-            return false;
-        }
-    }
-    true
+    area[i..i + l].iter().all(|word| is_message(*word))
 }
 
 // The link at word i, which has words for so many messages and is so many words long: messages of the three kinds with counts in range, then

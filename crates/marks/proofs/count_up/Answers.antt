@@ -1,7 +1,7 @@
 -- `marks::count_up` meets its contract.
 use Rattle.std.proofs.Common.{arith, get_or, ap, ℕ}
 use Rattle.marks.specs.MarkLaws.{marks_few}
-use Rattle.marks.proofs.Marking.{up_same, up_turned, up_word}
+use Rattle.marks.proofs.Marking.{up_stays, up_turns, up_word}
 use Rattle.marks.proofs.count_up.Goals as goal
 
 pub overflow_add-numbers : goal.overflow_add-numbers
@@ -15,7 +15,7 @@ add-requires-clause-digit_free c =
 
 pub returns-then-numbers-at-eq1 : goal.returns-then-numbers-at-eq1
 returns-then-numbers-at-eq1 c =
-    up_turned c.args.numbers.now c.args.b c.count_at-at.ensures c.requires.marked c.requires.receiver c.if-numbers-at-eq1.true c.add.ensures
+    up_turns c.args.numbers.now c.args.b c.count_at-at.ensures c.requires.marked c.requires.receiver c.if-numbers-at-eq1.true c.add.ensures
 
 pub returns-else-numbers-at-eq1 : goal.returns-else-numbers-at-eq1
-returns-else-numbers-at-eq1 c = up_same c.args.numbers.now c.args.b c.count_at-at.ensures c.requires.marked c.requires.receiver c.if-numbers-at-eq1.false
+returns-else-numbers-at-eq1 c = up_stays c.args.numbers.now c.args.b c.count_at-at.ensures c.requires.marked c.requires.receiver c.if-numbers-at-eq1.false
