@@ -1,7 +1,22 @@
 #!/bin/sh
-# Counts, in the sources of all crates, the places that docs/DESIGN-PASS.md speaks of, point by point. With --list it names them.
-# usage: tools/design_places.sh [--list]
+# Counts, in the sources of all crates, the places that docs/DESIGN-PASS.md speaks of, point by point.
+#
+#   tools/design_places.sh [--list]
+#
+# With --list it names each place, too.
 set -eu
+
+case ${1-} in
+-h | --help)
+    sed -n '2,/^[^#]/ s/^# \{0,1\}//p' "$0"
+    exit
+    ;;
+'' | --list) ;;
+*)
+    echo "usage: tools/design_places.sh [--list]" >&2
+    exit 2
+    ;;
+esac
 cd "$(dirname "$0")/.."
 list=${1:-}
 sources=$(find crates -path '*/src/*' -name '*.rt' -not -path '*/out/*' | LC_ALL=C sort)
