@@ -13,7 +13,7 @@ use Rattle.checks.specs.Calls.{pick, run_on, run_shuffled}
 use Rattle.machine.specs.Lists.{Call, picking, running_on, running_shuffled, reporting, reading, in_turn, passed_by}
 use Rattle.machine.specs.Calls.{fixed_order}
 use Rattle.machine.specs.Calls as MachineCalls
-use Rattle.checks.specs.AnswerLaws.{pick_number, delivery_of_accepted}
+use Rattle.checks.specs.AnswerLaws.{delivery_of_number, delivery_of_accepted}
 use Rattle.checks.specs.Lists.{asked}
 use Rattle.checks.specs.Lists
 use Rattle.areas.specs.Area.{stored, fields_in, run_in, area_right, area_of}
@@ -47,8 +47,8 @@ module _ (t : Fields) (tb : RightTable t) (w : List ℤ) (long : area_of t ≤ l
       }
   unfolding pick_area pick_answer run_on_area run_on_answer shuffled_area shuffled_answer report_answer read_answer
   call_stored (picking a b k) r f =
-      let accepted = delivery_of_accepted (MachineCalls.pick knot r a b k).answer in
-      rw (right r f, run r f, keeps r (pick r a b k).run, pick_number r a b k, accepted)
+      let x = (MachineCalls.pick knot r a b k).answer in
+      rw (right r f, run r f, keeps r (pick r a b k).run, delivery_of_number x, delivery_of_accepted x)
   call_stored (running_on k) r f = rw (right r f, run r f, keeps r (run_on k r).run)
   call_stored (running_shuffled k seed) r f = rw (right r f, run r f, keeps r (run_shuffled k seed r).run)
   call_stored reporting r f = rw (right r f, run r f)

@@ -10,19 +10,25 @@
 use std::io;
 use std::io::{Read, Write};
 
-// Case k; gives whether it was whole and its answer came out.
-fn next_case<R: Read, W: Write>(from: &mut R, to: &mut W, k: u64) -> io::Result<bool> {
-    let mut heading = [0u8; 2];
-    if !streams::next_case(from, to, &mut heading)? {
-        return Ok(false);
-    }
+// Case k, of so many bytes; gives whether it was whole and its answer came out. The bytes stand in a function of their own: behind a return of the same
+// function they would be cleared twice.
+fn run_case<R: Read, W: Write>(from: &mut R, to: &mut W, k: u64, length: u16) -> io::Result<bool> {
     let mut bytes = [0u8; 65536];
-    let input = &mut bytes[..u16::from_le_bytes(heading) as usize];
+    let input = &mut bytes[..usize::from(length)];
     if !streams::rest_of_case(from, to, input)? {
         return Ok(false);
     }
     writeln!(to, "case {k}")?;
     Ok(printing::print_check(to, input).is_ok())
+}
+
+// The next case; gives whether to go on.
+fn next_case<R: Read, W: Write>(from: &mut R, to: &mut W, k: u64) -> io::Result<bool> {
+    let mut heading = [0u8; 2];
+    if !streams::next_case(from, to, &mut heading)? {
+        return Ok(false);
+    }
+    run_case(from, to, k, u16::from_le_bytes(heading))
 }
 
 // Runs all cases. Nothing says that the input ends, so the loop has an end of its own, which no run reaches.

@@ -39,7 +39,7 @@ refused n r = record { answer = Err (numbered n); run = r }
 -- the machine's answer as the code gives it
 abbrev pub delivery_of : Answer Message → Result Message Refusal
 delivery_of (given m) = Ok m
-delivery_of (refusal n) = Err (numbered n)
+delivery_of (refusal e) = Err e
 
 abbrev pub answering : Machines.Picked Process Message → Picked
 answering p = record { answer = delivery_of p.answer; run = p.run }

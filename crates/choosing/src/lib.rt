@@ -44,11 +44,11 @@ pub struct ChosenDelivery {
 }
 
 // What the order remembers, from the area alone.
-pub fn remember(area: Tested, square: &[u16; tables::SQUARE_SIZE]) -> Memory
+pub fn remember(area: Tested, square: &[u16; tables::SQUARE_SIZE], memory: &mut Memory)
     requires { Square (fields_in area.words.now) square.now }
-    ensures { Remembers (run_in area.entry.words.now) result }
+    ensures { Remembers (run_in area.entry.words.now) memory.new }
 {
-    filling::fill(area, square)
+    filling::fill(area, square, memory)
 }
 
 // The link with a message at a place in the fixed order, counted from 0 (02, N11 and N13): a receiver whose links all stand before the place is

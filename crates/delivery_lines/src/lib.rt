@@ -29,16 +29,6 @@ use refusals::Refusal;
 use steps::Message;
 use tables::Sizes;
 
-// 01's number for the answer of a pick, 0 if it was accepted.
-fn number_of(answer: Result<Message, Refusal>) -> u32
-    ensures { result ≡ delivery_number answer }
-{
-    match answer {
-        Ok(_) => 0,
-        Err(refusal) => u32::from(refusal),
-    }
-}
-
 // One pick, of the oldest message: "A refused pick prints its number and the program goes on."
 fn put_pick(page: &mut Page, area: &mut [i32], sizes: Sizes, pick: Pick)
     requires ready { Ready area.old sizes }
@@ -50,7 +40,7 @@ fn put_pick(page: &mut Page, area: &mut [i32], sizes: Sizes, pick: Pick)
     let Pick { from, to } = pick;
     let answer = picking::pick_in(area, sizes, from as usize, to as usize, links::OLDEST);
     let Ok(message) = answer else {
-        return page.put_refused_delivery(from, to, number_of(answer));
+        return page.put_refused_delivery(from, to, refusals::number_of(&answer));
     };
     page.put_delivery(false, from, to, message);
 }

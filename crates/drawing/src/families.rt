@@ -75,7 +75,7 @@ pub const FAMILIES: [Family; 9] = [
         runs: 9,
     },
     Family {
-        cases: 11,
+        cases: Shape::ALL.len(),
         n: 128,
         graphs: Graphs::Shapes,
         runs: 9,
@@ -91,9 +91,12 @@ pub struct Case {
     pub seed: usize,
 }
 
-// A random number of processes or waits, from the least to the most.
+// A random number of processes or waits, from the least to the most; the most itself where it is below the least or over 1,000.
 fn between(least: usize, most: usize, x: usize) -> usize {
-    least.saturating_add(numbers::below(x, most.saturating_sub(least).saturating_add(1)))
+    if least > most || most > 1000 {
+        return most;
+    }
+    least + numbers::below(x, most - least + 1) % 1024
 }
 
 // Graph k / n of n processes, n at most 3, from one of its starts.

@@ -50,11 +50,14 @@ pub fn draw(layout: Layout, n: usize, m: usize, seed: usize, waits: &mut Waits) 
     x
 }
 
+// The largest N: no process beyond it is drawn, whatever n is, so that the work is bounded.
+const MOST: usize = 128;
+
 // Puts the graph of n processes, at most 3, with that number into a list: its binary digits say which of the n times n pairs are waits.
 pub fn number(n: usize, number: usize, waits: &mut Waits) {
     let mut rest = number;
-    for from in 1..=n {
-        for to in 1..=n {
+    for from in 1..=n.min(MOST) {
+        for to in 1..=n.min(MOST) {
             if rest % 2 == 1 {
                 waits.put(from, to);
             }
@@ -134,8 +137,8 @@ impl Shape {
 
     // Puts the graph of this shape, of n processes, into a list.
     pub fn put(self, n: usize, waits: &mut Waits) {
-        for from in 1..=n {
-            for to in 1..=n {
+        for from in 1..=n.min(MOST) {
+            for to in 1..=n.min(MOST) {
                 if self.is_wait(n, from, to) {
                     waits.put(from, to);
                 }

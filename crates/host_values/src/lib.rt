@@ -33,10 +33,7 @@ pub fn layout() -> u32
 pub fn number<A>(answer: &Result<A, Refusal>) -> u32
     ensures { result ≡ number_of answer.now }
 {
-    match answer {
-        Ok(_) => 0,
-        Err(refusal) => u32::from(*refusal),
-    }
+    refusals::number_of(answer)
 }
 
 // 0 is the out-chain, any other number the in-chain.

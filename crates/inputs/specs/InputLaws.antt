@@ -9,7 +9,7 @@
 --   table_length_is      == its table has exactly the length that its own N and M ask
 --   table_read        == so reading the table checks 4 to 7 only
 --   then_4_to_8_30    == "then 4 to 8", then 30: what start says of that table, in words enough for any table
---   begun_said        == the number of beginning is that of its answer
+--   split_said, begun_said   == the number of splitting is that of its answer, and so is that of beginning
 --   begun_started     == a begun input is not refused, its start is accepted, and the area is the one that its start leaves
 --   begun_kept        == a refused input changes no word
 --   example_split, example_pick   == 01's own input
@@ -279,13 +279,18 @@ start_low bs s ed w =
     (choose_low (not (is_edition ed)) _ _ (inr refl)
     (choose_low (ltb (length w) (area_length (n_of (field_of bs)) (m_of (field_of bs)))) _ _ (inl (omega arith)) (inl (omega arith)))))
 
+-- the number of an answer that was made of such a number
+low_said : {A : Type 0} (k : ℕ) (x : A) → Low k → number_of (answered k x) ≡ k
+low_said k x (inl h) = number_of_low k x h
+low_said k x (inr e) = rw e
+
+pub split_said : (bs : List ℕ) → number_of (split_of bs) ≡ input_number bs
+unfolding split_of
+split_said bs = low_said _ _ (input_low bs)
+
 pub begun_said : (bs : List ℕ) (w : List ℤ) → number_of (begun_of bs w) ≡ begun_number bs w
 unfolding begun_of begun_number
-begun_said bs w = at _ _ (choose_low (eqb (input_number bs) 0) _ _ (start_low (table_in bs) (start_in bs) (edition_in bs) w) (input_low bs))
-  where
-    at : (k : ℕ) (b : Begun) → Low k → number_of (answered k b) ≡ k
-    at k b (inl h) = number_of_low k b h
-    at k b (inr e) = rw e
+begun_said bs w = low_said _ _ (choose_low (eqb (input_number bs) 0) _ _ (start_low (table_in bs) (start_in bs) (edition_in bs) w) (input_low bs))
 
 module _ (bs : List ℕ) (w : List ℤ) where
   pub begun_started : begun_number bs w ≡ 0

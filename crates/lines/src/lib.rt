@@ -11,7 +11,8 @@ use steps::{Message, Process};
 
 mod pieces;
 
-// Lent bytes, and where the text in them ends: what is put next begins there.
+// Lent bytes, and where the text in them ends: what is put next begins there. Every method is put into its callers, so that this place stays in a register
+// and a piece of a byte or two is one store: else it goes through memory at each piece, and a line takes half as long again.
 #[derive(Drop)]
 pub struct Page<'a> {
     pub out: &'a mut [u8],
@@ -21,6 +22,7 @@ pub struct Page<'a> {
 impl Page<'_> {
     // `pick 1 2 suc`, `own 2 1 ack 1 1`
     #[tactic(auto, unfolding(crate::specs::Text::delivery_line))]
+    #[inline(always)]
     pub fn put_delivery(&mut self, own: bool, from: u32, to: u32, message: Message)
         requires { HasRoom self.old (delivery_line own from to message) }
         ensures { Adds self.old (delivery_line own from to message) self.new }
@@ -32,6 +34,7 @@ impl Page<'_> {
 
     // `pick 1 2 refused 24`: a delivery that the program chooses itself is never refused with a link.
     #[tactic(auto, unfolding(crate::specs::Text::refused_pick_line))]
+    #[inline(always)]
     pub fn put_refused_delivery(&mut self, from: u32, to: u32, number: u32)
         requires { HasRoom self.old (refused_pick_line from to number) }
         ensures { Adds self.old (refused_pick_line from to number) self.new }
@@ -44,6 +47,7 @@ impl Page<'_> {
 
     // `refused 13`
     #[tactic(auto, unfolding(crate::specs::Text::refused_line))]
+    #[inline(always)]
     pub fn put_refused(&mut self, number: u32)
         requires { HasRoom self.old (refused_line number) }
         ensures { Adds self.old (refused_line number) self.new }
@@ -53,6 +57,7 @@ impl Page<'_> {
 
     // `process 1 1 1 0 1 0 1`
     #[tactic(auto, unfolding(crate::specs::Text::process_line))]
+    #[inline(always)]
     pub fn put_process(&mut self, p: u32, x: Process)
         requires { HasRoom self.old (process_line p x) }
         ensures { Adds self.old (process_line p x) self.new }
@@ -66,6 +71,7 @@ impl Page<'_> {
 
     // "verdict knot .. else none"
     #[tactic(auto, unfolding(crate::specs::Text::verdict_line))]
+    #[inline(always)]
     fn put_verdict(&mut self, verdict: Verdict)
         requires { HasRoom self.old (verdict_line verdict) }
         ensures { Adds self.old (verdict_line verdict) self.new }
@@ -78,6 +84,7 @@ impl Page<'_> {
 
     // `outside 1`
     #[tactic(auto, unfolding(crate::specs::Text::outside_line))]
+    #[inline(always)]
     fn put_outside(&mut self, outside: i32)
         requires { HasRoom self.old (outside_line outside) }
         ensures { Adds self.old (outside_line outside) self.new }
@@ -89,6 +96,7 @@ impl Page<'_> {
 
     // "mark returned .. else held"
     #[tactic(auto, unfolding(crate::specs::Text::mark_line))]
+    #[inline(always)]
     fn put_mark(&mut self, mark: Mark)
         requires { HasRoom self.old (mark_line mark) }
         ensures { Adds self.old (mark_line mark) self.new }
@@ -101,6 +109,7 @@ impl Page<'_> {
 
     // "deliveries; the report": the five lines from `over` to `mark`
     #[tactic(auto, unfolding(crate::specs::Text::report_text, crate::specs::Text::over_line, crate::specs::Text::escape_line))]
+    #[inline(always)]
     pub fn put_report(&mut self, report: Report)
         requires { HasRoom self.old (text_of report) }
         ensures { Adds self.old (text_of report) self.new }

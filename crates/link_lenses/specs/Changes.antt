@@ -15,6 +15,7 @@ use Rattle.tables.specs.declared.Chain.{Chain}
 use Rattle.tables.specs.declared.Chain.TheVariants.{Out, In}
 use Rattle.tables.specs.Waits.{neighbours}
 use Rattle.tables.specs.Chains.{joins}
+use Rattle.steps.specs.Step as Step
 use Rattle.steps.specs.declared.Message.{Message}
 use Rattle.steps.specs.declared.Message.TheVariants.{Suc, Pre, Ack}
 use Rattle.steps.specs.declared.Reply.{Reply}
@@ -24,8 +25,7 @@ use Rattle.areas.specs.Used.{link_slots}
 use Rattle.areas.specs.Replaced.{with_links, put_link}
 
 abbrev pub probe_of : Chain → Message
-probe_of Out = Suc
-probe_of In = Pre
+probe_of = Step.probe_of
 
 unfoldable pub spread_to : Chain → Run → ℕ → ℕ → Run
 spread_to c r b k = with_links r (λ x y. choose (eqb x b && leb y k) (r.link x y ++ one (joins c r.waits b y) (probe_of c)) (r.link x y))

@@ -71,11 +71,11 @@ pub fn at_place(area: Tested, link: LinkAt, place: usize) -> Result<Message, Ref
         return Err(Refusal::NoMessage);
     }
     if place == 0 || place > places::LINK_SLOTS {
-        return Err(Refusal::Place);
+        return Err(Refusal::Place); // no link has such a place
     }
     let word = area.words[link.at + (place - 1)];
     if word == 0 {
-        return Err(Refusal::Place);
+        return Err(Refusal::Place); // fewer messages wait
     }
     Ok(words::message_of(word))
 }

@@ -4,7 +4,7 @@ ghost use Rattle.steps.specs.Step.{reply_fits};
 ghost use Rattle.areas.specs.Area.{fields_in, run_in, keeping};
 ghost use Rattle.areas.specs.Squares.{Row};
 ghost use Rattle.lenses.specs.Ready.{Ready};
-ghost use Rattle.link_lenses.specs.Changes.{probe_of, answered, spread, Answerable, Spreadable};
+ghost use Rattle.link_lenses.specs.Changes.{answered, spread, Answerable, Spreadable};
 ghost use Rattle.tables.specs.declared.Chain.{Chain};
 
 use crate::links;
@@ -14,17 +14,6 @@ use lenses::chains;
 use lenses::tested::Tested;
 use steps::{Message, Reply};
 use tables::{Chain, Sizes};
-
-// The probe that goes along a chain.
-// Stays: no From, since neither type is of this crate.
-fn probe(c: Chain) -> Message
-    ensures { result ≡ probe_of c }
-{
-    match c {
-        Chain::Out => Message::Suc,
-        Chain::In => Message::Pre,
-    }
-}
 
 // b sends suc to all successors, or pre to all predecessors: those at the far ends of its chain's arcs.
 pub fn broadcast(area: &mut [i32], row: &[u16], sizes: Sizes, c: Chain, b: usize)
@@ -40,7 +29,7 @@ pub fn broadcast(area: &mut [i32], row: &[u16], sizes: Sizes, c: Chain, b: usize
         let arc = Tested { words: area, sizes }.arc(k);
         let q = chains::far_of(c, arc);
         let at = squares::place(squares::cell_of(row, q));
-        links::push(area, sizes, LinkAt { from: b, to: q, at }, probe(c));
+        links::push(area, sizes, LinkAt { from: b, to: q, at }, Message::from(c));
         k = table_reader::next_of(c, arc);
     }
 }

@@ -20,7 +20,7 @@ use native.Mathlib.Omega.{arith}
 use Rattle.base.specs.Choice.{choose}
 use Rattle.base.specs.ChoiceLaws.{tested}
 use Rattle.base.specs.Checks.{Tested, passed, failed}
-use Rattle.refusals.specs.NumberLaws.{listed_back}
+use Rattle.refusals.specs.Numbers.{number}
 use Rattle.tables.specs.Waits.{neighbours}
 use Rattle.tables.specs.Sound.{Sound}
 use Rattle.tables.specs.Table.{IsProcess}
@@ -28,7 +28,6 @@ use Rattle.tables.specs.WaitsLaws.{neighbours_ends}
 use Rattle.machine.specs.declared.Ran.{Ran}
 use Rattle.machine.specs.declared.Ran.TheVariants.{Spent}
 use Rattle.machine.specs.declared.Halted.{Halted}
-use Rattle.machine.specs.ListedLaws.{deliver_on_listed}
 use Rattle.machine.specs.Machine.{Machine, Rules, over, well_formed, after, accepts}
 use Rattle.machine.specs.Calls.{Answer, given, refusal, Picked, refused, Cut, cut, behind, at_place, delivered, deliver, pick}
 use Rattle.machine.specs.Calls.{Selection, nobody, pair, Chooser, RanOn, not_run, go_on, deliver_on, run_from, run_on, ran_number, ran_made}
@@ -37,7 +36,7 @@ use Rattle.machine.specs.Lists.{Call, picking, running_on, running_shuffled, rep
 use Rattle.machine.specs.Lists.{accepted_pick, answer_number, in_turn, passed_by}
 use Rattle.machine.specs.Made.{Made, none, more, Stopped, went, nothing, no_place, full}
 use Rattle.machine.specs.Made.{Answered, none_refused, was_over, none_waits, no_link, not_over, beyond, no_seed}
-use Rattle.machine.specs.Made.{Finds, AnswerListed, PickMade, RunMade, Sure, PassMade}
+use Rattle.machine.specs.Made.{Finds, PickMade, RunMade, Sure, PassMade}
 use Rattle.machine.proofs.ChooserLaws.{shuffled_order_chooses}
 use Rattle.machine.specs.Among.{Among, Placed, there, not_there}
 use Rattle.machine.specs.AmongLaws.{between_among}
@@ -153,16 +152,15 @@ module _ {P M : Type 0} (ρ : Rules P M) (r : Machine P M) where
 
 -- after a delivery it goes on; a refusal ends it at the run that it refused
 go_on_made :
-    {P M : Type 0} (ρ : Rules P M) (r : Machine P M) (before : ℕ) (p : Picked P M) (rest : Machine P M → RanOn P M) → PickMade ρ r p → AnswerListed p.answer →
+    {P M : Type 0} (ρ : Rules P M) (r : Machine P M) (before : ℕ) (p : Picked P M) (rest : Machine P M → RanOn P M) → PickMade ρ r p →
     ((q : Machine P M) → RunMade ρ q (suc before) (rest q)) → RunMade ρ r before (go_on before p rest)
-go_on_made {P} {M} ρ r before p rest pm named go = at p.answer refl
+go_on_made {P} {M} ρ r before p rest pm go = at p.answer refl
   where
     at : (x : Answer M) → p.answer ≡ x → RunMade ρ r before (go_on before p rest)
-    at (refusal n) e =
+    at (refusal x) e =
         let d : Made ρ r 0 p.run = subst (λ (y : Answer M). Made ρ r (accepted_pick y) p.run) e pm.made in
-        let s : Stopped ρ r n = subst (λ (y : Answer M). Stopped ρ r (answer_number y)) e pm.stopped in
-        let back = listed_back (subst (λ (y : Answer M). AnswerListed y) e named) in
-        rw e (record { k = 0; all = omega arith; made = d; stopped = rw back (subst (λ (q : Machine P M). Stopped ρ q n) (same_run d) s) })
+        let s : Stopped ρ r (number x) = subst (λ (y : Answer M). Stopped ρ r (answer_number y)) e pm.stopped in
+        rw e (record { k = 0; all = omega arith; made = d; stopped = subst (λ (q : Machine P M). Stopped ρ q (number x)) (same_run d) s })
       where
         same_run : {q : Machine P M} → Made ρ r 0 q → r ≡ q
         same_run none = refl
@@ -194,7 +192,7 @@ module _ {P M : Type 0} (ρ : Rules P M) (next : Chooser P M) (finds : Finds nex
       at (passed e) go = rw e (ended_run r before (Ok (Ran.Over before)) refl refl)
       at (failed e) go =
           rw e (go_on_made ρ r before (deliver_on ρ r (next s r).0) (λ q. run_from ρ next k (suc before) (next s r).1 q)
-          (deliver_on_made ρ r (next s r).0 (finds s r)) (deliver_on_listed ρ r (next s r).0) go)
+          (deliver_on_made ρ r (next s r).0 (finds s r)) go)
 
   -- so many deliveries as it says
   from_made : (k s : ℕ) (r : Machine P M) → Made ρ r (ran_made (run_from ρ next k 0 s r).answer) (run_from ρ next k 0 s r).run

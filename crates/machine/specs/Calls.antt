@@ -1,5 +1,5 @@
 -- What picks and running on do and answer (01, "Steps" and "Refused because of the state"; 02, N5, N11 and N13), for any check.
---   Answer M           == the message of a delivery, or the number of its refusal
+--   Answer M           == the message of a delivery, or its refusal
 --   Picked, RanOn      == an answer and the run that the call leaves
 --   Cut M              == a message of a link, and those that stay; or none
 --   behind k ms, at_place k ms   == the message behind k others, and that at place k, "1 for the oldest message" (02, N5)
@@ -21,6 +21,7 @@ use Rattle.std.specs.Prelude.{ℕ, zero, suc, ◌%◌, Bool, true, false, not, L
 use lib.{Dec.eqb, ListN.length}
 use Rattle.base.specs.Choice.{choose}
 use Rattle.shuffling.specs.Shuffle.{moved_on}
+use Rattle.refusals.specs.declared.Refusal.{Refusal}
 use Rattle.refusals.specs.Numbers.{number, numbered}
 use Rattle.tables.specs.Waits.{neighbours}
 use Rattle.machine.specs.declared.Ran.{Ran}
@@ -33,7 +34,7 @@ use Rattle.machine.specs.Machine.{Machine, Rules, over, well_formed, after, acce
 -- "It answers with that message.", or "A refusal returns its number"
 pub data Answer (M : Type 0) : Type 0 where
   given : M → Answer M
-  refusal : ℕ → Answer M
+  refusal : Refusal → Answer M
 
 pub record Picked (P M : Type 0) : Type 0 where
   pub answer : Answer M
@@ -42,7 +43,7 @@ pub record Picked (P M : Type 0) : Type 0 where
 module _ {P M : Type 0} where
   -- "A refusal returns its number .. and changes no lent byte or word"
   abbrev pub refused : ℕ → Machine P M → Picked P M
-  refused n r = record { answer = refusal n; run = r }
+  refused n r = record { answer = refusal (numbered n); run = r }
 
 -- a message of a link, and those that stay there, in their order; or no message
 pub data Cut (M : Type 0) : Type 0 where
@@ -111,7 +112,7 @@ module _ {P M : Type 0} where
 
   -- a refusal ends it and "keeps its deliveries and gives their number"; after a delivery it goes on
   abbrev pub go_on : ℕ → Picked P M → (Machine P M → RanOn P M) → RanOn P M
-  go_on made p rest = elim p.answer [ refusal n ↦ record { answer = halted n made; run = p.run } | given m ↦ rest p.run ]
+  go_on made p rest = elim p.answer [ refusal e ↦ record { answer = Err (record { refusal = e; made = made }); run = p.run } | given m ↦ rest p.run ]
 
 module _ {P M : Type 0} (ρ : Rules P M) where
   -- the delivery of the oldest message on the chosen link: 24 where there is none

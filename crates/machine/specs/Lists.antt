@@ -9,6 +9,7 @@
 --   Waiting ρ w r      == a message waits on some link, and every one that waits is taken by the pick that names its place
 -- Assumes nothing.
 use Rattle.std.specs.Prelude.{ℕ, ◌+◌, ◌≤◌, List, [], ◌∷◌, ◌++◌, ◌≡◌, length}
+use Rattle.refusals.specs.Numbers.{number}
 use Rattle.tables.specs.{Table.IsProcess, Waits.Waits}
 use Rattle.machine.specs.Machine.{Machine, Rules}
 use Rattle.machine.specs.Calls.{Answer, given, refusal, cut, at_place, Chooser, pick, run_on, run_shuffled, ran_number, ran_made}
@@ -47,11 +48,11 @@ module _ {M : Type 0} where
   -- a pick is accepted if it delivers
   abbrev pub accepted_pick : Answer M → ℕ
   accepted_pick (given m) = 1
-  accepted_pick (refusal n) = 0
+  accepted_pick (refusal e) = 0
 
   abbrev pub answer_number : Answer M → ℕ
   answer_number (given m) = 0
-  answer_number (refusal n) = n
+  answer_number (refusal e) = number e
 
 module _ {P M : Type 0} (ρ : Rules P M) (next : Chooser P M) (asked : Reads P M) where
   -- one call; running on begins with the chooser's state 0

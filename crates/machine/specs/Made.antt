@@ -10,6 +10,7 @@
 -- Assumes nothing.
 use Rattle.std.specs.Prelude.{ℕ, suc, ◌+◌, false, true, ◌≡◌}
 use mathlib.Core.List.{List, [], Memᴰ}
+use Rattle.refusals.specs.Numbers.{number}
 use Rattle.refusals.specs.NumberLaws.{Listed}
 use Rattle.tables.specs.Table.{IsProcess}
 use Rattle.tables.specs.Sound.{Sound}
@@ -53,7 +54,7 @@ pub record Chooses {P M : Type 0} (next : Chooser P M) : Type 0 where
 -- an answer's number, where it has one, is that of a refusal
 abbrev pub AnswerListed : {M : Type 0} → Answer M → Type 0
 AnswerListed (given m) = Unit {0}
-AnswerListed (refusal n) = Listed n
+AnswerListed (refusal e) = Listed (number e)
 
 -- what a delivery on a link of r answers, and the run that it leaves
 pub record PickMade {P M : Type 0} (ρ : Rules P M) (r : Machine P M) (p : Picked P M) : Type 0 where

@@ -5,14 +5,15 @@
 --   run_from_next      == one more delivery is made
 -- Assumes nothing.
 use Prim.Native.Nat.{ℕ, zero, suc, ◌+◌, ◌-◌, ◌≤◌, ◌<◌}
-use Rattle.std.specs.Prelude.{true, false, ◌≡◌, Ok}
+use Rattle.std.specs.Prelude.{true, false, ◌≡◌, Ok, Err}
 use Rattle.std.proofs.Math.Path.{ap}
 use Rattle.std.proofs.Common.{◌∙◌}
 use native.Mathlib.Omega.{arith}
+use Rattle.refusals.specs.declared.Refusal.{Refusal}
 use Rattle.machine.specs.declared.Ran.{Ran}
 use Rattle.machine.specs.declared.Ran.TheVariants.{Spent}
 use Rattle.machine.specs.Machine.{Machine, Rules, over}
-use Rattle.machine.specs.Calls.{Answer, given, refusal, Picked, Chooser, RanOn, halted, go_on, deliver_on, run_from}
+use Rattle.machine.specs.Calls.{Answer, given, refusal, Picked, Chooser, RanOn, go_on, deliver_on, run_from}
 
 -- a turn by the answer of its delivery
 module _ {P M : Type 0} (made : ℕ) (p : Picked P M) (rest : Machine P M → RanOn P M) where
@@ -55,9 +56,9 @@ module _ {P M : Type 0} (ρ : Rules P M) (next : Chooser P M) (s : ℕ) (r : Mac
             ap (λ (j : ℕ). run_from ρ next j made s r) left ∙ from_more (k - (made + 1)) made o
 
         pub run_from_refused :
-            (i : ℕ) → (deliver_on ρ r (next s r).0).answer ≡ refusal i →
-            run_from ρ next (k - made) made s r ≡ record { answer = halted i made; run = (deliver_on ρ r (next s r).0).run }
-        run_from_refused i d = turn ∙ go_on_by made (deliver_on ρ r (next s r).0) rest (refusal i) d
+            (e : Refusal) → (deliver_on ρ r (next s r).0).answer ≡ refusal e →
+            run_from ρ next (k - made) made s r ≡ record { answer = Err (record { refusal = e; made = made }); run = (deliver_on ρ r (next s r).0).run }
+        run_from_refused e d = turn ∙ go_on_by made (deliver_on ρ r (next s r).0) rest (refusal e) d
 
         pub run_from_next :
             (m : M) → (deliver_on ρ r (next s r).0).answer ≡ given m →

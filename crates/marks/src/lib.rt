@@ -17,7 +17,7 @@ ghost use Rattle.marks.specs.Changes.{Marked, MarkedAt, Turns, Begins, Held, Poi
 use std::marker::Model;
 
 // What is remembered: a clause sees the numbers, and they always hold some marks.
-#[derive(Drop)]
+#[derive(Clone, Copy)]
 pub struct Memory {
     numbers: [usize; parts::MEMORY_SIZE],
 }
@@ -28,6 +28,8 @@ impl Model for Memory {
     ghost view = { λ m. m.numbers };
 
     ghost invariant = { λ m. Marked m.numbers };
+
+    ghost inverse = { λ l. record { numbers = l } };
 }
 
 // Where to look for the link at a place: a receiver, and how many links to it and to those after it stand before the place.
@@ -74,6 +76,21 @@ fn total(counts: &[usize]) -> usize
 }
 
 impl Memory {
+    // What the numbers say, wherever they were kept.
+    pub fn from_numbers(numbers: [usize; parts::MEMORY_SIZE]) -> Self
+        requires { Marked numbers }
+        ensures { result ≡ numbers }
+    {
+        Memory { numbers }
+    }
+
+    // The numbers, to be kept.
+    pub fn numbers(&self) -> [usize; parts::MEMORY_SIZE]
+        ensures { result ≡ self.now }
+    {
+        self.numbers
+    }
+
     // No link holds a message.
     pub fn new() -> Self
         ensures { Marks (λ a b. false) result }
@@ -107,6 +124,13 @@ impl Memory {
         count_down(&mut self.numbers, b);
         sets::strike(&mut self.numbers, b, a);
         self.numbers[parts::group_at(parts::group_of(b))] -= 1;
+    }
+
+    // No link holds a message any more.
+    pub fn clear(&mut self)
+        ensures { Marks (λ a b. false) self.new }
+    {
+        self.numbers = [0; parts::MEMORY_SIZE];
     }
 
     // How many links to b hold a message.

@@ -17,6 +17,7 @@ use Rattle.steps.specs.declared.Probes.{Probes}
 use Rattle.steps.specs.declared.Probes.TheVariants.{Sucs, Pres}
 use Rattle.steps.specs.declared.Reply.{Reply}
 use Rattle.steps.specs.declared.Process.{Process}
+use Rattle.steps.specs.Step as Step
 use Rattle.steps.specs.Step.{Turn, stepped, start_stepped}
 use Rattle.steps.specs.Effect.{out_needed, in_needed}
 use Rattle.refusals.specs.declared.Refusal.{Refusal}
@@ -47,14 +48,11 @@ probes_by Pres k = joins_in In k
 
 -- the probes that go along a chain
 abbrev pub probes_of : Chain → Probes
-probes_of Out = Sucs
-probes_of In = Pres
+probes_of = Step.probes_of
 
 -- the chain along which probes go
 abbrev pub chain_of : Probes → Option Chain
-chain_of Probes.Nothing = None
-chain_of Sucs = Some Out
-chain_of Pres = Some In
+chain_of = Step.chain_of
 
 abbrev pub reply_goes : Option Reply → ℕ → Bool
 reply_goes None q = false

@@ -10,7 +10,7 @@ ghost use Rattle.areas.specs.Used.{link_slots};
 ghost use Rattle.areas.specs.Area.{fields_in, run_in};
 ghost use Rattle.areas.specs.Squares.{Row};
 ghost use Rattle.preparing.specs.Rooms.{room_to};
-ghost use Rattle.preparing.specs.Receiving.{probes_go, probes_by, probes_of, chain_of, reply_goes};
+ghost use Rattle.preparing.specs.Receiving.{probes_go, probes_by, probes_of, reply_goes};
 
 use areas::squares;
 use lenses::chains;
@@ -104,25 +104,13 @@ fn chain_has_room(
     true
 }
 
-// The chain along which probes go, if any go.
-// Stays: no From, since neither type is of this crate.
-fn chain_of(probes: Probes) -> Option<Chain>
-    ensures { result ≡ chain_of probes }
-{
-    match probes {
-        Probes::Nothing => None,
-        Probes::Sucs => Some(Chain::Out),
-        Probes::Pres => Some(Chain::In),
-    }
-}
-
 // No link on which b sends a probe would hold a fifth message.
 fn probes_have_room(area: Tested, row: &[u16], a: usize, b: usize, sent: Sent) -> bool
     requires row { Row (fields_in area.words.now) b row.now }
     requires is_process { (1 ≤ b) × (b ≤ area.sizes.n) }
     ensures { result ≡ all_to area.entry.sizes.n (λ q. not (probes_go (run_in area.entry.words.now).waits sent.probes b q) || room_to (run_in area.entry.words.now) a b sent.probes sent.reply q) }
 {
-    match chain_of(sent.probes) {
+    match sent.probes.chain() {
         None => true,
         Some(c) => chain_has_room(area, row, c, a, b, sent.reply),
     }

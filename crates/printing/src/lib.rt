@@ -21,6 +21,7 @@ use inputs::Begun;
 use lenses::heading;
 use lenses::tested::Tested;
 use lines::Page;
+use marks::Memory;
 use refusals::Refusal;
 use std::io;
 use std::io::{Read, Write};
@@ -43,7 +44,8 @@ fn put_rest(page: &mut Page, area: &mut [i32], sizes: Sizes)
 {
     let mut square = [0u16; tables::SQUARE_SIZE];
     rows::fill_square(Tested { words: area, sizes }, &mut square);
-    let mut memory = choosing::remember(Tested { words: area, sizes }, &square);
+    let mut memory = Memory::new();
+    choosing::remember(Tested { words: area, sizes }, &square, &mut memory);
     delivery_lines::put_owns(page, area, &square, sizes, &mut memory);
     end_lines::put_end(page, Tested { words: area, sizes });
 }

@@ -11,7 +11,7 @@ use Rattle.std.specs.Prelude.{Bool, false, ◌≡◌, ℤ, pos, drop, get_or, Re
 use Rattle.refusals.specs.declared.Refusal.{Refusal}
 use Rattle.refusals.specs.declared.Refusal.TheVariants.{TableShort, Sizes, TableLength, Ends, ChainField, Chain, ArcTwice, Process, AreaShort, ListOdd, OutputShort, BytesLeft, InputLong}
 use Rattle.refusals.specs.declared.Refusal.TheVariants.{NotWellFormed, OutOfRange, Over, NoMessage, NoLink, NotOver, Edition, Place, Seed}
-use Rattle.refusals.specs.Numbers.{number, numbered}
+use Rattle.refusals.specs.Numbers.{number}
 use Rattle.std.proofs.Math.Bool.{true}
 use mathlib.Core.List.{List, [], ◌∷◌}
 use Rattle.std.proofs.Common.{inl, inr, get_or-drop}
@@ -117,7 +117,7 @@ module _ (bs : List ℕ) where
 -- what an answer may hold: a message between processes with its counts in range, or a number of two digits
 abbrev Fine : ℕ → ℕ → Answer Message → Type 0
 Fine a b (given m) = (a ≤ most_processes) × (b ≤ most_processes) × (count_small m ≡ true)
-Fine a b (refusal n) = n < 100
+Fine a b (refusal e) = number e < 100
 
 module _ {t : Fields} {r : Run} (f : Storable t r) where
   deliver_fine : (a b : ℕ) → a ≤ most_processes → b ≤ most_processes → (ms : List Message) → counts_small ms ≡ true
@@ -149,7 +149,7 @@ module _ {t : Fields} {r : Run} (f : Storable t r) where
     where
       at : (x : Answer Message) → Fine a b x → length (pick_line a b (delivery_of x)) ≤ pick_room
       at (given m) h = omega (arith, delivery_most false a b m h.0 h.1 h.2)
-      at (refusal n) h = refused_pick_most a b (number (numbered n)) l u (named_small (numbered n))
+      at (refusal e) h = refused_pick_most a b (number e) l u h
 
   pub own_short : length (own_line (next_chosen r)) ≤ own_room
   unfolding MachineCalls.deliver_on
@@ -157,7 +157,7 @@ module _ {t : Fields} {r : Run} (f : Storable t r) where
     where
       at : (a b : ℕ) (x : Answer Message) → Fine a b x → length (own_line (chosen_answer (pair a b) (delivery_of x))) ≤ own_room
       at a b (given m) h = omega (arith, delivery_most true a b m h.0 h.1 h.2)
-      at a b (refusal n) h = omega (arith, refused_most (number (numbered n)) (named_small (numbered n)))
+      at a b (refusal e) h = omega (arith, refused_most (number e) h)
 
       on : (c : Selection) → lowest r ≡ c → length (own_line (chosen_answer c (deliver_on r c).answer)) ≤ own_room
       on nobody e = omega (arith, refused_most 24 (omega arith))

@@ -53,7 +53,7 @@ not_spent e = let z : ◌≡◌ {A = ℕ} 0 1 = cc in absurd (omega arith)
 not_refused : {h : Halted} {n : ℕ} → ◌≡◌ {A = Result Ran Halted} (Err h) (Ok (Ran.Over n)) → ⊥
 not_refused e = let z : ◌≡◌ {A = ℕ} 0 1 = cc in absurd (omega arith)
 
-not_given : {i : ℕ} {m : Message} → refusal i ≡ given m → ⊥
+not_given : {e : Refusal} {m : Message} → refusal e ≡ given m → ⊥
 not_given e = let z : ◌≡◌ {A = ℕ} 0 1 = cc in absurd (omega arith)
 
 -- the lines, if running on answers so

@@ -1,5 +1,5 @@
-// The refusals of 01 and 02, each by a name, with the number that 01 lists for it. The names are those of include/pickledune.h. It stands on no
-// other crate.
+// The refusals of 01 and 02, each by a name, with the number that 01 lists for it. The names are those of include/pickledune.h. It stands on
+// `base`.
 #![tactic(auto)]
 
 ghost use Rattle.std.specs.Prelude.{◌≡◌};

@@ -22,16 +22,16 @@ fn look(area: Tested, square: &[u16; tables::SQUARE_SIZE], a: usize, b: usize, m
     }
 }
 
-// All links: each stands with an arc.
-pub fn fill(area: Tested, square: &[u16; tables::SQUARE_SIZE]) -> Memory
+// All links, whatever was remembered before: each stands with an arc. It is filled where the caller holds it: handed back by value, it takes as much of
+// the stack again at each call.
+pub fn fill(area: Tested, square: &[u16; tables::SQUARE_SIZE], memory: &mut Memory)
     requires { Square (fields_in area.words.now) square.now }
-    ensures { Remembers (run_in area.entry.words.now) result }
+    ensures { Remembers (run_in area.entry.words.now) memory.new }
 {
-    let mut memory = Memory::new();
+    memory.clear();
     for k in 1..=area.sizes.m {
         let arc = area.arc(k);
-        look(area, square, arc.from, arc.to, &mut memory);
-        look(area, square, arc.to, arc.from, &mut memory);
+        look(area, square, arc.from, arc.to, memory);
+        look(area, square, arc.to, arc.from, memory);
     }
-    memory
 }

@@ -72,7 +72,7 @@ module _ (next : Chooser Process Message) (seed : ℕ) where
           turn_refused p =
               let r = run_in area in
               let o = delivery_of_refused (deliver_on knot r (picks s r)).answer p in
-              rw (sym o.name) (ended k (t.rest ∙ run_from_refused knot next s r k made (sym e ∙ f) u o.k o.refuses) next_holds)
+              ended k (t.rest ∙ run_from_refused knot next s r k made (sym e ∙ f) u _ o) next_holds
 
           pub turn_next : {z : Message} → (on (picks s) (run_in area)).answer ≡ Ok z → Turn w k v (made + 1) (next s (run_in area)).1
           turn_next {z} p =

@@ -55,7 +55,8 @@ pub fn run_in(area: &mut [i32], sizes: Sizes, k: u32, seed: u32) -> Result<Ran, 
 {
     let mut square = [0u16; tables::SQUARE_SIZE];
     rows::fill_square(Tested { words: area, sizes }, &mut square);
-    let mut memory = choosing::remember(Tested { words: area, sizes }, &square);
+    let mut memory = Memory::new();
+    choosing::remember(Tested { words: area, sizes }, &square, &mut memory);
     drive(area, &square, sizes, k, seed, &mut memory)
 }
 

@@ -5,7 +5,7 @@
 ghost use Rattle.std.specs.Prelude.{◌≡◌, ◌≤◌, ◌<◌, length, take, IfOk, OnOk, IfSome, IsTrue, IsFalse, true, false};
 ghost use Rattle.std.specs.Fmt.{decimal};
 ghost use Rattle.std.specs.Io.KnownBytes.{Appends, Consumes, IsAtEnd};
-ghost use Rattle.streams.specs.Cases.{word_at};
+ghost use Rattle.streams.specs.Cases.{word_at, StepsTaken};
 
 use std::io;
 use std::io::{Read, Write};
@@ -31,7 +31,15 @@ pub fn read_full<R: Read>(from: &mut R, bytes: &mut [u8]) -> io::Result<usize>
     ensures taken { IfOk result (λ n. Consumes (R.remaining from.old) (R.remaining from.new) (take n bytes.new)) }
     ensures ended { IfOk result (λ n. n < length bytes.new → IsAtEnd (R.remaining from.new)) }
 {
-    reading::read_input(from, bytes).map_err(|failed| failed.error)
+    let mut done = 0;
+    while done < bytes.len() {
+        let got = from.read(&mut bytes[done..])?;
+        if got == 0 {
+            return Ok(done);
+        }
+        done += got;
+    }
+    Ok(done)
 }
 
 // Whether so many bytes that were read fill a case or its rest. If not, the input ends early, and a last line says so.
@@ -79,10 +87,11 @@ pub fn next_case<R: Read, W: Write>(from: &mut R, to: &mut W, case: &mut [u8]) -
 // last number, which no run comes to.
 pub fn each_case<F: FnMut(u64) -> io::Result<bool>>(mut step: F) -> io::Result<()>
     requires { F.IsAlwaysCallable step }
+    ensures { StepsTaken (λ f k x g. F.step f k x g) step 1 result }
 {
-    for k in 1..=u64::MAX {
+    'steps: for k in 1..=u64::MAX {
         if !step(k)? {
-            break;
+            break 'steps;
         }
     }
     Ok(())

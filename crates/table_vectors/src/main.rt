@@ -173,6 +173,23 @@ fn run_case<W: Write>(to: &mut W, kind: u8, s: &[u8]) -> io::Result<()> {
     }
 }
 
+// A case of so many bytes; gives whether it was whole. The bytes stand in a function of their own: behind a return of the same function they would be
+// cleared twice.
+fn read_case<R: Read, W: Write>(
+    from: &mut R,
+    to: &mut W,
+    kind: u8,
+    length: u16,
+) -> io::Result<bool> {
+    let mut bytes = [0u8; 65536];
+    let case = &mut bytes[..usize::from(length)];
+    if !streams::rest_of_case(from, to, case)? {
+        return Ok(false);
+    }
+    run_case(to, kind, case)?;
+    Ok(true)
+}
+
 // One case; gives whether to go on.
 fn next_case<R: Read, W: Write>(from: &mut R, to: &mut W) -> io::Result<bool> {
     let mut heading = [0u8; 3];
@@ -180,13 +197,7 @@ fn next_case<R: Read, W: Write>(from: &mut R, to: &mut W) -> io::Result<bool> {
         return Ok(false);
     }
     let [kind, low, high] = heading;
-    let mut bytes = [0u8; 65536];
-    let case = &mut bytes[..usize::from(u16::from_le_bytes([low, high]))];
-    if !streams::rest_of_case(from, to, case)? {
-        return Ok(false);
-    }
-    run_case(to, kind, case)?;
-    Ok(true)
+    read_case(from, to, kind, u16::from_le_bytes([low, high]))
 }
 
 fn main(rt: HostRuntime) -> io::Result<()> {

@@ -24,8 +24,8 @@ fn name_of(chain: Chain) -> &'static str {
 
 fn print_next<W: Write>(to: &mut W, next: Option<usize>) -> io::Result<()> {
     match next {
-        Some(k) => write!(to, "{k}"),
-        None => write!(to, "end"),
+        Some(k) => streams::print_number(to, k as u64),
+        None => streams::print(to, b"end"),
     }
 }
 
@@ -60,8 +60,9 @@ fn print_way<W: Write>(to: &mut W, s: &[u8], chain: Chain, p: usize) -> io::Resu
 // A line for the walk along a chain of p, from its opening, with its number if it was refused, to the end.
 fn print_walk<W: Write>(to: &mut W, s: &[u8], chain: Chain, p: usize) -> io::Result<()> {
     write!(to, "{} {p}:", name_of(chain))?;
-    if let Some(refusal) = walks::stand_after(s, chain, p, 0).refusal {
-        write!(to, " refused {}", u32::from(refusal))?;
+    let number = walks::stand_after(s, chain, p, 0).number;
+    if number != 0 {
+        write!(to, " refused {number}")?;
     }
     print_way(to, s, chain, p)?;
     writeln!(to)

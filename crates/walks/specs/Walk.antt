@@ -1,12 +1,11 @@
 -- A walk along one chain (01, "Wait table"), on any bytes. A walk (the struct `Walk`) holds the table, the chain, the arc that it stands
--- at, 0 if at none, and the refusal of its opening, if it was refused.
---   refusal_of a, refusal_number r   == the refusal of an answer, if it is one; its number, 0 if it is none
---   walk_number w      == 01's number for the refusal of its opening, 0 if it was accepted
+-- at, 0 if at none, and the number of its opening's refusal, 0 if it was accepted.
+--   walk_number w      == that number
 --   opened_walk table c p   == the walk that opening leaves, along chain c of process p
 --   gives w           == what a step of w gives: the next arc, or the end
 --   stepped_walk w     == w after a step
 --   steps_on i w       == w after i steps
---   stood_after i w    == what is seen of w after i steps: the refusal of its opening, the arc that it stands at, what the next step gives, and
+--   stood_after i w    == what is seen of w after i steps: the number of its opening, the arc that it stands at, what the next step gives, and
 --                        the arc that it stands at then
 --   before k ks       == arc k before others, none if it is 0
 --   arcs_met f w       == the arcs that w stands at, from where it is until it stands at none; at most f of them
@@ -14,30 +13,20 @@
 -- opened_of, next_of and Follows are of the crate tables (Walking and Chains), which says what an opening and a step answer on any bytes,
 -- and what a chain is as a list.
 -- Assumes nothing.
-use Rattle.std.specs.Prelude.{ℕ, zero, suc, ◌≤◌, ◌<◌, List, [], ◌∷◌, Option, Some, None, Result, Ok, Err, ◌≡◌, length, get_or}
+use Rattle.std.specs.Prelude.{ℕ, zero, suc, ◌≤◌, ◌<◌, List, [], ◌∷◌, Option, Some, None, ◌≡◌, length, get_or}
 use Rattle.std.specs.Borrow.{Bor}
 use Rattle.base.specs.Counts.{occ}
-use Rattle.refusals.specs.declared.Refusal.{Refusal}
-use Rattle.refusals.specs.Numbers.{number}
 use Rattle.tables.specs.declared.Chain.{Chain}
 use Rattle.tables.specs.Table.{field_of, first, arc_at, near}
 use Rattle.tables.specs.Layout.{IsArc}
-use Rattle.tables.specs.Walking.{opened_of, opened_arc, next_of, next_arc}
+use Rattle.tables.specs.Walking.{opened_of, opened_number, opened_arc, next_of, next_arc}
 use Rattle.tables.specs.Chains.{Follows}
 use Rattle.walks.specs.declared.Walk.{Walk}
 use Rattle.walks.specs.declared.Stood.{Stood}
 
-abbrev pub refusal_of : Result ℕ Refusal → Option Refusal
-refusal_of (Ok k) = None
-refusal_of (Err e) = Some e
-
 -- "A refusal returns its number"
-abbrev pub refusal_number : Option Refusal → ℕ
-refusal_number None = 0
-refusal_number (Some e) = number e
-
 abbrev pub walk_number : Walk → ℕ
-walk_number w = refusal_number w.refusal
+walk_number w = w.number
 
 -- "Opening it names a process and its out- or in-chain, .. and stands at the chain's first arc, or 0 if it has none": one that was refused
 -- stands at 0 too
@@ -47,7 +36,7 @@ opened_walk table c p =
       table = table;
       chain = c;
       arc = opened_arc (opened_of table.now c p);
-      refusal = refusal_of (opened_of table.now c p);
+      number = opened_number (opened_of table.now c p);
     }
 
 -- "A step gives the next arc or the end"
@@ -56,7 +45,7 @@ gives w = next_of w.table.now w.chain w.arc
 
 -- "Steps keep to the chain named": only the arc is another, 0 at the end
 abbrev pub stepped_walk : Walk → Walk
-stepped_walk w = record { table = w.table; chain = w.chain; arc = next_arc (gives w); refusal = w.refusal }
+stepped_walk w = record { table = w.table; chain = w.chain; arc = next_arc (gives w); number = w.number }
 
 unfoldable pub steps_on : ℕ → Walk → Walk
 steps_on zero w = w
@@ -65,7 +54,7 @@ steps_on (suc i) w = steps_on i (stepped_walk w)
 abbrev pub stood_after : ℕ → Walk → Stood
 stood_after i w =
     record {
-      refusal = w.refusal;
+      number = w.number;
       arc = (steps_on i w).arc;
       next = gives (steps_on i w);
       then = (stepped_walk (steps_on i w)).arc;

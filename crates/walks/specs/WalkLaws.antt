@@ -4,7 +4,7 @@
 --   opened_P        == an opening is accepted exactly if the bytes meet the layout and p is a process of the table
 --   refused_stands  == a walk whose opening was refused stands at 0
 --   steps_on_next    == one step more is a step of the walk that the others left
---   keeps           == "Steps keep to the chain named", and to the table and the refusal
+--   keeps           == "Steps keep to the chain named", and to the table and the number
 --   gives_zero, gives_over, gives_past   == "from an arc number that is 0, over M or past the lent bytes it gives the end", on any bytes
 -- Assumes nothing.
 use Prim.Native.Nat.{ℕ, zero, suc, ◌≤◌, ◌<◌}
@@ -34,7 +34,7 @@ use Rattle.tables.specs.Chains.{Follows, stop, go, steps, along, met, Listed}
 use Rattle.tables.specs.ChainLaws.{place_steps, follows_along, follows_steps}
 use Rattle.tables.specs.MetLaws.{met_listed}
 use Rattle.walks.specs.declared.Walk.{Walk}
-use Rattle.walks.specs.Walk.{refusal_of, refusal_number, walk_number, opened_walk, gives, stepped_walk, steps_on, arcs_met, WholeWalk}
+use Rattle.walks.specs.Walk.{walk_number, opened_walk, gives, stepped_walk, steps_on, arcs_met, WholeWalk}
 
 -- ---- a step, on any bytes
 
@@ -78,7 +78,7 @@ gives_over w h = outside w.table.now w.chain w.arc (λ i. omega arith)
 pub gives_past : (w : Walk) → length w.table.now < table_length (n_of (field_of w.table.now)) w.arc → gives w ≡ None
 gives_past w h = outside w.table.now w.chain w.arc (λ i. omega arith)
 
-pub keeps : (i : ℕ) (w : Walk) → ((steps_on i w).table ≡ w.table) × ((steps_on i w).chain ≡ w.chain) × ((steps_on i w).refusal ≡ w.refusal)
+pub keeps : (i : ℕ) (w : Walk) → ((steps_on i w).table ≡ w.table) × ((steps_on i w).chain ≡ w.chain) × ((steps_on i w).number ≡ w.number)
 unfolding steps_on
 keeps zero w = (refl, refl, refl)
 keeps (suc i) w = keeps i (stepped_walk w)
@@ -101,13 +101,6 @@ opening_number : (bs : List ℕ) (c : Chain) (p : ℕ) → number_of (opened_of 
 unfolding opened_of
 opening_number bs c p = open_answer_number (open_number bs p) (first c (field_of bs) p) (omega (arith, open_number_low bs p))
 
-answered_number : (a : Result ℕ Refusal) → refusal_number (refusal_of a) ≡ number_of a
-answered_number (Ok k) = refl
-answered_number (Err e) = refl
-
-opened_number : (bs : List ℕ) (c : Chain) (p : ℕ) → refusal_number (refusal_of (opened_of bs c p)) ≡ open_number bs p
-opened_number bs c p = answered_number (opened_of bs c p) ∙ opening_number bs c p
-
 -- checks 1 to 8 find nothing
 record Accepts (bs : List ℕ) (p : ℕ) : Type 0 where
   read : read_number bs ≡ 0
@@ -128,7 +121,7 @@ opened_first bs c p good q = rw ((accepted_P bs).1 good, (is_process_P (n_of (fi
 
 opened_P : (table : Bor (List ℕ)) (c : Chain) (p : ℕ)
     → (walk_number (opened_walk table c p) ≡ 0) ↔ (MeetsLayout table.now × IsProcess (n_of (field_of table.now)) p)
-opened_P table c p = (λ e. met (accepts bs p (sym (opened_number bs c p) ∙ e)), λ g. ap (λ (o : Result ℕ Refusal). refusal_number (refusal_of o)) (opened_first bs c p g.0 g.1))
+opened_P table c p = (λ e. met (accepts bs p (sym (opening_number bs c p) ∙ e)), λ g. ap number_of (opened_first bs c p g.0 g.1))
   where
     bs : List ℕ
     bs = table.now
@@ -139,7 +132,7 @@ opened_P table c p = (λ e. met (accepts bs p (sym (opened_number bs c p) ∙ e)
 pub refused_stands : (table : Bor (List ℕ)) (c : Chain) (p : ℕ) → (walk_number (opened_walk table c p) ≡ 0 → ⊥) → (opened_walk table c p).arc ≡ 0
 unfolding opened_of
 refused_stands table c p h =
-    open_answer_stands (open_number table.now p) (first c (field_of table.now) p) (λ e. h (answered_number (opened_of table.now c p) ∙ e))
+    open_answer_stands (open_number table.now p) (first c (field_of table.now) p) h
 
 -- ---- the walk on a table that meets the layout
 
@@ -218,16 +211,16 @@ module _ (table : Bor (List ℕ)) (good : MeetsLayout table.now) (c : Chain) whe
   t = field_of table.now
 
   -- a walk along the chain, at arc k
-  abbrev at : Option Refusal → ℕ → Walk
-  at n k = record { table = table; chain = c; arc = k; refusal = n }
+  abbrev at : ℕ → ℕ → Walk
+  at n k = record { table = table; chain = c; arc = k; number = n }
 
-  steps_on_steps : (i : ℕ) (n : Option Refusal) (k : ℕ) → k ≤ m_of t → steps_on i (at n k) ≡ at n (steps c t k i)
+  steps_on_steps : (i n k : ℕ) → k ≤ m_of t → steps_on i (at n k) ≡ at n (steps c t k i)
   unfolding steps_on steps
   steps_on_steps zero n k high = refl
   steps_on_steps (suc i) n k high =
       ap (λ (j : ℕ). steps_on i (at n j)) (leads table.now good c k high) ∙ steps_on_steps i n (follow c t k) (follow_inside table.now good c k high)
 
-  arcs_met_along : (f : ℕ) (n : Option Refusal) (k : ℕ) → k ≤ m_of t → arcs_met f (at n k) ≡ along c t f k
+  arcs_met_along : (f n k : ℕ) → k ≤ m_of t → arcs_met f (at n k) ≡ along c t f k
   unfolding arcs_met along follow
   arcs_met_along zero n k high = refl
   arcs_met_along (suc f) n zero high = refl
@@ -237,19 +230,19 @@ module _ (table : Bor (List ℕ)) (good : MeetsLayout table.now) (c : Chain) whe
       ∙ arcs_met_along f n (next c (arc_at t (suc k))) (follow_inside table.now good c (suc k) high))
 
   module _ (p : ℕ) (own : IsProcess (n_of t) p) where
-    opened_at : opened_walk table c p ≡ at None (first c t p)
-    opened_at = ap (λ (o : Result ℕ Refusal). at (refusal_of o) (opened_arc o)) (opened_first table.now c p good own)
+    opened_at : opened_walk table c p ≡ at 0 (first c t p)
+    opened_at = ap (λ (o : Result ℕ Refusal). at (number_of o) (opened_arc o)) (opened_first table.now c p good own)
 
     mine : Listed c t p (met c t p)
     mine = met_listed t good.right c p own
 
     arcs_met_met : (f : ℕ) → m_of t ≤ f → arcs_met f (opened_walk table c p) ≡ met c t p
     arcs_met_met f enough =
-        ap (arcs_met f) opened_at ∙ arcs_met_along f None (first c t p) (good.right.firsts c p own) ∙ follows_along f mine.follows (omega (arith, mine.short))
+        ap (arcs_met f) opened_at ∙ arcs_met_along f 0 (first c t p) (good.right.firsts c p own) ∙ follows_along f mine.follows (omega (arith, mine.short))
 
     -- after i steps it stands at the chain's place i
-    at_place : (i : ℕ) → steps_on i (opened_walk table c p) ≡ at None (place c t p i)
-    at_place i = ap (steps_on i) opened_at ∙ steps_on_steps i None (first c t p) (good.right.firsts c p own) ∙ ap (at None) (sym (place_steps c t p i))
+    at_place : (i : ℕ) → steps_on i (opened_walk table c p) ≡ at 0 (place c t p i)
+    at_place i = ap (steps_on i) opened_at ∙ steps_on_steps i 0 (first c t p) (good.right.firsts c p own) ∙ ap (at 0) (sym (place_steps c t p i))
 
     gives_place : (i : ℕ) → gives (steps_on i (opened_walk table c p)) ≡ next_answer (place c t p (suc i))
     gives_place i = ap gives (at_place i) ∙ next_place table.now good c p own i

@@ -6,23 +6,23 @@ ghost use Rattle.std.specs.Prelude.{◌≡◌};
 ghost use Rattle.tables.specs.Walking.{next_of};
 ghost use Rattle.walks.specs.Walk.{opened_walk, gives, stepped_walk, stood_after};
 
-use refusals::Refusal;
 use tables::Chain;
 
-// The table, the chain that is followed, the arc that the walk stands at, 0 if at none, and why its opening was refused, if it was.
+// The table, the chain that is followed, the arc that the walk stands at, 0 if at none, and the number of the opening's refusal, 0 if it was accepted.
+// Stays: a number for the refusal, here and in `Stood`: what may not change needs it, `step` and `next_arc` take a walk with any number.
 #[derive(Clone, Copy)]
 pub struct Walk<'a> {
     pub table: &'a [u8],
     pub chain: Chain,
     pub arc: usize,
-    pub refusal: Option<Refusal>,
+    pub number: u32,
 }
 
-// What is seen of a walk after some steps: the refusal of its opening, the arc that it stands at, what the next step gives, and the arc that
+// What is seen of a walk after some steps: the number of its opening, the arc that it stands at, what the next step gives, and the arc that
 // it stands at then.
 #[derive(Clone, Copy, PartialEq, Eq)]
 pub struct Stood {
-    pub refusal: Option<Refusal>,
+    pub number: u32,
     pub arc: usize,
     pub next: Option<usize>,
     pub then: usize,
@@ -38,7 +38,7 @@ pub fn open_walk<'a>(table: &'a [u8], chain: Chain, p: usize) -> Walk<'a>
         table,
         chain,
         arc: opened.unwrap_or(0),
-        refusal: opened.err(),
+        number: refusals::number_of(&opened),
     }
 }
 
@@ -62,7 +62,12 @@ pub fn step<'s, 'a>(w: &'s mut Walk<'a>) -> Option<usize>
 pub fn next_from(table: &[u8], chain: Chain, arc: usize) -> Option<usize>
     ensures { result ≡ next_of table.now chain arc }
 {
-    table_reader::next(table, chain, arc)
+    next_arc(Walk {
+        table,
+        chain,
+        arc,
+        number: 0,
+    })
 }
 
 // A whole walk for callers that hold none: it is opened, makes that many steps, and one more. A step past the end stays at 0.
@@ -76,7 +81,7 @@ pub fn stand_after(table: &[u8], chain: Chain, p: usize, steps: u16) -> Stood
     let arc = w.arc;
     let next = step(&mut w);
     Stood {
-        refusal: w.refusal,
+        number: w.number,
         arc,
         next,
         then: w.arc,

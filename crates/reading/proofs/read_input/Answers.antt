@@ -1,25 +1,29 @@
--- What a turn reads follows what was read before it.
-use Rattle.std.proofs.Common.{◌≡◌, ℕ, ◌+◌, ◌-◌, ◌≤◌, List, ◌++◌, length, take, ap, append_assoc, arith, rules, subst, ◌∙◌, Option, None, Some}
-use Rattle.std.proofs.Math.Seq.{take-append-add}
-use Rattle.std.proofs.lemmas.List.{length-take-le, take-append-le}
-use borrow.Rule.Slice.PartMut.{put_mid, post_of}
+-- What a turn reads follows what was read before it, and what stands behind it stays.
+use Rattle.std.proofs.Common.{◌≡◌, ℕ, ◌+◌, ◌≤◌, List, ◌++◌, length, take, drop, ap, append_assoc, length-append, length-drop, arith, rules, sym, ◌∙◌, Option, None, Some}
+use Rattle.std.proofs.Math.Seq.{take_at, drop_at, drop-drop}
 use Rattle.std.specs.Io.KnownBytes.{Consumes}
 use Rattle.reading.proofs.read_input.Goals as goal
 
-front : (d k n : ℕ) (xs p : List ℕ) → d ≤ length xs → n ≤ length p → take (d + n) (put_mid d k xs p) ≡ take d xs ++ take n p
-front d k n xs p h i =
-    let e : length (take d xs) ≡ d = length-take-le d xs h in
-    subst (λ (j : ℕ). take (j + n) (take d xs ++ (p ++ post_of d k xs)) ≡ take d xs ++ take n p) e
-    (take-append-add (take d xs) (p ++ post_of d k xs) n ∙ ap (λ (l : List ℕ). take d xs ++ l) (take-append-le n p (post_of d k xs) i))
+-- after a read of n bytes behind the first d: what is at the front, and what is behind it
+after : (d n : ℕ) (old new p first : List ℕ) → d + n ≤ length old → length new ≡ length old → new ≡ take d old ++ take n p ++ drop (d + n) old
+    → drop d old ≡ drop d first → (take (d + n) new ≡ take d old ++ take n p) × (drop (d + n) new ≡ drop (d + n) first)
+after d n old new p first h l put same =
+    let front = take d old ++ take n p in
+    let rest = drop (d + n) old in
+    let long : length front ≡ d + n = omega (arith, ap length put, length-append front rest, length-drop (d + n) old) in (
+      ap (take (d + n)) put ∙ take_at front rest (d + n) long,
+      ap (drop (d + n)) put ∙ drop_at front rest (d + n) long ∙ sym (drop-drop n d old) ∙ ap (drop n) same ∙ drop-drop n d first,
+    )
 
-joined : (a b c : Option (List ℕ)) (xs ys : List ℕ) → Consumes a b xs → Consumes b c ys → Consumes a c (xs ++ ys)
-joined None b c xs ys p q = search rules
-joined (Some a) None c xs ys p q = absurd p
-joined (Some a) (Some b) None xs ys p q = absurd q
-joined (Some a) (Some b) (Some c) xs ys p q = rw (p, q) (grind (arith, append_assoc))
+joined : (a b c : Option (List ℕ)) (xs ys bs : List ℕ) → bs ≡ xs ++ ys → Consumes a b xs → Consumes b c ys → Consumes a c bs
+joined None b c xs ys bs e p q = search rules
+joined (Some a) None c xs ys bs e p q = absurd p
+joined (Some a) (Some b) None xs ys bs e p q = absurd q
+joined (Some a) (Some b) (Some c) xs ys bs e p q = rw (p, q, e) (grind (arith, append_assoc))
 
 pub loop-done-preserved : goal.loop-done-preserved
 loop-done-preserved g c =
     let l = c.loop-done in
-    let e = front l.done (length l.input - l.done) c.in-Ok.more l.input c.read.new.buf l.invariant.0 c.in-Ok.ensures.bound.0 in
-    (search rules, rw e (joined _ _ _ _ _ l.invariant.1 c.in-Ok.ensures.bytes.0))
+    let ok = c.in-Ok in
+    let held = after l.done ok.more l.input c.read_piece.new.input c.read_piece.new.piece c.args.input.now ok.ensures.bound c.read_piece.auto.input ok.ensures.put l.invariant.3 in
+    (search rules, search rules, joined _ _ _ _ _ _ held.0 l.invariant.2 ok.ensures.taken, held.1)

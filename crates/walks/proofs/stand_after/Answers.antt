@@ -12,7 +12,7 @@ turned i first here there e f = f ∙ ap stepped_walk e ∙ sym (rw add-one (ste
 
 -- what is seen of the walk after the last turn
 seen : (i : ℕ) (first here there : Walk) (next : Option ℕ) → here ≡ steps_on i first → next ≡ gives here → there ≡ stepped_walk here
-    → ◌≡◌ {A = Stood} (record { refusal = there.refusal; arc = here.arc; next = next; then = there.arc }) (stood_after i first)
+    → ◌≡◌ {A = Stood} (record { number = there.number; arc = here.arc; next = next; then = there.arc }) (stood_after i first)
 seen i first here there next e f g = rw (f, g, e, (keeps i first).2) refl
 
 pub loop-init : goal.loop-init

@@ -27,7 +27,7 @@ push-requires c =
     let arc_is = sending_arc c.requires.ready c.args.c c.args.b c.requires.is_process c.requires.spreadable c.loop-k.invariant c.loop-k-test.true c.arc-arc.ensures in
     let to_is = far_is c.args.c (fields_in c.args.area.now) c.loop-k.k arc_is c.far_of-q.ensures in
     let l = c.loop-k in
-    let room = sending_room c.requires.ready c.args.c c.args.b c.requires.is_process c.requires.spreadable l.invariant c.loop-k-test.true c.probe.ensures to_is in
+    let room = sending_room c.requires.ready c.args.c c.args.b c.requires.is_process c.requires.spreadable l.invariant c.loop-k-test.true c.from.ensures to_is in
     record {
       ready = holding_ready c.requires.ready l.invariant.holds;
       linked = sending_link c.requires.ready c.args.c c.args.b c.requires.is_process c.requires.spreadable l.invariant c.loop-k-test.true c.requires.row to_is c.cell_of.ensures.is c.place-at.ensures;
@@ -46,7 +46,7 @@ loop-k-preserved c =
     let arc_is = sending_arc c.requires.ready c.args.c c.args.b c.requires.is_process c.requires.spreadable c.loop-k.invariant c.loop-k-test.true c.arc-arc.ensures in
     let to_is = far_is c.args.c (fields_in c.args.area.now) c.loop-k.k arc_is c.far_of-q.ensures in
     let next_arc = next_is c.args.c (fields_in c.args.area.now) c.loop-k.k arc_is c.next_of-k.ensures in
-    sending_on c.requires.ready c.args.c c.args.b c.requires.is_process c.requires.spreadable c.loop-k.invariant c.loop-k-test.true c.probe.ensures
+    sending_on c.requires.ready c.args.c c.args.b c.requires.is_process c.requires.spreadable c.loop-k.invariant c.loop-k-test.true c.from.ensures
     to_is c.push.ensures next_arc
 
 pub returns : goal.returns
