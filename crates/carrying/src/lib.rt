@@ -1,4 +1,5 @@
-// A delivery carried out: the changes that a step makes in a tested run area, one after another. The crate `delivery` makes its tests before.
+// A delivery carried out: the changes that a step makes in a tested run area, one after another. The crate `delivery` makes its tests before. It is inline
+// for the reason that stands at `delivering::deliver_and_tell` there.
 #![tactic(auto)]
 
 ghost use Rattle.std.specs.Prelude.{◌≡◌, ◌+◌, ◌≤◌};
@@ -18,6 +19,7 @@ use steps::{Probes, Turn};
 use tables::{Chain, Sizes};
 
 // b sends the probes of its step, if there are any.
+#[inline(always)]
 fn send(area: &mut [i32], row: &[u16], sizes: Sizes, b: usize, probes: Probes)
     requires ready { Ready area.old sizes }
     requires is_process { (1 ≤ b) × (b ≤ sizes.n) }
@@ -33,6 +35,7 @@ fn send(area: &mut [i32], row: &[u16], sizes: Sizes, b: usize, probes: Probes)
 }
 
 // The receiver's step has been taken: the message comes off its link, the record changes, and the step's messages go out.
+#[inline(always)]
 pub fn carry_out(
     area: &mut [i32],
     row: &[u16],

@@ -30,6 +30,7 @@ pub struct Delivered {
 }
 
 // The delivery of a message from a to b, which are neighbours, before anything is changed: 22, or what the receiver's step leaves and sends.
+#[inline(always)]
 fn prepare_message(
     area: Tested,
     row: &[u16],
@@ -55,6 +56,7 @@ fn prepare_message(
 
 // The delivery of the message at a place of a link, before anything is changed: 24 if nothing waits there, then 31 if no message is at that
 // place, then 22, and else what the receiver's step leaves and sends.
+#[inline(always)]
 fn prepare(area: Tested, row: &[u16], link: LinkAt, place: usize) -> Result<Prepared, Refusal>
     requires row { Row (fields_in area.words.now) link.to row.now }
     requires linked { Linked (fields_in area.words.now) link.from link.to link.at }
@@ -65,7 +67,9 @@ fn prepare(area: Tested, row: &[u16], link: LinkAt, place: usize) -> Result<Prep
     prepare_message(area, row, link.from, link.to, message)
 }
 
-// Delivers the message at a place of a link, and tells what the step sent: 24 if nothing waits there, then 31, 22.
+// Delivers the message at a place of a link, and tells what the step sent: 24 if nothing waits there, then 31, 22. It has two callers, and stands inline in
+// both, with all that it goes through down to the leaves: else the compiler puts it into neither, and what was sent goes through memory at every delivery.
+#[inline(always)]
 pub fn deliver_and_tell(
     area: &mut [i32],
     row: &[u16],

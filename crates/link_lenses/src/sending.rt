@@ -1,4 +1,5 @@
-// What a process sends in a tested area: the probes of a broadcast, or an acknowledgement, on the links that its row names.
+// What a process sends in a tested area: the probes of a broadcast, or an acknowledgement, on the links that its row names. It is inline for the reason that
+// stands at `delivering::deliver_and_tell` (delivery).
 ghost use Rattle.std.specs.Prelude.{◌≡◌, true, ◌≤◌};
 ghost use Rattle.steps.specs.Step.{reply_fits};
 ghost use Rattle.areas.specs.Area.{fields_in, run_in, keeping};
@@ -16,6 +17,7 @@ use steps::{Message, Reply};
 use tables::{Chain, Sizes};
 
 // b sends suc to all successors, or pre to all predecessors: those at the far ends of its chain's arcs.
+#[inline(always)]
 pub fn broadcast(area: &mut [i32], row: &[u16], sizes: Sizes, c: Chain, b: usize)
     requires ready { Ready area.old sizes }
     requires is_process { (1 ≤ b) × (b ≤ sizes.n) }
@@ -35,6 +37,7 @@ pub fn broadcast(area: &mut [i32], row: &[u16], sizes: Sizes, c: Chain, b: usize
 }
 
 // b sends the acknowledgement of its step, if there is one.
+#[inline(always)]
 pub fn acknowledge(area: &mut [i32], row: &[u16], sizes: Sizes, b: usize, reply: Option<Reply>)
     requires ready { Ready area.old sizes }
     requires is_process { (1 ≤ b) × (b ≤ sizes.n) }

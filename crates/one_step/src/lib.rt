@@ -49,6 +49,7 @@ fn is_reply_fitting(reply: Option<Reply>) -> bool
 }
 
 // The step of a process other than the start, where no value can leave 32 bits.
+#[inline(always)]
 fn take_turn(
     process: Process,
     message: Message,
@@ -76,6 +77,7 @@ fn take_turn(
 // "s receives a probe: it acknowledges with 0", with 0 as second count too, since s passes nothing on; "s receives acknowledgement c: cs gains c,
 // num loses 1"
 #[tactic(auto, unfolding(steps::specs::Step::start_turn))]
+#[inline(always)]
 fn take_start_turn(process: Process, message: Message, sender: u32) -> Turn
     requires process_fits { in_range process ≡ true }
     requires counts_fit { count_small message ≡ true }
@@ -99,6 +101,7 @@ fn take_start_turn(process: Process, message: Message, sender: u32) -> Turn
 
 // The answer to a step whose num suffices: 22 if it leaves a value out of range or acknowledges to father 0.
 #[tactic(auto, unfolding(crate::specs::Within::settled))]
+#[inline(always)]
 fn settled(turn: Turn) -> Result<Turn, Refusal>
     ensures { result ≡ settled turn }
 {
@@ -110,7 +113,7 @@ fn settled(turn: Turn) -> Result<Turn, Refusal>
 }
 
 // The step of a process other than the start, in a run whose records and counts are in range, from one of its processes: it checks 22. Each of its
-// two callers has it inline: else the compiler puts it into neither, and a delivery pays for the call.
+// two callers has it inline, and so stands all that a step of a run goes through: else the compiler puts it into neither, and a delivery pays for the call.
 #[inline(always)]
 pub fn other_step(
     process: Process,
@@ -150,6 +153,7 @@ pub fn step(
 }
 
 // The start's step, in a run whose records and counts are in range: it checks 22.
+#[inline(always)]
 pub fn start_step(process: Process, message: Message, sender: u32) -> Result<Turn, Refusal>
     requires process_fits { in_range process ≡ true }
     requires counts_fit { count_small message ≡ true }

@@ -65,6 +65,7 @@ fn room_for(area: Tested, row: &[u16], a: usize, b: usize, q: usize, sent: usize
 }
 
 // The link on which b acknowledges would not hold a fifth message.
+#[inline(always)]
 fn reply_has_room(area: Tested, row: &[u16], a: usize, b: usize, sent: Sent) -> bool
     requires row { Row (fields_in area.words.now) b row.now }
     requires reply_near { (y : Reply) → sent.reply ≡ Some y → (1 ≤ y.to) × (y.to ≤ area.sizes.n) × (neighbours (waits_of (fields_in area.words.now)) b y.to ≡ true) }
@@ -79,6 +80,7 @@ fn reply_has_room(area: Tested, row: &[u16], a: usize, b: usize, sent: Sent) -> 
 }
 
 // No link on which b sends a probe along a chain would hold a fifth message: only the far ends of the chain's arcs are looked at.
+#[inline(always)]
 fn chain_has_room(
     area: Tested,
     row: &[u16],
@@ -105,6 +107,7 @@ fn chain_has_room(
 }
 
 // No link on which b sends a probe would hold a fifth message.
+#[inline(always)]
 fn probes_have_room(area: Tested, row: &[u16], a: usize, b: usize, sent: Sent) -> bool
     requires row { Row (fields_in area.words.now) b row.now }
     requires is_process { (1 ≤ b) × (b ≤ area.sizes.n) }
@@ -117,6 +120,7 @@ fn probes_have_room(area: Tested, row: &[u16], a: usize, b: usize, sent: Sent) -
 }
 
 // No link from b would hold a fifth message: only those on which the step sends something are looked at, since every other has room.
+#[inline(always)]
 pub fn has_room(area: Tested, row: &[u16], a: usize, b: usize, sent: Sent) -> bool
     requires row { Row (fields_in area.words.now) b row.now }
     requires is_process { (1 ≤ b) × (b ≤ area.sizes.n) }

@@ -23,6 +23,7 @@ fn needed(area: Tested, c: Chain, b: usize, x: Process, message: Message) -> u32
 }
 
 // The receiver's step: the start's own, or that of any other process.
+#[inline(always)]
 pub fn step_at(area: Tested, a: usize, b: usize, message: Message) -> Result<Turn, Refusal>
     requires a_is_process { (1 ≤ a) × (a ≤ area.sizes.n) }
     requires b_is_process { (1 ≤ b) × (b ≤ area.sizes.n) }

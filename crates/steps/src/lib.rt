@@ -7,8 +7,11 @@ ghost use Rattle.steps.specs.Step.{small, both_small, in_range, count_small, own
 
 use tables::Chain;
 
-// "cs (−128 to 128)": the largest sum, which is the largest count too; the least is as far below 0
+// "cs (−128 to 128)": the largest sum, which is the largest count too
 pub const MOST_COUNT: i32 = 128;
+
+// .. and the least
+pub const LEAST_COUNT: i32 = -MOST_COUNT;
 
 // "num (0 to 256)"
 pub const MOST_NUM: u32 = 256;
@@ -101,7 +104,7 @@ pub struct Turn {
 fn is_small(count: i32) -> bool
     ensures { result ≡ small count }
 {
-    count.unsigned_abs() <= MOST_COUNT as u32
+    LEAST_COUNT <= count && count <= MOST_COUNT
 }
 
 // "it and the second count have cs's range" (02, N3)
